@@ -1,5 +1,6 @@
 -- What the devices for tests hold, and what their calls answer.
-use Rattle.std.specs.Prelude.{ℕ, ◌+◌, ◌-◌, ◌^◌, ◌==◌, min, Bool, false, if◌then◌else◌, List, length, Option, Some, None, Result, Ok, Err}
+use Rattle.std.specs.Prelude.{ℕ, ◌+◌, ◌-◌, ◌^◌, ◌==◌, min, Bool, false, if◌then◌else◌, List, length}
+use Rattle.std.specs.Prelude.{Option, Some, None, Result, Ok, Err}
 use Rattle.byte_streams.specs.declared.fakes.PieceSink.{PieceSink}
 use Rattle.byte_streams.specs.declared.fakes.PieceSource.{PieceSource}
 use Rattle.byte_streams.specs.declared.streams.DeviceFault.{DeviceFault}
@@ -17,7 +18,8 @@ is_failing (Some k) n = k == n
 abbrev pub answered : Option ℕ → ℕ → ℕ → Result ℕ DeviceFault
 answered failing n count = if is_failing failing n then Err (record {}) else Ok count
 
--- the bytes that are still to come, how many come at most in a read, the read that fails, and how many there were
+-- the bytes that are still to come, how many come at most in a read, the read that fails, and how
+-- many there were
 abbrev pub rest_of : PieceSource → List ℕ
 rest_of source = source.bytes.now
 
@@ -34,7 +36,8 @@ reads_of source = source.reads
 abbrev pub given_by : PieceSource → ℕ → ℕ
 given_by source room = min (min (piece_of source) room) (length (rest_of source))
 
--- the bytes that were taken, how many are at most in a write, the write that fails, and how many there were
+-- the bytes that were taken, how many are at most in a write, the write that fails, and how many
+-- there were
 abbrev pub written_of : PieceSink → List ℕ
 written_of sink = sink.taken.items
 

@@ -4,4 +4,5 @@ use Rattle.byte_streams.specs.declared.streams.Numbered.{Numbered}
 
 -- the first digits of the number, its last one, and the text
 abbrev pub numbered_text : Numbered → List ℕ
-numbered_text text = take text.front_len text.front.now ++ text.last ∷ take text.text_len text.text.now
+numbered_text text = take text.front_len text.front.now ++ text.last
+    ∷ take text.text_len text.text.now

@@ -1,15 +1,18 @@
 -- What devices tell of their failures.
-use Rattle.std.specs.Prelude.{◌≡◌, ◌⊎◌, ℕ, ◌+◌, ◌-◌, ◌^◌, ◌%◌, ◌==◌, ◌&&◌, min, nat_lt, if◌then◌else◌, List, length, Result, MatchResult}
+use Rattle.std.specs.Prelude.{◌≡◌, ◌⊎◌, ℕ, ◌+◌, ◌-◌, ◌^◌, ◌%◌, ◌==◌, ◌&&◌, min, nat_lt}
+use Rattle.std.specs.Prelude.{if◌then◌else◌, List, length, Result, MatchResult}
 use Rattle.byte_streams.specs.declared.streams.Counted.{Counted}
 use Rattle.byte_streams.specs.declared.streams.DeviceFault.{DeviceFault}
 
--- one failure more, in 64 bits: the count stays at its greatest, so that no failures bring back a count below it
+-- one failure more, in 64 bits: the count stays at its greatest, so that no failures bring back a
+-- count below it
 unfoldable pub one_failure_more : ℕ → ℕ
 one_failure_more n = min (n + 1) (2 ^ 64 - 1)
 
 -- a call that failed is counted, and no other
 abbrev pub CountsFailure : {X : Type 0} → Result X DeviceFault → ℕ → ℕ → Type 0
-CountsFailure result before after = MatchResult result (λ _. after ≡ before) (λ _. after ≡ one_failure_more before)
+CountsFailure result before after =
+    MatchResult result (λ _. after ≡ before) (λ _. after ≡ one_failure_more before)
 
 -- a count of 64 bits goes on
 abbrev pub one_more : ℕ → ℕ
@@ -17,11 +20,15 @@ one_more n = (n + 1) % 2 ^ 64
 
 -- a write that took none of some bytes is counted, and no other
 abbrev pub CountsStall : Result ℕ DeviceFault → List ℕ → ℕ → ℕ → Type 0
-CountsStall result offered before after = MatchResult result (λ n. after ≡ (if n == 0 && nat_lt 0 (length offered) then one_more before else before)) (λ _. after ≡ before)
+CountsStall result offered before after =
+    MatchResult result (λ n. after ≡ (if n == 0 && nat_lt 0 (length offered) then one_more before
+    else before)) (λ _. after ≡ before)
 
 -- a write failed, or one took none of some bytes
 abbrev pub WriteFails : ℕ → ℕ → ℕ → ℕ → Type 0
-WriteFails failures failed stalls stalled = ((failed ≡ one_failure_more failures) × (stalled ≡ stalls)) ⊎ ((failed ≡ failures) × (stalled ≡ one_more stalls))
+WriteFails failures failed stalls stalled =
+    ((failed ≡ one_failure_more failures) × (stalled ≡ stalls))
+    ⊎ ((failed ≡ failures) × (stalled ≡ one_more stalls))
 
 -- the reader or writer in a device, and how often it has failed
 abbrev pub inner_of : {T : Type 0} → Counted T → T

@@ -3,7 +3,8 @@ use Rattle.std.specs.Prelude.{◌≡◌, ℕ, ◌<◌, List, length, take, Optio
 use Rattle.std.specs.Io.KnownBytes.{Appends}
 use Rattle.byte_streams.specs.Streams.{WriteFails}
 
--- a sink over a call: itself, the bytes that it has taken, how often it has failed, and how often it took none of some bytes
+-- a sink over a call: itself, the bytes that it has taken, how often it has failed, and how often
+-- it took none of some bytes
 pub record Writing (W : Type 0) : Type 0 where
   pub old : W
   pub new : W
@@ -43,12 +44,14 @@ pub record TakesAll {W : Type 0} (text : List ℕ) (sink : Writing W) : Type 0 w
 abbrev pub TakesPart : List ℕ → Option (List ℕ) → Option (List ℕ) → Type 0
 TakesPart text old new = (n : ℕ) × (n < length text) × Appends old new (take n text)
 
--- a beginning of a text was written, not all of it, since the device failed or took none of some bytes
+-- a beginning of a text was written, not all of it, since the device failed or took none of some
+-- bytes
 pub record Breaks {W : Type 0} (text : List ℕ) (sink : Writing W) : Type 0 where
   pub part : TakesPart text sink.before sink.after
   pub fails : WriteFails sink.failures sink.failed sink.stalls sink.stalled
 
--- how a call that writes a text ends: after an Ok the sink took it whole, after an Err the text broke off
+-- how a call that writes a text ends: after an Ok the sink took it whole, after an Err the text
+-- broke off
 abbrev pub Prints : {W X Y : Type 0} → List ℕ → Writing W → Result X Y → Type 0
 Prints text sink result = MatchResult result (λ _. TakesAll text sink) (λ _. Breaks text sink)
 

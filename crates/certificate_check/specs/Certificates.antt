@@ -1,5 +1,6 @@
 -- Right certificates for a view, and why bytes are none.
-use Rattle.std.specs.Prelude.{◌≡◌, ◌≢◌, ℕ, ◌*◌, ◌^◌, ◌<◌, ◌≤◌, ◌⊎◌, List, [], ◌++◌, length, Result, MatchResult}
+use Rattle.std.specs.Prelude.{◌≡◌, ◌≢◌, ℕ, ◌*◌, ◌^◌, ◌<◌, ◌≤◌, ◌⊎◌, List, [], ◌++◌, length, Result}
+use Rattle.std.specs.Prelude.{MatchResult}
 use Rattle.pmp_encoding.specs.declared.perm.Perm.TheVariants.{NoAccess}
 use Rattle.pmp_encoding.specs.declared.region.Entry.{Entry}
 use Rattle.pmp_match.specs.Meaning.{View, IsFewest, Means}
@@ -8,9 +9,12 @@ use Rattle.certificate_format.specs.declared.fault.ReadFault.{ReadFault}
 use Rattle.certificate_format.specs.declared.header.Header.{Header}
 use Rattle.certificate_format.specs.declared.header.Version.{Version}
 use Rattle.certificate_format.specs.Faults.{HeaderFault}
-use Rattle.certificate_format.specs.Spelling.{header_bytes, node_bytes, Spells, SpellsEntries, IsCertificate}
+use Rattle.certificate_format.specs.Spelling.{header_bytes, node_bytes, Spells, SpellsEntries}
+use Rattle.certificate_format.specs.Spelling.{IsCertificate}
 use Rattle.certificate_check.specs.declared.refusal.CheckRefusal.{CheckRefusal}
-use Rattle.certificate_check.specs.declared.refusal.CheckRefusal.TheVariants.{EntriesTooMany, WrongMeaning, Trailing}
+use Rattle.certificate_check.specs.declared.refusal.CheckRefusal.TheVariants.{EntriesTooMany}
+use Rattle.certificate_check.specs.declared.refusal.CheckRefusal.TheVariants.{WrongMeaning}
+use Rattle.certificate_check.specs.declared.refusal.CheckRefusal.TheVariants.{Trailing}
 use Rattle.certificate_check.specs.Refusals.{refusal_of}
 use Rattle.certificate_check.specs.Listed.{AreListed, IsListed, ListFault}
 use Rattle.certificate_check.specs.Nodes.{IsRightNode, NodeFault}
@@ -34,8 +38,10 @@ pub record HoldsFewest (view : View) (bytes : List ℕ) (n : ℕ) : Type 0 where
   pub count : length entries ≡ n
   pub fewest : IsFewest view entries
 
--- header, entries of a page at least and a right root stand at the front of the bytes, before the rest
-pub record IsReadWhole (view : View) (bytes rest : List ℕ) (entries : List Entry) (tree : BoundTree) : Type 0 where
+-- header, entries of a page at least and a right root stand at the front of the bytes, before the
+-- rest
+pub record IsReadWhole (view : View) (bytes rest : List ℕ) (entries : List Entry)
+    (tree : BoundTree) : Type 0 where
   pub header : Header
   pub behind : List ℕ
   pub headed : bytes ≡ header_bytes header ++ behind
@@ -44,8 +50,10 @@ pub record IsReadWhole (view : View) (bytes rest : List ℕ) (entries : List Ent
   pub listed : IsListed behind (node_bytes tree ++ rest) entries
   pub right : IsRightNode view 44 0 tree
 
--- header and entries of a page at least stand at the front of the bytes, before the rest; the list has the bytes of the entries
-pub record IsBegun (bytes list rest : List ℕ) (header : Header) (entries : List Entry) : Type 0 where
+-- header and entries of a page at least stand at the front of the bytes, before the rest; the list
+-- has the bytes of the entries
+pub record IsBegun (bytes list rest : List ℕ) (header : Header) (entries : List Entry) :
+    Type 0 where
   pub behind : List ℕ
   pub headed : bytes ≡ header_bytes header ++ behind
   pub small : header.count < 2 ^ 32
@@ -55,21 +63,31 @@ pub record IsBegun (bytes list rest : List ℕ) (header : Header) (entries : Lis
 
 -- the fault of a refusal stands in the bytes
 pub data RefusalStands (view : View) (bytes : List ℕ) : CheckRefusal → Type 0 where
-  in_header : (fault : ReadFault) → HeaderFault bytes fault → RefusalStands view bytes (refusal_of fault)
+  in_header : (fault : ReadFault) → HeaderFault bytes fault
+      → RefusalStands view bytes (refusal_of fault)
   in_entries :
-      (header : Header) (rest : List ℕ) (refusal : CheckRefusal) → bytes ≡ header_bytes header ++ rest → header.count < 2 ^ 32 → ListFault rest header.count refusal
+      (header : Header) (rest : List ℕ) (refusal : CheckRefusal)
+      → bytes ≡ header_bytes header ++ rest → header.count < 2 ^ 32
+      → ListFault rest header.count refusal
       → RefusalStands view bytes refusal
   in_root :
-      (header : Header) (entries : List Entry) (behind rest : List ℕ) (refusal : CheckRefusal) → bytes ≡ header_bytes header ++ behind → header.count < 2 ^ 32
-      → IsListed behind rest entries → length entries ≡ header.count → NodeFault view 44 0 rest refusal → RefusalStands view bytes refusal
+      (header : Header) (entries : List Entry) (behind rest : List ℕ) (refusal : CheckRefusal)
+      → bytes ≡ header_bytes header ++ behind → header.count < 2 ^ 32
+      → IsListed behind rest entries → length entries ≡ header.count
+      → NodeFault view 44 0 rest refusal → RefusalStands view bytes refusal
   too_many :
-      (entries : List Entry) (tree : BoundTree) (rest : List ℕ) → IsReadWhole view bytes rest entries tree → bound_of tree NoAccess < length entries
+      (entries : List Entry) (tree : BoundTree) (rest : List ℕ)
+      → IsReadWhole view bytes rest entries tree → bound_of tree NoAccess < length entries
       → RefusalStands view bytes EntriesTooMany
   another_meaning :
-      (entries : List Entry) (tree : BoundTree) (rest : List ℕ) → IsReadWhole view bytes rest entries tree → length entries ≤ bound_of tree NoAccess → ¬ Means entries view
+      (entries : List Entry) (tree : BoundTree) (rest : List ℕ)
+      → IsReadWhole view bytes rest entries tree → length entries ≤ bound_of tree NoAccess
+      → ¬ Means entries view
       → RefusalStands view bytes WrongMeaning
   trailing :
-      (entries : List Entry) (tree : BoundTree) (rest : List ℕ) → IsReadWhole view bytes rest entries tree → length entries ≤ bound_of tree NoAccess → Means entries view → rest ≢ []
+      (entries : List Entry) (tree : BoundTree) (rest : List ℕ)
+      → IsReadWhole view bytes rest entries tree → length entries ≤ bound_of tree NoAccess
+      → Means entries view → rest ≢ []
       → RefusalStands view bytes Trailing
 
 -- a header that was read stands at the front of the bytes, which are a right certificate
@@ -79,11 +97,13 @@ pub record IsRightWith (view : View) (bytes : List ℕ) (header : Header) : Type
   pub headed : bytes ≡ header_bytes header ++ behind
   pub small : header.count < 2 ^ 32
 
--- what was found of the bytes is so: they are a right certificate with that header, or the fault of that refusal stands in them
+-- what was found of the bytes is so: they are a right certificate with that header, or the fault of
+-- that refusal stands in them
 abbrev pub IsJudged : View → List ℕ → Result Header CheckRefusal → Type 0
 IsJudged view bytes found = MatchResult found (IsRightWith view bytes) (RefusalStands view bytes)
 
--- the bytes begin with a header, and the entries that it tells of may come: nine bytes each, and so many bytes may
+-- the bytes begin with a header, and the entries that it tells of may come: nine bytes each, and so
+-- many bytes may
 pub record TellsOfFew (most : ℕ) (bytes : List ℕ) : Type 0 where
   pub header : Header
   pub rest : List ℕ

@@ -4,7 +4,8 @@ use Rattle.pmp_encoding.specs.declared.region.Entry.{Entry}
 use Rattle.pmp_encoding.specs.Encoding.{MeansEntry}
 use Rattle.certificate_format.specs.Spelling.{pair_bytes, SpellsEntries, AreNoSubPages}
 use Rattle.certificate_check.specs.declared.refusal.CheckRefusal.{CheckRefusal}
-use Rattle.certificate_check.specs.declared.refusal.CheckRefusal.TheVariants.{Truncated, BadEntry, SubPageEntry}
+use Rattle.certificate_check.specs.declared.refusal.CheckRefusal.TheVariants.{Truncated, BadEntry}
+use Rattle.certificate_check.specs.declared.refusal.CheckRefusal.TheVariants.{SubPageEntry}
 
 -- the bytes are those of the entries, each of a page at least, and then the rest
 pub record IsListed (bytes rest : List ℕ) (entries : List Entry) : Type 0 where
@@ -20,8 +21,10 @@ AreListed count bytes rest = (es : List Entry) × IsListed bytes rest es × (len
 -- the fault of a refusal stands in the nine bytes of an entry
 abbrev pub EntryFault : List ℕ → CheckRefusal → Type 0
 EntryFault bytes Truncated = length bytes < 9
-EntryFault bytes BadEntry = (pair : ℕ × ℕ) × (rest : List ℕ) × (bytes ≡ pair_bytes pair ++ rest) × (pair.1 < 2 ^ 64) × ((e : Entry) → MeansEntry pair.0 pair.1 e → ⊥)
-EntryFault bytes SubPageEntry = (pair : ℕ × ℕ) × (rest : List ℕ) × (bytes ≡ pair_bytes pair ++ rest) × (e : Entry) × MeansEntry pair.0 pair.1 e × (e.region.log2 < 12)
+EntryFault bytes BadEntry = (pair : ℕ × ℕ) × (rest : List ℕ) × (bytes ≡ pair_bytes pair ++ rest)
+    × (pair.1 < 2 ^ 64) × ((e : Entry) → MeansEntry pair.0 pair.1 e → ⊥)
+EntryFault bytes SubPageEntry = (pair : ℕ × ℕ) × (rest : List ℕ) × (bytes ≡ pair_bytes pair ++ rest)
+    × (e : Entry) × MeansEntry pair.0 pair.1 e × (e.region.log2 < 12)
 EntryFault bytes _ = ⊥
 
 -- it stands after the entries before it
@@ -34,4 +37,5 @@ pub record ListFault (bytes : List ℕ) (count : ℕ) (refusal : CheckRefusal) :
 
 -- the answer to such bytes: the bytes of the entries, and the rest is left
 abbrev pub IsListAnswer : List Entry → List ℕ → Result (List ℕ) CheckRefusal → List ℕ → Type 0
-IsListAnswer entries rest answer left = MatchResult answer (λ list. SpellsEntries list entries × (left ≡ rest)) (λ _. ⊥)
+IsListAnswer entries rest answer left =
+    MatchResult answer (λ list. SpellsEntries list entries × (left ≡ rest)) (λ _. ⊥)

@@ -1,5 +1,6 @@
 -- The nodes of a certificate against a view.
-use Rattle.std.specs.Prelude.{◌≡◌, ◌≢◌, ℕ, suc, ◌+◌, ◌^◌, ◌<◌, ◌≤◌, ◌⊎◌, List, ◌∷◌, ◌++◌, Result, MatchResult}
+use Rattle.std.specs.Prelude.{◌≡◌, ◌≢◌, ℕ, suc, ◌+◌, ◌^◌, ◌<◌, ◌≤◌, ◌⊎◌, List, ◌∷◌, ◌++◌, Result}
+use Rattle.std.specs.Prelude.{MatchResult}
 use Rattle.pmp_encoding.specs.declared.perm.Perm.{Perm}
 use Rattle.pmp_encoding.specs.Perms.{bits_of}
 use Rattle.pmp_encoding.specs.Views.{View, IsUniform}
@@ -10,11 +11,16 @@ use Rattle.certificate_format.specs.Faults.{ShortFault, TagFault, PermFault}
 use Rattle.certificate_format.specs.declared.costs.SixCosts.{SixCosts}
 use Rattle.certificate_format.specs.declared.fault.ReadFault.{ReadFault}
 use Rattle.certificate_check.specs.declared.refusal.CheckRefusal.{CheckRefusal}
-use Rattle.certificate_check.specs.declared.refusal.CheckRefusal.TheVariants.{TooDeep, LeafNotUniform, WrongLeaf, CostTooHigh, CostOverflow}
+use Rattle.certificate_check.specs.declared.refusal.CheckRefusal.TheVariants.{TooDeep}
+use Rattle.certificate_check.specs.declared.refusal.CheckRefusal.TheVariants.{LeafNotUniform}
+use Rattle.certificate_check.specs.declared.refusal.CheckRefusal.TheVariants.{WrongLeaf}
+use Rattle.certificate_check.specs.declared.refusal.CheckRefusal.TheVariants.{CostTooHigh}
+use Rattle.certificate_check.specs.declared.refusal.CheckRefusal.TheVariants.{CostOverflow}
 use Rattle.certificate_check.specs.Refusals.{refusal_of}
 use Rattle.certificate_check.specs.Later.{AgreeFrom}
 
--- a sound bound of the 2 ^ k pages from `first` on that a certificate can spell and that has no overflow
+-- a sound bound of the 2 ^ k pages from `first` on that a certificate can spell and that has no
+-- overflow
 pub record IsRightNode (view : View) (k first : ℕ) (tree : BoundTree) : Type 0 where
   pub fits : FitsNode k tree
   pub sound : IsSoundAt view k first tree
@@ -38,53 +44,76 @@ pub record IsAllowed (costs lower upper : Perm → ℕ) : Type 0 where
 abbrev pub IsTooLarge : (Perm → ℕ) → (Perm → ℕ) → Type 0
 IsTooLarge lower upper = (p : Perm) × (2 ^ 32 ≤ lower p + upper p + 1)
 
--- some cost is above the halves' sum for the same permission, or above one more than their sum for some permission
+-- some cost is above the halves' sum for the same permission, or above one more than their sum for
+-- some permission
 abbrev pub IsTooHigh : (Perm → ℕ) → (Perm → ℕ) → (Perm → ℕ) → Type 0
-IsTooHigh costs lower upper = (p : Perm) × (q : Perm) × ((lower p + upper p < costs p) ⊎ (1 + (lower q + upper q) < costs p))
+IsTooHigh costs lower upper = (p : Perm) × (q : Perm)
+    × ((lower p + upper p < costs p) ⊎ (1 + (lower q + upper q) < costs p))
 
--- the fault of a refusal stands in the costs of a split block: sums that are too large come before costs that are too high
+-- the fault of a refusal stands in the costs of a split block: sums that are too large come before
+-- costs that are too high
 abbrev pub BranchFault : (Perm → ℕ) → (Perm → ℕ) → (Perm → ℕ) → CheckRefusal → Type 0
 BranchFault costs lower upper CostOverflow = IsTooLarge lower upper
 BranchFault costs lower upper CostTooHigh = HaveSums lower upper × IsTooHigh costs lower upper
 BranchFault costs lower upper _ = ⊥
 
--- the fault of a refusal stands in the node at the front of the bytes, for the 2 ^ k pages from `first` on
+-- the fault of a refusal stands in the node at the front of the bytes, for the 2 ^ k pages from
+-- `first` on
 pub data NodeFault (view : View) : ℕ → ℕ → List ℕ → CheckRefusal → Type 0 where
-  in_tag : {k first : ℕ} {bytes : List ℕ} (fault : ReadFault) → TagFault bytes fault → NodeFault view k first bytes (refusal_of fault)
-  in_perm : {k first : ℕ} {bytes : List ℕ} (rest : List ℕ) (fault : ReadFault) → bytes ≡ 0 ∷ rest → PermFault rest fault → NodeFault view k first bytes (refusal_of fault)
+  in_tag : {k first : ℕ} {bytes : List ℕ} (fault : ReadFault) → TagFault bytes fault
+      → NodeFault view k first bytes (refusal_of fault)
+  in_perm : {k first : ℕ} {bytes : List ℕ} (rest : List ℕ) (fault : ReadFault) → bytes ≡ 0 ∷ rest
+      → PermFault rest fault → NodeFault view k first bytes (refusal_of fault)
   not_uniform :
-      {k first : ℕ} {bytes : List ℕ} (perm : Perm) (rest : List ℕ) → bytes ≡ 0 ∷ bits_of perm ∷ rest → ((other : Perm) → IsUniform view k first other → ⊥)
+      {k first : ℕ} {bytes : List ℕ} (perm : Perm) (rest : List ℕ) → bytes ≡ 0 ∷ bits_of perm ∷ rest
+      → ((other : Perm) → IsUniform view k first other → ⊥)
       → NodeFault view k first bytes LeafNotUniform
   another :
-      {k first : ℕ} {bytes : List ℕ} (perm other : Perm) (rest : List ℕ) → bytes ≡ 0 ∷ bits_of perm ∷ rest → IsUniform view k first other → perm ≢ other
+      {k first : ℕ} {bytes : List ℕ} (perm other : Perm) (rest : List ℕ)
+      → bytes ≡ 0 ∷ bits_of perm ∷ rest → IsUniform view k first other → perm ≢ other
       → NodeFault view k first bytes WrongLeaf
-  a_page : {k first : ℕ} {bytes : List ℕ} (rest : List ℕ) → bytes ≡ 1 ∷ rest → k ≡ 0 → NodeFault view k first bytes TooDeep
+  a_page : {k first : ℕ} {bytes : List ℕ} (rest : List ℕ) → bytes ≡ 1 ∷ rest → k ≡ 0
+      → NodeFault view k first bytes TooDeep
   in_costs :
-      {k first : ℕ} {bytes : List ℕ} (half : ℕ) (rest : List ℕ) (fault : ReadFault) → k ≡ suc half → bytes ≡ 1 ∷ rest → ShortFault 24 rest fault
+      {k first : ℕ} {bytes : List ℕ} (half : ℕ) (rest : List ℕ) (fault : ReadFault) → k ≡ suc half
+      → bytes ≡ 1 ∷ rest → ShortFault 24 rest fault
       → NodeFault view k first bytes (refusal_of fault)
   in_lower :
-      {k first : ℕ} {bytes : List ℕ} (half : ℕ) (costs : Perm → ℕ) (rest : List ℕ) (refusal : CheckRefusal) → k ≡ suc half → bytes ≡ 1 ∷ (costs_bytes costs ++ rest)
+      {k first : ℕ} {bytes : List ℕ} (half : ℕ) (costs : Perm
+      → ℕ) (rest : List ℕ) (refusal : CheckRefusal) → k ≡ suc half
+      → bytes ≡ 1 ∷ (costs_bytes costs ++ rest)
       → NodeFault view half first rest refusal → NodeFault view k first bytes refusal
   in_upper :
-      {k first : ℕ} {bytes : List ℕ} (half : ℕ) (costs : Perm → ℕ) (lower : BoundTree) (rest : List ℕ) (refusal : CheckRefusal) → k ≡ suc half
-      → bytes ≡ 1 ∷ (costs_bytes costs ++ (node_bytes lower ++ rest)) → IsRightNode view half first lower → NodeFault view half (first + 2 ^ half) rest refusal
+      {k first : ℕ} {bytes : List ℕ} (half : ℕ) (costs : Perm
+      → ℕ) (lower : BoundTree) (rest : List ℕ) (refusal : CheckRefusal) → k ≡ suc half
+      → bytes ≡ 1 ∷ (costs_bytes costs ++ (node_bytes lower ++ rest))
+      → IsRightNode view half first lower → NodeFault view half (first + 2 ^ half) rest refusal
       → NodeFault view k first bytes refusal
   overflow :
-      {k first : ℕ} {bytes : List ℕ} (half : ℕ) (costs : Perm → ℕ) (lower upper : BoundTree) (rest : List ℕ) → k ≡ suc half
-      → bytes ≡ 1 ∷ (costs_bytes costs ++ (node_bytes lower ++ (node_bytes upper ++ rest))) → IsRightNode view half first lower → IsRightNode view half (first + 2 ^ half) upper
+      {k first : ℕ} {bytes : List ℕ} (half : ℕ) (costs : Perm
+      → ℕ) (lower upper : BoundTree) (rest : List ℕ) → k ≡ suc half
+      → bytes ≡ 1 ∷ (costs_bytes costs ++ (node_bytes lower ++ (node_bytes upper ++ rest)))
+      → IsRightNode view half first lower → IsRightNode view half (first + 2 ^ half) upper
       → IsTooLarge (bound_of lower) (bound_of upper) → NodeFault view k first bytes CostOverflow
   too_high :
-      {k first : ℕ} {bytes : List ℕ} (half : ℕ) (costs : Perm → ℕ) (lower upper : BoundTree) (rest : List ℕ) → k ≡ suc half
-      → bytes ≡ 1 ∷ (costs_bytes costs ++ (node_bytes lower ++ (node_bytes upper ++ rest))) → ((p : Perm) → costs p < 2 ^ 32) → IsRightNode view half first lower
-      → IsRightNode view half (first + 2 ^ half) upper → HaveSums (bound_of lower) (bound_of upper) → IsTooHigh costs (bound_of lower) (bound_of upper) → NodeFault view k first bytes CostTooHigh
+      {k first : ℕ} {bytes : List ℕ} (half : ℕ) (costs : Perm
+      → ℕ) (lower upper : BoundTree) (rest : List ℕ) → k ≡ suc half
+      → bytes ≡ 1 ∷ (costs_bytes costs ++ (node_bytes lower ++ (node_bytes upper ++ rest)))
+      → ((p : Perm) → costs p < 2 ^ 32) → IsRightNode view half first lower
+      → IsRightNode view half (first + 2 ^ half) upper → HaveSums (bound_of lower) (bound_of upper)
+      → IsTooHigh costs (bound_of lower) (bound_of upper)
+      → NodeFault view k first bytes CostTooHigh
 
 -- a right node stood at the front of the bytes, with these numbers, and was read
-pub record IsNodeRead (view : View) (k first : ℕ) (bytes rest : List ℕ) (numbers : SixCosts) : Type 0 where
+pub record IsNodeRead (view : View) (k first : ℕ) (bytes rest : List ℕ) (numbers : SixCosts) :
+    Type 0 where
   pub tree : BoundTree
   pub right : IsRightNode view k first tree
   pub spelled : bytes ≡ node_bytes tree ++ rest
   pub numbers_of : AreNumbersOf tree numbers
 
--- what the reading of the node at the front of the bytes comes to, for each view that is the known one from its first page on: it is right, or its fault stands there
+-- what the reading of the node at the front of the bytes comes to, for each view that is the known
+-- one from its first page on: it is right, or its fault stands there
 abbrev pub ReadsNode : View → ℕ → ℕ → Result SixCosts CheckRefusal → List ℕ → List ℕ → Type 0
-ReadsNode known k first answer left rest = (view : View) → AgreeFrom first known view → MatchResult answer (IsNodeRead view k first left rest) (NodeFault view k first left)
+ReadsNode known k first answer left rest = (view : View) → AgreeFrom first known view
+    → MatchResult answer (IsNodeRead view k first left rest) (NodeFault view k first left)

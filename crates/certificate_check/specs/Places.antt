@@ -1,14 +1,18 @@
 -- Places in the chains of a list of spans.
-use Rattle.std.specs.Prelude.{◌≡◌, ℕ, zero, suc, ◌<◌, ◌≤◌, List, length, slice_index, slice_index_or}
+use Rattle.std.specs.Prelude.{◌≡◌, ℕ, zero, suc, ◌<◌, ◌≤◌, List, length, slice_index}
+use Rattle.std.specs.Prelude.{slice_index_or}
 use Rattle.certificate_check.specs.declared.entries.Span.{Span}
 use Rattle.certificate_check.specs.declared.chains.Place.{Place}
 use Rattle.certificate_check.specs.Spans.{HaveEnded}
 
--- the place is before the chain of the spans from one number to before another, or after one of them where those before it have ended before the page
+-- the place is before the chain of the spans from one number to before another, or after one of
+-- them where those before it have ended before the page
 pub data IsPlace (spans : ℕ → Span) (from to page : ℕ) (place : Place) : Type 0 where
-  before : place.next ≤ from → place.span.first ≡ 0 → place.span.end ≡ 0 → IsPlace spans from to page place
+  before : place.next ≤ from → place.span.first ≡ 0 → place.span.end ≡ 0
+      → IsPlace spans from to page place
   stands :
-      (i : ℕ) → place.next ≡ suc i → from ≤ i → i < to → HaveEnded spans from i page → place.span ≡ spans i → place.span.first < place.span.end
+      (i : ℕ) → place.next ≡ suc i → from ≤ i → i < to → HaveEnded spans from i page
+      → place.span ≡ spans i → place.span.first < place.span.end
       → IsPlace spans from to page place
 
 -- where a chain begins: at the end of the one before it
@@ -19,4 +23,5 @@ start_of ends (suc k) = slice_index ends k
 -- each chain has its place
 abbrev pub ArePlaces : (ℕ → Span) → List ℕ → ℕ → List Place → Type 0
 ArePlaces spans ends page places =
-    (k : ℕ) (d : Place) → k < length ends → IsPlace spans (start_of ends k) (slice_index ends k) page (slice_index_or places k d)
+    (k : ℕ) (d : Place) → k < length ends
+    → IsPlace spans (start_of ends k) (slice_index ends k) page (slice_index_or places k d)

@@ -3,7 +3,17 @@ use Rattle.std.specs.Prelude.{ℕ, List, codes}
 use Rattle.certificate_format.specs.declared.fault.ReadFault.{ReadFault}
 use Rattle.certificate_format.specs.declared.fault.ReadFault.TheVariants as Read
 use Rattle.certificate_check.specs.declared.refusal.CheckRefusal.{CheckRefusal}
-use Rattle.certificate_check.specs.declared.refusal.CheckRefusal.TheVariants.{BadMagic, BadVersion, Truncated, BadTag, BadPerm, BadEntry, SubPageEntry, TooDeep, LeafNotUniform, WrongLeaf, CostTooHigh, CostOverflow, EntriesTooMany, WrongMeaning, Trailing, BadLimit}
+use Rattle.certificate_check.specs.declared.refusal.CheckRefusal.TheVariants.{BadMagic, BadVersion}
+use Rattle.certificate_check.specs.declared.refusal.CheckRefusal.TheVariants.{Truncated, BadTag}
+use Rattle.certificate_check.specs.declared.refusal.CheckRefusal.TheVariants.{BadPerm, BadEntry}
+use Rattle.certificate_check.specs.declared.refusal.CheckRefusal.TheVariants.{SubPageEntry, TooDeep}
+use Rattle.certificate_check.specs.declared.refusal.CheckRefusal.TheVariants.{LeafNotUniform}
+use Rattle.certificate_check.specs.declared.refusal.CheckRefusal.TheVariants.{WrongLeaf}
+use Rattle.certificate_check.specs.declared.refusal.CheckRefusal.TheVariants.{CostTooHigh}
+use Rattle.certificate_check.specs.declared.refusal.CheckRefusal.TheVariants.{CostOverflow}
+use Rattle.certificate_check.specs.declared.refusal.CheckRefusal.TheVariants.{EntriesTooMany}
+use Rattle.certificate_check.specs.declared.refusal.CheckRefusal.TheVariants.{WrongMeaning}
+use Rattle.certificate_check.specs.declared.refusal.CheckRefusal.TheVariants.{Trailing, BadLimit}
 
 abbrev pub refusal_of : ReadFault → CheckRefusal
 refusal_of Read.BadMagic = BadMagic

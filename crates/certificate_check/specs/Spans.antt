@@ -1,5 +1,6 @@
 -- The entries of a list as spans of whole pages.
-use Rattle.std.specs.Prelude.{◌≡◌, ℕ, ◌+◌, ◌*◌, ◌/◌, ◌^◌, ◌<◌, ◌≤◌, List, [], ◌∷◌, length, drop, slice_index}
+use Rattle.std.specs.Prelude.{◌≡◌, ℕ, ◌+◌, ◌*◌, ◌/◌, ◌^◌, ◌<◌, ◌≤◌, List, [], ◌∷◌, length, drop}
+use Rattle.std.specs.Prelude.{slice_index}
 use Rattle.byteorder.specs.Endian.{little_number}
 use Rattle.pmp_encoding.specs.declared.perm.Perm.{Perm}
 use Rattle.pmp_encoding.specs.declared.perm.Perm.TheVariants.{NoAccess}
@@ -23,7 +24,8 @@ pub record AreBoundsOf (e : Entry) (b : Bounds) : Type 0 where
 -- the nine bytes of number i mean an entry of at least a page, with the pages of the span
 pub record IsSpanAt (bytes : List ℕ) (i : ℕ) (s : Span) : Type 0 where
   pub entry : Entry
-  pub means : MeansEntry (slice_index bytes (9 * i)) (little_number 8 (drop (9 * i + 1) bytes)) entry
+  pub means : MeansEntry (slice_index bytes (9 * i)) (little_number 8 (drop (9 * i + 1) bytes))
+      entry
   pub page : 12 ≤ entry.region.log2
   pub span : IsSpanOf entry s
 
@@ -45,12 +47,14 @@ Covers s page = (s.first ≤ page) × (page < s.end)
 
 -- the permission of the first of the spans that covers the page, or none where no span does
 pub data Decides (spans : ℕ → Span) (count page : ℕ) : Perm → Type 0 where
-  first : (i : ℕ) → i < count → Covers (spans i) page → ((j : ℕ) → j < i → Covers (spans j) page → ⊥) → Decides spans count page (spans i).perm
+  first : (i : ℕ) → i < count → Covers (spans i) page
+      → ((j : ℕ) → j < i → Covers (spans j) page → ⊥) → Decides spans count page (spans i).perm
   none : ((j : ℕ) → j < count → Covers (spans j) page → ⊥) → Decides spans count page NoAccess
 
 -- none of the first spans covers a page from one to before another
 abbrev pub AreClear : (ℕ → Span) → ℕ → ℕ → ℕ → Type 0
-AreClear spans count from to = (j page : ℕ) → j < count → from ≤ page → page < to → Covers (spans j) page → ⊥
+AreClear spans count from to = (j page : ℕ) → j < count → from ≤ page → page < to
+    → Covers (spans j) page → ⊥
 
 -- each of the spans from one number to before another ends at or before the next begins
 abbrev pub IsChain : (ℕ → Span) → ℕ → ℕ → Type 0
@@ -70,10 +74,12 @@ abbrev pub AreChains : (ℕ → Span) → ℕ → List ℕ → ℕ → Type 0
 AreChains spans from [] to = from ≡ to
 AreChains spans from (x ∷ xs) to = IsChain spans from x × AreChains spans x xs to
 
--- the spans are aligned blocks of the space: two of one size that have a page in common are the same
+-- the spans are aligned blocks of the space: two of one size that have a page in common are the
+-- same
 pub record AreBlocks (spans : ℕ → Span) (count : ℕ) : Type 0 where
   pub small : (j : ℕ) → j < count → (spans j).size < 45
   pub inside : (j : ℕ) → j < count → (spans j).first < 2 ^ 44
   pub same :
-      (i j page : ℕ) → i < count → j < count → (spans i).size ≡ (spans j).size → Covers (spans i) page → Covers (spans j) page
+      (i j page : ℕ) → i < count → j < count → (spans i).size ≡ (spans j).size
+      → Covers (spans i) page → Covers (spans j) page
       → ((spans i).first ≡ (spans j).first) × ((spans i).end ≡ (spans j).end)

@@ -1,12 +1,14 @@
 -- A source that is read through a window.
-use Rattle.std.specs.Prelude.{◌≡◌, ◌≢◌, ℕ, ◌+◌, ◌-◌, ◌^◌, ◌<◌, ◌≤◌, min, List, [], ◌++◌, length, Option, None, Some, Result, Ok, Err}
+use Rattle.std.specs.Prelude.{◌≡◌, ◌≢◌, ℕ, ◌+◌, ◌-◌, ◌^◌, ◌<◌, ◌≤◌, min, List, [], ◌++◌, length}
+use Rattle.std.specs.Prelude.{Option, None, Some, Result, Ok, Err}
 use Rattle.std.specs.Io.KnownBytes.{Consumes, IsAtEnd}
 use Rattle.byte_streams.specs.Streams.{one_failure_more}
 use Rattle.certificate_format.specs.declared.header.Header.{Header}
 use Rattle.byte_streams.specs.declared.fault.SourceFault.{SourceFault}
 use Rattle.byte_streams.specs.declared.fault.SourceFault.TheVariants as faults
 use Rattle.certificate_check.specs.declared.window.Inflow.{Inflow}
-use Rattle.certificate_check.specs.declared.window.Inflow.TheVariants.{Open, AtEnd, TooLarge, Failed}
+use Rattle.certificate_check.specs.declared.window.Inflow.TheVariants.{Open, AtEnd, TooLarge}
+use Rattle.certificate_check.specs.declared.window.Inflow.TheVariants.{Failed}
 use Rattle.certificate_check.specs.declared.window.Window.{Window}
 use Rattle.certificate_check.specs.declared.refusal.CheckRefusal.{CheckRefusal}
 use Rattle.certificate_check.specs.declared.stop.Stop.{Stop}
@@ -16,16 +18,19 @@ use Rattle.certificate_check.specs.declared.stop.Stop.TheVariants.{Refused, Unhe
 abbrev pub counted : ℕ → ℕ → ℕ
 counted came more = min (came + more) (2 ^ 64 - 1)
 
--- a window and its source at a time: the bytes that the source has still to give, where they are known, and how often it has failed
+-- a window and its source at a time: the bytes that the source has still to give, where they are
+-- known, and how often it has failed
 pub record Place : Type 0 where
   pub window : Window
   pub remaining : Option (List ℕ)
   pub failures : ℕ
 
 abbrev pub place : {R : Type 0} → (R → Option (List ℕ)) → (R → ℕ) → Window → R → Place
-place remaining failures window source = record { window = window; remaining = remaining source; failures = failures source }
+place remaining failures window source =
+    record { window = window; remaining = remaining source; failures = failures source }
 
--- these bytes are left to be read at a place, where in the end so much remains in the source and so many bytes have come: those that the window holds, and those that come later
+-- these bytes are left to be read at a place, where in the end so much remains in the source and so
+-- many bytes have come: those that the window holds, and those that come later
 pub record AreLeft (after : Option (List ℕ)) (total : ℕ) (at : Place) (left : List ℕ) : Type 0 where
   pub later : List ℕ
   pub held : left ≡ at.window.buffer ++ later
@@ -36,18 +41,22 @@ pub record AreLeft (after : Option (List ℕ)) (total : ℕ) (at : Place) (left 
 -- why no more bytes come is so, where the source had failed so often before
 abbrev pub IsSoundAs : Inflow → ℕ → Place → Type 0
 IsSoundAs Open failures at = (at.failures ≡ failures) × (at.window.came ≤ at.window.most)
-IsSoundAs AtEnd failures at = (at.failures ≡ failures) × (at.window.came ≤ at.window.most) × IsAtEnd at.remaining
-IsSoundAs TooLarge failures at = (at.failures ≡ failures) × (at.window.most < at.window.came) × (at.window.came < 2 ^ 64)
+IsSoundAs AtEnd failures at = (at.failures ≡ failures) × (at.window.came ≤ at.window.most)
+    × IsAtEnd at.remaining
+IsSoundAs TooLarge failures at = (at.failures ≡ failures) × (at.window.most < at.window.came)
+    × (at.window.came < 2 ^ 64)
 IsSoundAs Failed failures at = at.failures ≡ one_failure_more failures
 
 abbrev pub IsSound : ℕ → Place → Type 0
 IsSound failures at = IsSoundAs at.window.inflow failures at
 
--- from one place to the next: whatever comes later, what was left and what is left then are in the relation
+-- from one place to the next: whatever comes later, what was left and what is left then are in the
+-- relation
 pub record Reads (old new : Place) (P : List ℕ → List ℕ → Type 0) : Type 0 where
   pub most : new.window.most ≡ old.window.most
   pub sound : (failures : ℕ) → IsSound failures old → IsSound failures new
-  pub left : (after : Option (List ℕ)) (total : ℕ) (rest : List ℕ) → AreLeft after total new rest → (left : List ℕ) × AreLeft after total old left × P left rest
+  pub left : (after : Option (List ℕ)) (total : ℕ) (rest : List ℕ) → AreLeft after total new rest
+      → (left : List ℕ) × AreLeft after total old left × P left rest
 
 -- what is left stays
 abbrev pub Stays : List ℕ → List ℕ → Type 0
@@ -57,7 +66,8 @@ Stays left rest = left ≡ rest
 abbrev pub HasEnough : ℕ → Place → Type 0
 HasEnough need at = (at.window.inflow ≡ Open) → need ≤ length at.window.buffer
 
--- a stop for what is at fault in the bytes is one where it stands, and one for entries that are not held says nothing of them
+-- a stop for what is at fault in the bytes is one where it stands, and one for entries that are not
+-- held says nothing of them
 abbrev pub StandsIn : (CheckRefusal → Type 0) → Stop → Type 0
 StandsIn fault (Refused refusal) = fault refusal
 StandsIn fault Unheld = Unit {0}
@@ -69,7 +79,8 @@ fault_of AtEnd = None
 fault_of TooLarge = Some faults.TooLarge
 fault_of Failed = Some faults.Read
 
--- why the parts are not read on, where the entries are not held: what became of the source goes before
+-- why the parts are not read on, where the entries are not held: what became of the source goes
+-- before
 abbrev pub stopped_by : Inflow → SourceFault
 stopped_by Open = faults.Memory
 stopped_by AtEnd = faults.Memory

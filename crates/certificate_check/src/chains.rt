@@ -3,8 +3,7 @@
 use crate::entries::{Entries, SIZES, Span};
 use crate::piece::Piece;
 use arrayvec::ArrayVec;
-use pmp_encoding::SPACE_PAGES;
-use pmp_encoding::Perm;
+use pmp_encoding::{Perm, SPACE_PAGES};
 
 /// A place in a chain: the span that was read last, and the number of the one after it.
 #[derive(Clone, Copy)]

@@ -4,8 +4,7 @@ ghost use Rattle.std.specs.Prelude.{◌≡◌, ℕ, ◌+◌, ◌*◌, ◌/◌, �
 ghost use Rattle.pmp_encoding.specs.declared.region.Entry.{Entry};
 
 use byteorder::{ByteOrder, LittleEndian};
-use pmp_encoding::SPACE_PAGES;
-use pmp_encoding::Perm;
+use pmp_encoding::{Perm, SPACE_PAGES};
 use std::marker::Model;
 
 /// How many sizes a region of at least a page can have.

@@ -16,8 +16,8 @@ use crate::runs::RunsAhead;
 use crate::window::Window;
 use byte_streams::Source;
 use certificate_format::{SixCosts, Tag};
-use pmp_encoding::pages_of;
 use permission_map::PermissionMap;
+use pmp_encoding::pages_of;
 
 /// Reads what follows the tag of a leaf of the 2^log2 pages from `first` on.
 #[inline(always)]

@@ -5,9 +5,8 @@ ghost use Rattle.permission_map.specs.Runs.{view_of_runs};
 ghost use Rattle.certificate_check.specs.Later.{AreLaterRuns, StartsBehind, AgreeFrom};
 
 use crate::piece::Piece;
-use pmp_encoding::SPACE_PAGES;
 use permission_map::{PermissionMap, Run};
-use pmp_encoding::Perm;
+use pmp_encoding::{Perm, SPACE_PAGES};
 use std::marker::Model;
 
 /// The runs without those that end at or before the page.

@@ -16,8 +16,8 @@ use crate::entries::{Entries, SIZES};
 use crate::keys::{END, Keys, first_of, gather, number_of};
 use crate::runs::{piece_of_runs, runs_from};
 use crate::sizes::Sizes;
-use pmp_encoding::SPACE_PAGES;
 use permission_map::{PermissionMap, Run};
+use pmp_encoding::SPACE_PAGES;
 
 /// Whether entries in chains that end at `ends` give the runs' permission at each page of the space.
 fn agrees_in_chains(entries: &Entries, ends: &[usize], runs: &[Run]) -> bool

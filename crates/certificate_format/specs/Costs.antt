@@ -2,7 +2,8 @@
 use Rattle.std.specs.Prelude.{ℕ, List, drop}
 use Rattle.byteorder.specs.Endian.{little_number}
 use Rattle.pmp_encoding.specs.declared.perm.Perm.{Perm}
-use Rattle.pmp_encoding.specs.declared.perm.Perm.TheVariants.{NoAccess, Read, ReadWrite, Execute, ReadExecute, ReadWriteExecute}
+use Rattle.pmp_encoding.specs.declared.perm.Perm.TheVariants.{NoAccess, Read, ReadWrite, Execute}
+use Rattle.pmp_encoding.specs.declared.perm.Perm.TheVariants.{ReadExecute, ReadWriteExecute}
 use Rattle.certificate_format.specs.declared.costs.SixCosts.{SixCosts}
 
 abbrev pub cost_of : SixCosts → Perm → ℕ

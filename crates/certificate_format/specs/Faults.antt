@@ -3,7 +3,9 @@ use Rattle.std.specs.Prelude.{◌≡◌, ◌≢◌, ℕ, ◌<◌, ◌≤◌, ◌
 use Rattle.pmp_encoding.specs.declared.perm.Perm.{Perm}
 use Rattle.pmp_encoding.specs.Perms.{bits_of}
 use Rattle.certificate_format.specs.declared.fault.ReadFault.{ReadFault}
-use Rattle.certificate_format.specs.declared.fault.ReadFault.TheVariants.{BadMagic, BadVersion, Truncated, BadTag, BadPerm, BadLimit}
+use Rattle.certificate_format.specs.declared.fault.ReadFault.TheVariants.{BadMagic, BadVersion}
+use Rattle.certificate_format.specs.declared.fault.ReadFault.TheVariants.{Truncated, BadTag}
+use Rattle.certificate_format.specs.declared.fault.ReadFault.TheVariants.{BadPerm, BadLimit}
 use Rattle.certificate_format.specs.declared.header.Version.{Version}
 use Rattle.certificate_format.specs.Spelling.{magic, version_bytes}
 
@@ -27,18 +29,23 @@ MagicFault bytes Truncated = length bytes < 4
 MagicFault bytes BadMagic = (4 ≤ length bytes) × (take 4 bytes ≢ magic)
 MagicFault bytes _ = ⊥
 
--- no byte, or another version than 1 and 2; after version 2 no byte, or another limit than 16 and 64
+-- no byte, or another version than 1 and 2; after version 2 no byte, or another limit than 16 and
+-- 64
 abbrev pub VersionFault : List ℕ → ReadFault → Type 0
 VersionFault bytes Truncated = (bytes ≡ []) ⊎ (bytes ≡ 2 ∷ [])
 VersionFault bytes BadVersion = (b : ℕ) × (rest : List ℕ) × (bytes ≡ b ∷ rest) × (b ≢ 1) × (b ≢ 2)
-VersionFault bytes BadLimit = (b : ℕ) × (rest : List ℕ) × (bytes ≡ 2 ∷ b ∷ rest) × (b ≢ 0x10) × (b ≢ 0x40)
+VersionFault bytes BadLimit = (b : ℕ) × (rest : List ℕ) × (bytes ≡ 2 ∷ b ∷ rest) × (b ≢ 0x10)
+    × (b ≢ 0x40)
 VersionFault bytes _ = ⊥
 
--- in the magic; or the magic stands there, and it is in the version; or both stand there, and it is in the count
+-- in the magic; or the magic stands there, and it is in the version; or both stand there, and it is
+-- in the count
 pub data HeaderFault (bytes : List ℕ) (fault : ReadFault) : Type 0 where
   in_magic : MagicFault bytes fault → HeaderFault bytes fault
-  in_version : (rest : List ℕ) → bytes ≡ magic ++ rest → VersionFault rest fault → HeaderFault bytes fault
-  in_count : (version : Version) (rest : List ℕ) → bytes ≡ magic ++ (version_bytes version ++ rest) → ShortFault 4 rest fault → HeaderFault bytes fault
+  in_version : (rest : List ℕ) → bytes ≡ magic ++ rest → VersionFault rest fault
+      → HeaderFault bytes fault
+  in_count : (version : Version) (rest : List ℕ) → bytes ≡ magic ++ (version_bytes version ++ rest)
+      → ShortFault 4 rest fault → HeaderFault bytes fault
 
 -- no byte, or one that is no node's tag
 abbrev pub TagFault : List ℕ → ReadFault → Type 0
@@ -49,5 +56,6 @@ TagFault bytes _ = ⊥
 -- no byte, or one that is no permission
 abbrev pub PermFault : List ℕ → ReadFault → Type 0
 PermFault bytes Truncated = bytes ≡ []
-PermFault bytes BadPerm = (b : ℕ) × (rest : List ℕ) × (bytes ≡ b ∷ rest) × ((p : Perm) → bits_of p ≢ b)
+PermFault bytes BadPerm = (b : ℕ) × (rest : List ℕ) × (bytes ≡ b ∷ rest)
+    × ((p : Perm) → bits_of p ≢ b)
 PermFault bytes _ = ⊥

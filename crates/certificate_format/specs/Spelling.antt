@@ -2,7 +2,8 @@
 use Rattle.std.specs.Prelude.{◌≡◌, ℕ, zero, suc, ◌+◌, ◌^◌, ◌<◌, ◌≤◌, List, [], ◌∷◌, ◌++◌, length}
 use Rattle.byteorder.specs.Endian.{little_bytes}
 use Rattle.pmp_encoding.specs.declared.perm.Perm.{Perm}
-use Rattle.pmp_encoding.specs.declared.perm.Perm.TheVariants.{NoAccess, Read, ReadWrite, Execute, ReadExecute, ReadWriteExecute}
+use Rattle.pmp_encoding.specs.declared.perm.Perm.TheVariants.{NoAccess, Read, ReadWrite, Execute}
+use Rattle.pmp_encoding.specs.declared.perm.Perm.TheVariants.{ReadExecute, ReadWriteExecute}
 use Rattle.pmp_encoding.specs.declared.region.Entry.{Entry}
 use Rattle.pmp_encoding.specs.declared.limit.Limit.{Limit}
 use Rattle.pmp_encoding.specs.declared.limit.Limit.TheVariants.{Sixteen}
@@ -52,29 +53,38 @@ pub record SpellsEntry (bytes : List ℕ) (e : Entry) : Type 0 where
 -- the entries one after another
 abbrev pub SpellsEntries : List ℕ → List Entry → Type 0
 SpellsEntries bytes [] = bytes ≡ []
-SpellsEntries bytes (e ∷ entries) = (first rest : List ℕ) × (bytes ≡ first ++ rest) × SpellsEntry first e × SpellsEntries rest entries
+SpellsEntries bytes (e ∷ entries) = (first rest : List ℕ) × (bytes ≡ first ++ rest)
+    × SpellsEntry first e × SpellsEntries rest entries
 
 -- the costs in the fixed order of the permissions
 abbrev pub costs_bytes : (Perm → ℕ) → List ℕ
 costs_bytes costs =
     u32_bytes (costs NoAccess)
-    ++ (u32_bytes (costs Read) ++ (u32_bytes (costs ReadWrite) ++ (u32_bytes (costs Execute) ++ (u32_bytes (costs ReadExecute) ++ u32_bytes (costs ReadWriteExecute)))))
+    ++ (u32_bytes (costs Read) ++ (u32_bytes (costs ReadWrite)
+    ++ (u32_bytes (costs Execute) ++ (u32_bytes (costs ReadExecute)
+    ++ u32_bytes (costs ReadWriteExecute)))))
 
--- a leaf is its tag and its permission; a branch its tag, its costs, its lower half and its upper half
+-- a leaf is its tag and its permission; a branch its tag, its costs, its lower half and its upper
+-- half
 abbrev pub node_bytes : BoundTree → List ℕ
 node_bytes (Leaf perm) = 0 ∷ bits_of perm ∷ []
-node_bytes (Branch costs lower upper) = 1 ∷ (costs_bytes costs ++ (node_bytes lower ++ node_bytes upper))
+node_bytes (Branch costs lower upper) = 1
+    ∷ (costs_bytes costs ++ (node_bytes lower ++ node_bytes upper))
 
 -- a block of 2 ^ k pages is split at most down to its pages, and each cost has four bytes
 abbrev pub FitsNode : ℕ → BoundTree → Type 0
 FitsNode k (Leaf perm) = Unit {0}
 FitsNode zero (Branch costs lower upper) = ⊥
-FitsNode (suc k) (Branch costs lower upper) = ((p : Perm) → costs p < 2 ^ 32) × FitsNode k lower × FitsNode k upper
+FitsNode (suc k) (Branch costs lower upper) = ((p : Perm) → costs p < 2 ^ 32) × FitsNode k lower
+    × FitsNode k upper
 
--- the bytes are the header, the entries and the root of the whole space of 2 ^ 44 pages, and nothing else
-pub record Spells (bytes : List ℕ) (version : Version) (entries : List Entry) (tree : BoundTree) : Type 0 where
+-- the bytes are the header, the entries and the root of the whole space of 2 ^ 44 pages, and
+-- nothing else
+pub record Spells (bytes : List ℕ) (version : Version) (entries : List Entry) (tree : BoundTree) :
+    Type 0 where
   pub listed : List ℕ
-  pub spelled : bytes ≡ header_bytes (record { version = version; count = length entries }) ++ (listed ++ node_bytes tree)
+  pub spelled : bytes ≡ header_bytes (record { version = version; count = length entries })
+      ++ (listed ++ node_bytes tree)
   pub counted : length entries < 2 ^ 32
   pub in_order : SpellsEntries listed entries
   pub fits : FitsNode 44 tree
@@ -88,10 +98,13 @@ AreNoSubPages (e ∷ entries) = (12 ≤ e.region.log2) × AreNoSubPages entries
 abbrev pub HasNoOverflow : BoundTree → Type 0
 HasNoOverflow (Leaf perm) = Unit {0}
 HasNoOverflow (Branch costs lower upper) =
-    ((p : Perm) → bound_of lower p + bound_of upper p + 1 < 2 ^ 32) × HasNoOverflow lower × HasNoOverflow upper
+    ((p : Perm) → bound_of lower p + bound_of upper p + 1 < 2 ^ 32) × HasNoOverflow lower
+    × HasNoOverflow upper
 
--- a certificate: entries of whole pages, sums that fit, and no more entries than the root says are needed
-pub record IsCertificate (bytes : List ℕ) (version : Version) (entries : List Entry) (tree : BoundTree) : Type 0 where
+-- a certificate: entries of whole pages, sums that fit, and no more entries than the root says are
+-- needed
+pub record IsCertificate (bytes : List ℕ) (version : Version) (entries : List Entry)
+    (tree : BoundTree) : Type 0 where
   pub spells : Spells bytes version entries tree
   pub pages : AreNoSubPages entries
   pub sums : HasNoOverflow tree

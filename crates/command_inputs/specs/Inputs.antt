@@ -46,9 +46,12 @@ pub record HasBytes {R : Type 0} (most : ℕ) (source : Reading R) (bytes : List
   pub well : source.failed ≡ source.failures
 
 -- why a file could not be had
-pub data HasNoBytes {R : Type 0} (most : ℕ) (file : Bor (List ℕ)) (source : Reading R) : Trouble → Type 0 where
-  too_large : (bytes : List ℕ) → Consumes source.before source.after bytes → most < length bytes → HasNoBytes most file source (TooLarge file)
-  cannot_read : source.failed ≡ one_failure_more source.failures → HasNoBytes most file source (CannotRead file)
+pub data HasNoBytes {R : Type 0} (most : ℕ) (file : Bor (List ℕ)) (source : Reading R) : Trouble
+    → Type 0 where
+  too_large : (bytes : List ℕ) → Consumes source.before source.after bytes → most < length bytes
+      → HasNoBytes most file source (TooLarge file)
+  cannot_read : source.failed ≡ one_failure_more source.failures
+      → HasNoBytes most file source (CannotRead file)
   memory : source.failed ≡ source.failures → HasNoBytes most file source Memory
 
 -- the bytes of a file make the map
@@ -65,5 +68,7 @@ IsMapFault bytes maps.Memory = (n : ℕ) × FaultAt bytes n MakesFirst
 
 -- why the map of a file could not be had
 pub data HasNoMap {R : Type 0} (file : Bor (List ℕ)) (source : Reading R) : Trouble → Type 0 where
-  no_bytes : (trouble : Trouble) → HasNoBytes (2 ^ 20) file source trouble → HasNoMap file source trouble
-  no_map : (bytes : List ℕ) → HasBytes (2 ^ 20) source bytes → (fault : MapFileFault) → IsMapFault bytes fault → HasNoMap file source (map_trouble file fault)
+  no_bytes : (trouble : Trouble) → HasNoBytes (2 ^ 20) file source trouble
+      → HasNoMap file source trouble
+  no_map : (bytes : List ℕ) → HasBytes (2 ^ 20) source bytes → (fault : MapFileFault)
+      → IsMapFault bytes fault → HasNoMap file source (map_trouble file fault)

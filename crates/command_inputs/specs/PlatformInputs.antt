@@ -14,7 +14,11 @@ pub record HasPlatform {R : Type 0} (source : Reading R) (platform : PlatformLay
   pub is_platform : IsPlatformFile bytes platform
 
 -- why the platform of a file could not be had
-pub data HasNoPlatform {R : Type 0} (file : Bor (List ℕ)) (source : Reading R) : Trouble → Type 0 where
-  no_bytes : (trouble : Trouble) → HasNoBytes (2 ^ 20) file source trouble → HasNoPlatform file source trouble
-  no_platform : (bytes : List ℕ) → HasBytes (2 ^ 20) source bytes → ((platform : PlatformLayout) → IsPlatformFile bytes platform → ⊥) → HasNoPlatform file source (NotAPlatform file)
+pub data HasNoPlatform {R : Type 0} (file : Bor (List ℕ)) (source : Reading R) : Trouble
+    → Type 0 where
+  no_bytes : (trouble : Trouble) → HasNoBytes (2 ^ 20) file source trouble
+      → HasNoPlatform file source trouble
+  no_platform : (bytes : List ℕ) → HasBytes (2 ^ 20) source bytes
+      → ((platform : PlatformLayout) → IsPlatformFile bytes platform → ⊥)
+      → HasNoPlatform file source (NotAPlatform file)
   memory : (bytes : List ℕ) → HasBytes (2 ^ 20) source bytes → HasNoPlatform file source Memory

@@ -1,5 +1,6 @@
 -- How a name is shown in a message: without control characters.
-use Rattle.std.specs.Prelude.{ℕ, nat_lt, nat_le, ◌==◌, ◌&&◌, ◌||◌, Bool, false, List, [], ◌∷◌, ◌++◌, codes, if◌then◌else◌}
+use Rattle.std.specs.Prelude.{ℕ, nat_lt, nat_le, ◌==◌, ◌&&◌, ◌||◌, Bool, false, List, [], ◌∷◌, ◌++◌}
+use Rattle.std.specs.Prelude.{codes, if◌then◌else◌}
 use Rattle.text_lines.specs.Written.{hex}
 
 -- a control character of ASCII
@@ -15,7 +16,8 @@ abbrev pub begins_pair : ℕ → List ℕ → Bool
 begins_pair b [] = false
 begins_pair b (next ∷ behind) = is_control_pair b next
 
--- a byte is a control character, or one of the two bytes of one, by the byte before it and those behind it
+-- a byte is a control character, or one of the two bytes of one, by the byte before it and those
+-- behind it
 abbrev pub is_hidden : ℕ → ℕ → List ℕ → Bool
 is_hidden before b behind = is_control b || (is_control_pair before b || begins_pair b behind)
 

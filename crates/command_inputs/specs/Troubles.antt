@@ -12,7 +12,11 @@ use Rattle.platforms.specs.declared.boot_fault.BootFault.TheVariants as boots
 use Rattle.byte_streams.specs.declared.fault.SourceFault.{SourceFault}
 use Rattle.byte_streams.specs.declared.fault.SourceFault.TheVariants as whole
 use Rattle.command_inputs.specs.declared.trouble.Trouble.{Trouble}
-use Rattle.command_inputs.specs.declared.trouble.Trouble.TheVariants.{NotUnderstood, TooManyRanges, TooLarge, NotAPlatform, TooFar, NeedsEntries, CannotRead, CannotWrite, Output, Memory}
+use Rattle.command_inputs.specs.declared.trouble.Trouble.TheVariants.{NotUnderstood, TooManyRanges}
+use Rattle.command_inputs.specs.declared.trouble.Trouble.TheVariants.{TooLarge, NotAPlatform}
+use Rattle.command_inputs.specs.declared.trouble.Trouble.TheVariants.{TooFar, NeedsEntries}
+use Rattle.command_inputs.specs.declared.trouble.Trouble.TheVariants.{CannotRead, CannotWrite}
+use Rattle.command_inputs.specs.declared.trouble.Trouble.TheVariants.{Output, Memory}
 
 -- texts one after another
 abbrev pub joined : List (List ℕ) → List ℕ
@@ -25,7 +29,8 @@ file_text file said = codes "pmpmon: " ++ file ++ said
 
 -- the line for each trouble
 abbrev pub trouble_text : Trouble → List ℕ
-trouble_text (NotUnderstood file line) = file_text file.now (codes ": line " ++ decimal line ++ codes " is not understood\n")
+trouble_text (NotUnderstood file line) =
+    file_text file.now (codes ": line " ++ decimal line ++ codes " is not understood\n")
 trouble_text (TooManyRanges file) = file_text file.now (codes ": too many ranges\n")
 trouble_text (TooLarge file) = file_text file.now (codes ": too large\n")
 trouble_text (NotAPlatform file) = file_text file.now (codes ": not a platform\n")

@@ -6,11 +6,11 @@ ghost use Rattle.map_text.specs.MapFile.{Makes};
 ghost use Rattle.map_text.specs.declared.map_file.MapFileFault.{MapFileFault};
 ghost use Rattle.command_inputs.specs.Troubles.{map_trouble};
 
+use crate::Trouble;
 use byte_streams::Source;
 use map_text::{MAP_BYTES, map_of};
 use permission_map::PermissionMap;
 use program_files::read_whole;
-use crate::Trouble;
 use std::alloc::Global;
 
 /// How many bytes a listing of registers may have.

@@ -29,8 +29,8 @@ mod trouble;
 
 pub use inputs::{CERTIFICATE_BYTES, REGISTER_BYTES, bytes_in, map_by, map_in};
 pub use map_text::MAP_BYTES;
-pub use platform_inputs::{PLATFORM_BYTES, platform_in, read_platform};
-pub use statuses::answer_status;
 pub use names::{push_escaped, shown};
+pub use platform_inputs::{PLATFORM_BYTES, platform_in, read_platform};
 pub use reason_hint::print_reason;
+pub use statuses::answer_status;
 pub use trouble::Trouble;

@@ -6,11 +6,11 @@ ghost use Rattle.platform_file.specs.Document.{IsPlatformFile};
 ghost use Rattle.command_inputs.specs.Inputs.{reading};
 ghost use Rattle.command_inputs.specs.PlatformInputs.{HasNoPlatform, HasPlatform};
 
+use crate::Trouble;
 use crate::inputs::bytes_in;
 use byte_streams::Source;
 use platform_file::platform_of;
 use platforms::Platform;
-use crate::Trouble;
 use std::alloc::Global;
 use std::str;
 

@@ -4,11 +4,15 @@ use Rattle.std.specs.Borrow.{Bor}
 use Rattle.clap.specs.Words.{App, Rule, Text, app_of, with_rule, with_subcommand}
 use Rattle.clap.specs.declared.builder.command.Command.{Command}
 use Rattle.clap.specs.declared.builder.command.Command.TheViews.{out-Command}
-use Rattle.command_line.specs.CommandLine.{audit_app, check_app, file_rule, flag_rule, judge_app, lint_app, map_app, option_rule, plan_app, run_app, show_app}
+use Rattle.command_line.specs.CommandLine.{audit_app, check_app, file_rule, flag_rule, judge_app}
+use Rattle.command_line.specs.CommandLine.{lint_app, map_app, option_rule, plan_app, run_app}
+use Rattle.command_line.specs.CommandLine.{show_app}
 use Rattle.command_line.specs.declared.arguments.Argument.{Argument}
 use Rattle.command_line.specs.declared.arguments.Argument.TheVariants.{File, Flag, MaybeFile, Value}
 use Rattle.program_tasks.specs.declared.subcommand.Subcommand.{Subcommand}
-use Rattle.program_tasks.specs.declared.subcommand.Subcommand.TheVariants.{Audit, Check, Judge, Lint, Map, Plan, Run, Show}
+use Rattle.program_tasks.specs.declared.subcommand.Subcommand.TheVariants.{Audit, Check, Judge}
+use Rattle.program_tasks.specs.declared.subcommand.Subcommand.TheVariants.{Lint, Map, Plan, Run}
+use Rattle.program_tasks.specs.declared.subcommand.Subcommand.TheVariants.{Show}
 
 -- the value that an option has where it is not given, if it has one
 abbrev pub defaults_by : Option (Bor Text) → List Text
@@ -41,7 +45,8 @@ app_by Lint = lint_app
 -- with these subcommands, in turn
 unfoldable pub with_subcommands : App → List Subcommand → App
 with_subcommands app [] = app
-with_subcommands app (subcommand ∷ rest) = with_subcommands (with_subcommand app (app_by subcommand).top) rest
+with_subcommands app (subcommand ∷ rest) =
+    with_subcommands (with_subcommand app (app_by subcommand).top) rest
 
 -- a command is described so, and none of its arguments holds in the subcommands below it too
 pub record IsCommandOf (description : App) (command : Command) : Type 0 where

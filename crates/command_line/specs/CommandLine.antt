@@ -1,7 +1,9 @@
 -- The program's command line, as `clap` sees it, and the request that it names.
-use Rattle.std.specs.Prelude.{Bool, true, false, List, [], ◌∷◌, Option, Some, None, codes, ◌≡◌, ◌⊎◌, bytes_eq, find}
+use Rattle.std.specs.Prelude.{Bool, true, false, List, [], ◌∷◌, Option, Some, None, codes, ◌≡◌, ◌⊎◌}
+use Rattle.std.specs.Prelude.{bytes_eq, find}
 use Rattle.clap.specs.Kinds.{IsAmong}
-use Rattle.clap.specs.Words.{App, Row, Rule, Shape, Text, fault_of, first_of, one_of, new_app, new_rule, subcommand_of, with_rule, with_subcommand}
+use Rattle.clap.specs.Words.{App, Row, Rule, Shape, Text, fault_of, first_of, one_of, new_app}
+use Rattle.clap.specs.Words.{new_rule, subcommand_of, with_rule, with_subcommand}
 use Rattle.clap.specs.declared.builder.ArgAction.TheVariants.{Set, SetTrue}
 use Rattle.clap.specs.declared.error.kind.ErrorKind.{ErrorKind}
 use Rattle.clap.specs.declared.error.kind.ErrorKind.TheVariants.{OutOfMemory}
@@ -95,7 +97,8 @@ run_app = with_rule
     (with_rule
     (with_rule
     (with_rule
-    (with_rule (with_rule (new_app (codes "run")) (file_rule (codes "PLATFORM") true)) (file_rule (codes "TRACE") true))
+    (with_rule (with_rule (new_app (codes "run")) (file_rule (codes "PLATFORM") true))
+    (file_rule (codes "TRACE") true))
     measure_rule)
     expect_rule)
     explain_rule)
@@ -109,7 +112,8 @@ plan_app = with_rule
     (with_rule
     (with_rule
     (with_rule
-    (with_rule (with_rule (new_app (codes "plan")) (file_rule (codes "MAP") true)) (file_rule (codes "CERT") false))
+    (with_rule (with_rule (new_app (codes "plan")) (file_rule (codes "MAP") true))
+    (file_rule (codes "CERT") false))
     entries_rule)
     at_most_rule)
     format_rule)
@@ -124,7 +128,8 @@ judge_app = with_rule
     (with_rule
     (with_rule
     (with_rule
-    (with_rule (with_rule (with_rule (new_app (codes "judge")) (file_rule (codes "MAP") true)) (file_rule (codes "TRACE") true)) entries_rule)
+    (with_rule (with_rule (with_rule (new_app (codes "judge")) (file_rule (codes "MAP") true))
+    (file_rule (codes "TRACE") true)) entries_rule)
     registers_rule)
     expect_rule)
     explain_rule)
@@ -133,7 +138,8 @@ judge_app = with_rule
 
 abbrev pub check_app : App
 check_app = with_rule
-    (with_rule (with_rule (new_app (codes "check")) (file_rule (codes "MAP") true)) (file_rule (codes "CERT") true))
+    (with_rule (with_rule (new_app (codes "check")) (file_rule (codes "MAP") true))
+    (file_rule (codes "CERT") true))
     hints_rule
 
 abbrev pub show_app : App
@@ -142,7 +148,8 @@ show_app = with_rule
     (with_rule
     (with_rule
     (with_rule
-    (with_rule (with_rule (with_rule (new_app (codes "show")) (file_rule (codes "MAP") true)) entries_rule) at_most_rule)
+    (with_rule (with_rule (with_rule (new_app (codes "show")) (file_rule (codes "MAP") true))
+    entries_rule) at_most_rule)
     registers_rule)
     xlen_rule)
     format_rule)
@@ -153,33 +160,44 @@ abbrev pub audit_app : App
 audit_app = with_rule
     (with_rule
     (with_rule
-    (with_rule (with_rule (new_app (codes "audit")) (file_rule (codes "MAP") true)) (file_rule (codes "REGISTERS") true))
+    (with_rule (with_rule (new_app (codes "audit")) (file_rule (codes "MAP") true))
+    (file_rule (codes "REGISTERS") true))
     all_rule)
     xlen_rule)
     hints_rule
 
 abbrev pub map_app : App
-map_app = with_rule (with_rule (with_rule (new_app (codes "map")) (file_rule (codes "REGISTERS") true)) xlen_rule) hints_rule
+map_app = with_rule (with_rule (with_rule (new_app (codes "map"))
+    (file_rule (codes "REGISTERS") true)) xlen_rule) hints_rule
 
 abbrev pub lint_app : App
 lint_app = with_rule
     (with_rule
     (with_rule
-    (with_rule (with_rule (with_rule (new_app (codes "lint")) (file_rule (codes "FILE") true)) registers_rule) trace_rule)
+    (with_rule (with_rule (with_rule (new_app (codes "lint")) (file_rule (codes "FILE") true))
+    registers_rule) trace_rule)
     platform_rule)
     xlen_rule)
     hints_rule
 
 -- the program before its subcommands, which tells its version: one of them has to be named
 abbrev pub bare_app : App
-bare_app = record { top = record (new_app (codes "pmpmon")).top { subcommand_required = true; has_version = true }; subs = [] }
+bare_app = record {
+  top = record (new_app (codes "pmpmon")).top {
+    subcommand_required = true;
+    has_version = true;
+  };
+  subs = [];
+}
 
 abbrev pub program_app : App
 program_app = with_subcommand
     (with_subcommand
     (with_subcommand
     (with_subcommand
-    (with_subcommand (with_subcommand (with_subcommand (with_subcommand bare_app run_app.top) plan_app.top) judge_app.top) check_app.top)
+    (with_subcommand (with_subcommand
+    (with_subcommand (with_subcommand bare_app run_app.top) plan_app.top) judge_app.top)
+    check_app.top)
     show_app.top)
     audit_app.top)
     map_app.top)
@@ -197,16 +215,20 @@ app_named name = app_alone (find (λ shape. bytes_eq name shape.name) program_ap
 -- the request is the subcommand that was entered, with the values of its rows
 abbrev pub IsRequest : Option (Text × List Row) → Request → Type 0
 IsRequest found request =
-    (rows : List Row) × (found ≡ Some (word_of request.task, rows)) × HasRequest (λ name. first_of name rows) (λ name. one_of name rows) request
+    (rows : List Row) × (found ≡ Some (word_of request.task, rows))
+    × HasRequest (λ name. first_of name rows) (λ name. one_of name rows) request
 
 -- no request for a sound task is the subcommand that was entered
 abbrev pub AreNone : Option (Text × List Row) → Type 0
-AreNone found = (request : Request) → IsRequest found request → ¬ IsSound request.task request.options
+AreNone found = (request : Request) → IsRequest found request
+    → ¬ IsSound request.task request.options
 
--- the fault of what was entered: the first demand of the subcommand that its rows lack, or that there is no subcommand
+-- the fault of what was entered: the first demand of the subcommand that its rows lack, or that
+-- there is no subcommand
 abbrev pub IsFaultIn : Option (Text × List Row) → Fault → Type 0
 IsFaultIn None fault = fault ≡ Missing
-IsFaultIn (Some (name, rows)) fault = IsFaultOfRequest name (λ id. first_of id rows) (λ id. one_of id rows) fault
+IsFaultIn (Some (name, rows)) fault =
+    IsFaultOfRequest name (λ id. first_of id rows) (λ id. one_of id rows) fault
 
 -- no request for a sound task was entered, and this is the kind of the fault of what was
 pub record IsUnsound (found : Option (Text × List Row)) (kind : ErrorKind) : Type 0 where
@@ -215,7 +237,9 @@ pub record IsUnsound (found : Option (Text × List Row)) (kind : ErrorKind) : Ty
   pub first : IsFaultIn found fault
   pub told : kind ≡ fault_kind fault
 
--- words are refused by an error of this kind: where memory runs out, by a kind that `clap` has for them, or where no request
--- for a sound task is the subcommand that they enter, by the kind of its fault
+-- words are refused by an error of this kind: where memory runs out, by a kind that `clap` has for
+-- them, or where no request for a sound task is the subcommand that they enter, by the kind of its
+-- fault
 abbrev pub Refuses : List Text → ErrorKind → Type 0
-Refuses words kind = (kind ≡ OutOfMemory) ⊎ (IsAmong kind (fault_of program_app words) ⊎ IsUnsound (subcommand_of program_app words) kind)
+Refuses words kind = (kind ≡ OutOfMemory)
+    ⊎ (IsAmong kind (fault_of program_app words) ⊎ IsUnsound (subcommand_of program_app words) kind)

@@ -8,9 +8,8 @@ ghost use Rattle.program_tasks.specs.Places.{cert_of, IsToStandardOutput};
 use crate::faults::faulted;
 use crate::{no_certificate, takes_place};
 use program_files::{is_same_file, is_same_plain_file};
-use program_tasks::Task;
+use program_tasks::{Task, cert_of, files_of};
 use std::process::ExitCode;
-use program_tasks::{cert_of, files_of};
 
 /// Why a certificate is not written under that name; the list, or what is read, would be lost.
 fn misplaced(rt: &HostRuntime, cert: &str) -> Option<&'static str>

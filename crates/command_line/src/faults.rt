@@ -6,14 +6,14 @@ ghost use Rattle.clap.specs.Words.{kind_of};
 ghost use Rattle.clap.specs.declared.error.kind.ErrorKind.TheVariants as kind;
 ghost use Rattle.command_line.specs.Ends.{IsStatusOf};
 
+use crate::request_of_words;
 use crate::troubles::stopped;
 use clap::Error;
 use clap::error::ErrorKind;
-use crate::request_of_words;
 use command_inputs::Trouble;
+use program_tasks::{shown_words, texts_of};
 use std::alloc::AllocError;
 use std::process::ExitCode;
-use program_tasks::{shown_words, texts_of};
 
 /// Help or the version on standard output, or a fault of the command line on standard error.
 fn explained(rt: &HostRuntime, error: &Error) -> ExitCode

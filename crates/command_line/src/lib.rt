@@ -35,8 +35,8 @@ mod troubles;
 mod words;
 
 pub use fault::{no_certificate, reads_twice, takes_place};
-pub use program_tasks::{Answers, Format, Hints, LintKind, Options, Request, TableFormat, Task};
-pub use words::request_of_words;
 pub use names::names_of;
-pub use troubles::{ended, standard_error};
+pub use program_tasks::{Answers, Format, Hints, LintKind, Options, Request, TableFormat, Task};
 pub use program_words::{request_in, texts_in, words_in};
+pub use troubles::{ended, standard_error};
+pub use words::request_of_words;

@@ -9,11 +9,10 @@ ghost use Rattle.program_tasks.specs.Places.{cert_of, IsToStandardOutput, ReadsT
 use crate::certificates::refused;
 use crate::faults::faulted;
 use crate::troubles::stopped;
-use program_tasks::Task;
 use command_inputs::Trouble;
+use program_tasks::{ShownNames, Task, reads_twice};
 use std::alloc::AllocError;
 use std::process::ExitCode;
-use program_tasks::{ShownNames, reads_twice};
 
 /// The names under which messages show the files of a task. A task that would read standard input twice, or write its certificate
 /// over what it reads or prints, is refused: why is reported, as it is where memory for the names is refused, and the status is

@@ -7,17 +7,16 @@ ghost use Rattle.command_line.specs.CommandLine.{program_app, IsRequest};
 ghost use Rattle.command_line.specs.Ends.{IsRefused};
 
 use crate::faults::refuse;
-use crate::troubles::stopped;
 use crate::request_of_words;
-use program_tasks::Request;
+use crate::troubles::stopped;
 use command_inputs::Trouble;
+use program_tasks::{Request, quoted};
 use std::alloc::AllocError;
 use std::env::{self, FillError};
 use std::io;
 use std::process::ExitCode;
 use std::rt::Env;
 use std::str::from_utf8;
-use program_tasks::quoted;
 
 /// The words of the command line, the program's own first.
 fn read_words(rt: &HostRuntime) -> io::Result<Vec<String>> {

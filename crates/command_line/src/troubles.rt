@@ -6,8 +6,8 @@ ghost use Rattle.byte_streams.specs.Streams.{failures_of};
 ghost use Rattle.command_inputs.specs.Troubles.{trouble_status};
 
 use byte_streams::Counted;
-use program_files::RetryInterrupted;
 use command_inputs::Trouble;
+use program_files::RetryInterrupted;
 use std::alloc::AllocError;
 use std::io::Stderr;
 use std::process::ExitCode;

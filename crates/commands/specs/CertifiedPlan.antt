@@ -1,5 +1,6 @@
 -- The plan of a map, the bank that it is loaded into, and its certificate.
-use Rattle.std.specs.Prelude.{◌≡◌, ◌≢◌, ℕ, ◌*◌, ◌^◌, ◌<◌, ◌≤◌, Bool, true, List, Option, Some, None, length}
+use Rattle.std.specs.Prelude.{◌≡◌, ◌≢◌, ℕ, ◌*◌, ◌^◌, ◌<◌, ◌≤◌, Bool, true, List, Option, Some, None}
+use Rattle.std.specs.Prelude.{length}
 use Rattle.std.specs.Borrow.{Bor}
 use Rattle.std.specs.Io.KnownBytes.{Appends}
 use Rattle.byte_streams.specs.Streams.{one_failure_more}
@@ -24,17 +25,19 @@ use Rattle.plan_certificate.specs.Written.{version_for}
 use Rattle.pmp_encoding.specs.declared.xlen.Xlen.{Xlen}
 use Rattle.pmp_encoding.specs.Widths.{AreReached, space_end}
 use Rattle.command_inputs.specs.declared.trouble.Trouble.{Trouble}
-use Rattle.command_inputs.specs.declared.trouble.Trouble.TheVariants.{TooFar, NeedsEntries, CannotWrite, Memory}
+use Rattle.command_inputs.specs.declared.trouble.Trouble.TheVariants.{TooFar, NeedsEntries}
+use Rattle.command_inputs.specs.declared.trouble.Trouble.TheVariants.{CannotWrite, Memory}
 
--- a sink whose bytes come to stand in a place, over a call: whether the place is apart from it, and the bytes that stood there
--- before the call and stand there after it, where they are known
+-- a sink whose bytes come to stand in a place, over a call: whether the place is apart from it, and
+-- the bytes that stood there before the call and stand there after it, where they are known
 pub record Placing (C : Type 0) : Type 0 where
   pub sink : Writing C
   pub is_apart : Bool
   pub stood : Option (List ℕ)
   pub stands : Option (List ℕ)
 
-abbrev pub placing : {C : Type 0} → (C → Option (List ℕ)) → (C → ℕ) → (C → ℕ) → (C → Option (List ℕ)) → Bool → C → C → Placing C
+abbrev pub placing : {C : Type 0} → (C → Option (List ℕ)) → (C → ℕ) → (C → ℕ)
+    → (C → Option (List ℕ)) → Bool → C → C → Placing C
 placing contents failures stalls stands is_apart old new = record {
   sink = writing contents failures stalls old new;
   is_apart = is_apart;
@@ -59,22 +62,28 @@ pub record AreNeeded (bytes : List ℕ) (n : ℕ) : Type 0 where
   pub count : length entries ≡ n
 
 -- the bytes are a right certificate of the entries, for a hart of that limit
-pub record IsCertificateOf (view : View) (limit : Limit) (entries : List Entry) (bytes : List ℕ) : Type 0 where
+pub record IsCertificateOf (view : View) (limit : Limit) (entries : List Entry) (bytes : List ℕ) :
+    Type 0 where
   pub tree : BoundTree
   pub spells : Spells bytes (version_for limit) entries tree
   pub right : IsRight view bytes (length entries)
 
--- a certificate was written and put in its place where a file for it is named, and otherwise nothing was
-abbrev pub IsCertified : {C : Type 0} → View → Limit → List Entry → Option (Bor (List ℕ)) → Placing C → Type 0
+-- a certificate was written and put in its place where a file for it is named, and otherwise
+-- nothing was
+abbrev pub IsCertified : {C : Type 0} → View → Limit → List Entry → Option (Bor (List ℕ))
+    → Placing C → Type 0
 IsCertified view limit entries None cert = IsUntouched cert
 IsCertified view limit entries (Some file) cert =
-    (bytes : List ℕ) × IsCertificateOf view limit entries bytes × TakesAll bytes cert.sink × (cert.stands ≡ cert.sink.after)
+    (bytes : List ℕ) × IsCertificateOf view limit entries bytes × TakesAll bytes cert.sink
+    × (cert.stands ≡ cert.sink.after)
 
 -- bytes were not written whole, or they were not put in their place: what stood there stands there
 pub data IsNotPlaced {C : Type 0} (bytes : List ℕ) (cert : Placing C) : Type 0 where
   not_written : Breaks bytes cert.sink → IsKept cert → IsNotPlaced bytes cert
   not_moved :
-      Appends cert.sink.before cert.sink.after bytes → cert.sink.failed ≡ one_failure_more cert.sink.failures → cert.sink.stalled ≡ cert.sink.stalls → IsKept cert
+      Appends cert.sink.before cert.sink.after bytes
+      → cert.sink.failed ≡ one_failure_more cert.sink.failures
+      → cert.sink.stalled ≡ cert.sink.stalls → IsKept cert
       → IsNotPlaced bytes cert
 
 -- as many entries as that are within the bound, or beyond it
@@ -86,7 +95,8 @@ abbrev pub IsBeyond : Option ℕ → ℕ → Type 0
 IsBeyond None n = ⊥
 IsBeyond (Some most) n = most < n
 
--- the plan of a map: of the lists of fewest entries the one that is chosen, in its order, as many as may be
+-- the plan of a map: of the lists of fewest entries the one that is chosen, in its order, as many
+-- as may be
 pub record IsPlanned (view : View) (most : Option ℕ) (entries : List Entry) : Type 0 where
   pub fewest : IsFewest view entries
   pub chosen : AreChosen (tree_of view) entries
@@ -102,7 +112,8 @@ pub record IsLoaded (view : View) (xlen : Xlen) (limit : Limit) (bank : Bank) : 
   pub registers : IsBankOf bank limit entries
 
 -- the certificate of a plan could not be written
-pub record BreaksCertificate {C : Type 0} (view : View) (limit : Limit) (most : Option ℕ) (file : Option (Bor (List ℕ))) (cert : Placing C) (trouble : Trouble) : Type 0 where
+pub record BreaksCertificate {C : Type 0} (view : View) (limit : Limit) (most : Option ℕ)
+    (file : Option (Bor (List ℕ))) (cert : Placing C) (trouble : Trouble) : Type 0 where
   pub name : Bor (List ℕ)
   pub named : file ≡ Some name
   pub told : trouble ≡ CannotWrite name
@@ -121,10 +132,13 @@ pub record NeedsMore (view : View) (most : Option ℕ) (trouble : Trouble) : Typ
 
 -- a page that the hart's address registers do not reach has a permission
 abbrev pub HasPageBeyond : Xlen → View → Type 0
-HasPageBeyond xlen view = (page : ℕ) × (space_end xlen ≤ page * 4096) × (page < 2 ^ 44) × (view page ≢ NoAccess)
+HasPageBeyond xlen view = (page : ℕ) × (space_end xlen ≤ page * 4096) × (page < 2 ^ 44)
+    × (view page ≢ NoAccess)
 
--- the plan of the map of that name has an entry that the hart's address registers do not reach, and the map such a page
-pub record IsTooFar (view : View) (xlen : Xlen) (most : Option ℕ) (map : Bor (List ℕ)) (trouble : Trouble) : Type 0 where
+-- the plan of the map of that name has an entry that the hart's address registers do not reach, and
+-- the map such a page
+pub record IsTooFar (view : View) (xlen : Xlen) (most : Option ℕ) (map : Bor (List ℕ))
+    (trouble : Trouble) : Type 0 where
   pub entries : List Entry
   pub planned : IsPlanned view most entries
   pub far : ¬ AreReached xlen entries
@@ -132,14 +146,24 @@ pub record IsTooFar (view : View) (xlen : Xlen) (most : Option ℕ) (map : Bor (
   pub told : trouble ≡ TooFar map
 
 -- why there is no bank: memory, more entries than the hart has, or one that is too far
-pub data IsUnloaded (view : View) (xlen : Xlen) (limit : Limit) (map : Bor (List ℕ)) (trouble : Trouble) : Type 0 where
+pub data IsUnloaded (view : View) (xlen : Xlen) (limit : Limit) (map : Bor (List ℕ))
+    (trouble : Trouble) : Type 0 where
   for_memory : trouble ≡ Memory → IsUnloaded view xlen limit map trouble
-  for_entries : (entries : List Entry) → IsFewest view entries → limit_number limit < length entries → trouble ≡ NeedsEntries (length entries) → IsUnloaded view xlen limit map trouble
-  for_width : IsTooFar view xlen (Some (limit_number limit)) map trouble → IsUnloaded view xlen limit map trouble
+  for_entries : (entries : List Entry) → IsFewest view entries → limit_number limit < length entries
+      → trouble ≡ NeedsEntries (length entries) → IsUnloaded view xlen limit map trouble
+  for_width : IsTooFar view xlen (Some (limit_number limit)) map trouble
+      → IsUnloaded view xlen limit map trouble
 
--- why there is no plan with its certificate: memory, too many entries, one that is too far, or the certificate
-pub data IsUnplanned {C : Type 0} (view : View) (xlen : Xlen) (limit : Limit) (most : Option ℕ) (map : Bor (List ℕ)) (file : Option (Bor (List ℕ))) (cert : Placing C) (trouble : Trouble) : Type 0 where
-  starved : trouble ≡ Memory → IsUntouched cert → IsUnplanned view xlen limit most map file cert trouble
-  beyond : NeedsMore view most trouble → IsUntouched cert → IsUnplanned view xlen limit most map file cert trouble
-  unreached : IsTooFar view xlen most map trouble → IsUntouched cert → IsUnplanned view xlen limit most map file cert trouble
-  uncertified : BreaksCertificate view limit most file cert trouble → IsUnplanned view xlen limit most map file cert trouble
+-- why there is no plan with its certificate: memory, too many entries, one that is too far, or the
+-- certificate
+pub data IsUnplanned {C : Type 0} (view : View) (xlen : Xlen) (limit : Limit) (most : Option ℕ)
+    (map : Bor (List ℕ)) (file : Option (Bor (List ℕ))) (cert : Placing C) (trouble : Trouble) :
+    Type 0 where
+  starved : trouble ≡ Memory → IsUntouched cert
+      → IsUnplanned view xlen limit most map file cert trouble
+  beyond : NeedsMore view most trouble → IsUntouched cert
+      → IsUnplanned view xlen limit most map file cert trouble
+  unreached : IsTooFar view xlen most map trouble → IsUntouched cert
+      → IsUnplanned view xlen limit most map file cert trouble
+  uncertified : BreaksCertificate view limit most file cert trouble
+      → IsUnplanned view xlen limit most map file cert trouble

@@ -1,5 +1,7 @@
--- What `judge` comes to on the files and streams that are lent for it: a rule for each way in which it ends.
-use Rattle.std.specs.Prelude.{◌≡◌, ℕ, ◌^◌, ◌<◌, Bool, true, false, List, Option, Some, Result, Ok, Err, length}
+-- What `judge` comes to on the files and streams that are lent for it: a rule for each way in which
+-- it ends.
+use Rattle.std.specs.Prelude.{◌≡◌, ℕ, ◌^◌, ◌<◌, Bool, true, false, List, Option, Some, Result, Ok}
+use Rattle.std.specs.Prelude.{Err, length}
 use Rattle.std.specs.Borrow.{Bor}
 use Rattle.byte_streams.specs.Streams.{WriteFails}
 use Rattle.byte_streams.specs.Writings.{Breaks, IsUnwritten, IsWell, TakesAll, TakesPart, Writing}
@@ -22,7 +24,8 @@ use Rattle.register_text.specs.Listings.{IsFirstUnknown}
 use Rattle.program_tasks.specs.declared.options.Answers.{Answers}
 use Rattle.program_tasks.specs.declared.options.Answers.TheVariants as answers
 use Rattle.command_inputs.specs.declared.trouble.Trouble.{Trouble}
-use Rattle.command_inputs.specs.declared.trouble.Trouble.TheVariants.{NotUnderstood, NeedsEntries, Output, Memory}
+use Rattle.command_inputs.specs.declared.trouble.Trouble.TheVariants.{NotUnderstood, NeedsEntries}
+use Rattle.command_inputs.specs.declared.trouble.Trouble.TheVariants.{Output, Memory}
 use Rattle.trace_answers.specs.Comparisons.{ComparesAll}
 use Rattle.trace_answers.specs.Deciders.{by_first}
 use Rattle.trace_answers.specs.Explained.{explaining}
@@ -34,63 +37,104 @@ use Rattle.command_inputs.specs.Inputs.{Reading, IsUnread, HasBytes, HasNoBytes,
 use Rattle.commands.specs.CertifiedPlan.{IsLoaded, IsTooFar}
 
 -- a trace is judged line by line, to its end or until it stops
-pub data JudgesTrace {R W : Type 0} (does : Meaning (Unit {0})) (trace : Bor (List ℕ)) (second : Reading R) (out : Writing W) : Result ℕ Trouble → Type 0 where
-  to_its_end : DoesAll does tt tt second.before second.after out.before out.after → second.failed ≡ second.failures → IsWell out → JudgesTrace does trace second out (Ok 0)
+pub data JudgesTrace {R W : Type 0} (does : Meaning (Unit {0})) (trace : Bor (List ℕ))
+    (second : Reading R) (out : Writing W) : Result ℕ Trouble → Type 0 where
+  to_its_end : DoesAll does tt tt second.before second.after out.before out.after
+      → second.failed ≡ second.failures → IsWell out → JudgesTrace does trace second out (Ok 0)
   until :
-      (fault : RunFault) → Stops does is_no_access (λ old line new. ⊥) tt tt second.before second.after out.before out.after fault
-      → CountsReads (Err fault) second.failures second.failed → CountsWrites (Err fault) out.failures out.failed out.stalls out.stalled
+      (fault : RunFault) → Stops does is_no_access (λ old line new. ⊥) tt tt second.before
+      second.after out.before out.after fault
+      → CountsReads (Err fault) second.failures second.failed
+      → CountsWrites (Err fault) out.failures out.failed out.stalls out.stalled
       → JudgesTrace does trace second out (Err (run_trouble trace fault))
 
--- a trace is judged so and its answers are compared with those that its comments say: where one differs, the first that does is told behind
--- the answers, and the status is 1
-pub data JudgesExpecting {R W : Type 0} (does : Meaning (Unit {0})) (trace : Bor (List ℕ)) (second : Reading R) (out : Writing W) : Result ℕ Trouble → Type 0 where
+-- a trace is judged so and its answers are compared with those that its comments say: where one
+-- differs, the first that does is told behind the answers, and the status is 1
+pub data JudgesExpecting {R W : Type 0} (does : Meaning (Unit {0})) (trace : Bor (List ℕ))
+    (second : Reading R) (out : Writing W) : Result ℕ Trouble → Type 0 where
   compared :
-      (report first : Option (List ℕ)) (status : ℕ) → ComparesAll does tt tt second.before second.after out.before report first → IsTold first report out.after status
-      → second.failed ≡ second.failures → IsWell out → JudgesExpecting does trace second out (Ok status)
+      (report first : Option (List ℕ)) (status : ℕ)
+      → ComparesAll does tt tt second.before second.after out.before report first
+      → IsTold first report out.after status
+      → second.failed ≡ second.failures → IsWell out
+      → JudgesExpecting does trace second out (Ok status)
   not_told :
-      (report : Option (List ℕ)) (text : List ℕ) → ComparesAll does tt tt second.before second.after out.before report (Some text) → TakesPart text report out.after
-      → second.failed ≡ second.failures → WriteFails out.failures out.failed out.stalls out.stalled → JudgesExpecting does trace second out (Err Output)
+      (report : Option (List ℕ)) (text : List ℕ)
+      → ComparesAll does tt tt second.before second.after out.before report (Some text)
+      → TakesPart text report out.after
+      → second.failed ≡ second.failures → WriteFails out.failures out.failed out.stalls out.stalled
+      → JudgesExpecting does trace second out (Err Output)
   unfinished :
-      (fault : RunFault) → Stops does is_no_access (λ old line new. ⊥) tt tt second.before second.after out.before out.after fault
-      → CountsReads (Err fault) second.failures second.failed → CountsWrites (Err fault) out.failures out.failed out.stalls out.stalled
+      (fault : RunFault) → Stops does is_no_access (λ old line new. ⊥) tt tt second.before
+      second.after out.before out.after fault
+      → CountsReads (Err fault) second.failures second.failed
+      → CountsWrites (Err fault) out.failures out.failed out.stalls out.stalled
       → JudgesExpecting does trace second out (Err (run_trouble trace fault))
 
--- a trace is judged; with `--explain` a comment behind each answer says which entry decided it, and with `--expect` the answers are
--- compared
-abbrev pub JudgesTraceAs : {R W : Type 0} → Answers → Outcomes → Decides → Bor (List ℕ) → Reading R → Writing W → Result ℕ Trouble → Type 0
-JudgesTraceAs answers.Plain outcomes decides trace second out done = JudgesTrace (answered_by outcomes) trace second out done
-JudgesTraceAs answers.Explained outcomes decides trace second out done = JudgesTrace (explaining (answered_by outcomes) (on_access decides)) trace second out done
-JudgesTraceAs answers.Compared outcomes decides trace second out done = JudgesExpecting (answered_by outcomes) trace second out done
+-- a trace is judged; with `--explain` a comment behind each answer says which entry decided it, and
+-- with `--expect` the answers are compared
+abbrev pub JudgesTraceAs : {R W : Type 0} → Answers → Outcomes → Decides → Bor (List ℕ) → Reading R
+    → Writing W → Result ℕ Trouble → Type 0
+JudgesTraceAs answers.Plain outcomes decides trace second out done =
+    JudgesTrace (answered_by outcomes) trace second out done
+JudgesTraceAs answers.Explained outcomes decides trace second out done =
+    JudgesTrace (explaining (answered_by outcomes) (on_access decides)) trace second out done
+JudgesTraceAs answers.Compared outcomes decides trace second out done =
+    JudgesExpecting (answered_by outcomes) trace second out done
 
 -- `judge`: the map is read and its entries are loaded, and then the trace is judged by them
-pub data Judges {R W : Type 0} (answers : Answers) (map trace : Bor (List ℕ)) (xlen : Xlen) (limit : Limit) (first second : Reading R) (out : Writing W) : Result ℕ Trouble → Type 0 where
+pub data Judges {R W : Type 0} (answers : Answers) (map trace : Bor (List ℕ)) (xlen : Xlen)
+    (limit : Limit) (first second : Reading R) (out : Writing W) : Result ℕ Trouble → Type 0 where
   judged :
-      (runs : List Run) (bank : Bank) (result : Result ℕ Trouble) → HasMap first runs → IsLoaded (view_of_runs runs) xlen limit bank
-      → JudgesTraceAs answers (by_list bank) (by_first bank) trace second out result → Judges answers map trace xlen limit first second out result
-  no_map : (trouble : Trouble) → HasNoMap map first trouble → IsUnread second → IsUnwritten out → Judges answers map trace xlen limit first second out (Err trouble)
-  no_memory : (runs : List Run) → HasMap first runs → IsUnread second → IsUnwritten out → Judges answers map trace xlen limit first second out (Err Memory)
+      (runs : List Run) (bank : Bank) (result : Result ℕ Trouble) → HasMap first runs
+      → IsLoaded (view_of_runs runs) xlen limit bank
+      → JudgesTraceAs answers (by_list bank) (by_first bank) trace second out result
+      → Judges answers map trace xlen limit first second out result
+  no_map : (trouble : Trouble) → HasNoMap map first trouble → IsUnread second → IsUnwritten out
+      → Judges answers map trace xlen limit first second out (Err trouble)
+  no_memory : (runs : List Run) → HasMap first runs → IsUnread second → IsUnwritten out
+      → Judges answers map trace xlen limit first second out (Err Memory)
   no_bank :
-      (runs : List Run) (entries : List Entry) → HasMap first runs → IsFewest (view_of_runs runs) entries → limit_number limit < length entries → IsUnread second → IsUnwritten out
+      (runs : List Run) (entries : List Entry) → HasMap first runs
+      → IsFewest (view_of_runs runs) entries → limit_number limit < length entries
+      → IsUnread second → IsUnwritten out
       → Judges answers map trace xlen limit first second out (Err (NeedsEntries (length entries)))
   too_far :
-      (runs : List Run) (trouble : Trouble) → HasMap first runs → IsTooFar (view_of_runs runs) xlen (Some (limit_number limit)) map trouble → IsUnread second → IsUnwritten out
+      (runs : List Run) (trouble : Trouble) → HasMap first runs
+      → IsTooFar (view_of_runs runs) xlen (Some (limit_number limit)) map trouble
+      → IsUnread second → IsUnwritten out
       → Judges answers map trace xlen limit first second out (Err trouble)
 
--- `judge --registers`: the listing of registers is read, and then the trace is judged by them line by line; where they judge nothing
--- the trace is not read, and why is printed
-pub data JudgesByRegisters {R W : Type 0} (answers : Answers) (listing trace : Bor (List ℕ)) (xlen : Xlen) (first second : Reading R) (out : Writing W) : Result ℕ Trouble → Type 0 where
+-- `judge --registers`: the listing of registers is read, and then the trace is judged by them line
+-- by line; where they judge nothing the trace is not read, and why is printed
+pub data JudgesByRegisters {R W : Type 0} (answers : Answers) (listing trace : Bor (List ℕ))
+    (xlen : Xlen) (first second : Reading R) (out : Writing W) : Result ℕ Trouble → Type 0 where
   ruled :
-      (bytes : List ℕ) (registers : Registers) (result : Result ℕ Trouble) → HasBytes (2 ^ 20) first bytes → HasRules xlen bytes registers
-      → JudgesTraceAs answers (by_registers registers) (by_entry registers) trace second out result → JudgesByRegisters answers listing trace xlen first second out result
-  refused : (bytes text : List ℕ) → HasBytes (2 ^ 20) first bytes → IsRefused xlen bytes text → IsUnread second → TakesAll text out → JudgesByRegisters answers listing trace xlen first second out (Ok 1)
-  no_bytes : (trouble : Trouble) → HasNoBytes (2 ^ 20) listing first trouble → IsUnread second → IsUnwritten out → JudgesByRegisters answers listing trace xlen first second out (Err trouble)
-  no_memory : (bytes : List ℕ) → HasBytes (2 ^ 20) first bytes → IsUnread second → IsUnwritten out → JudgesByRegisters answers listing trace xlen first second out (Err Memory)
+      (bytes : List ℕ) (registers : Registers) (result : Result ℕ Trouble)
+      → HasBytes (2 ^ 20) first bytes → HasRules xlen bytes registers
+      → JudgesTraceAs answers (by_registers registers) (by_entry registers) trace second out result
+      → JudgesByRegisters answers listing trace xlen first second out result
+  refused : (bytes text : List ℕ) → HasBytes (2 ^ 20) first bytes → IsRefused xlen bytes text
+      → IsUnread second → TakesAll text out
+      → JudgesByRegisters answers listing trace xlen first second out (Ok 1)
+  no_bytes : (trouble : Trouble) → HasNoBytes (2 ^ 20) listing first trouble → IsUnread second
+      → IsUnwritten out → JudgesByRegisters answers listing trace xlen first second out
+      (Err trouble)
+  no_memory : (bytes : List ℕ) → HasBytes (2 ^ 20) first bytes → IsUnread second → IsUnwritten out
+      → JudgesByRegisters answers listing trace xlen first second out (Err Memory)
   not_understood :
-      (bytes : List ℕ) (n : ℕ) → HasBytes (2 ^ 20) first bytes → IsFirstUnknown xlen bytes n → IsUnread second → IsUnwritten out
-      → JudgesByRegisters answers listing trace xlen first second out (Err (NotUnderstood listing n))
-  no_output : (bytes text : List ℕ) → HasBytes (2 ^ 20) first bytes → IsRefused xlen bytes text → IsUnread second → Breaks text out → JudgesByRegisters answers listing trace xlen first second out (Err Output)
+      (bytes : List ℕ) (n : ℕ) → HasBytes (2 ^ 20) first bytes → IsFirstUnknown xlen bytes n
+      → IsUnread second → IsUnwritten out
+      → JudgesByRegisters answers listing trace xlen first second out
+      (Err (NotUnderstood listing n))
+  no_output : (bytes text : List ℕ) → HasBytes (2 ^ 20) first bytes → IsRefused xlen bytes text
+      → IsUnread second → Breaks text out
+      → JudgesByRegisters answers listing trace xlen first second out (Err Output)
 
 -- `judge`, with `--registers` or without, and what is written of the answers
-abbrev pub JudgesAs : {R W : Type 0} → Bool → Answers → Bor (List ℕ) → Bor (List ℕ) → Xlen → Limit → Reading R → Reading R → Writing W → Result ℕ Trouble → Type 0
-JudgesAs true answers file trace xlen limit first second out done = JudgesByRegisters answers file trace xlen first second out done
-JudgesAs false answers file trace xlen limit first second out done = Judges answers file trace xlen limit first second out done
+abbrev pub JudgesAs : {R W : Type 0} → Bool → Answers → Bor (List ℕ) → Bor (List ℕ) → Xlen → Limit
+    → Reading R → Reading R → Writing W → Result ℕ Trouble → Type 0
+JudgesAs true answers file trace xlen limit first second out done =
+    JudgesByRegisters answers file trace xlen first second out done
+JudgesAs false answers file trace xlen limit first second out done =
+    Judges answers file trace xlen limit first second out done

@@ -2,13 +2,20 @@
 use Rattle.std.specs.Prelude.{ℕ, List, Option}
 use Rattle.text_lines.specs.declared.fault.RunFault.{RunFault}
 use Rattle.text_lines.specs.declared.fault.RunFault.TheVariants as runs
-use Rattle.text_lines.specs.LineLoop.{Meaning, StopsAt, StopsForMemory, StopsReading, StopsTooLong, StopsWriting}
+use Rattle.text_lines.specs.LineLoop.{Meaning, StopsAt, StopsForMemory, StopsReading, StopsTooLong}
+use Rattle.text_lines.specs.LineLoop.{StopsWriting}
 
 -- how the lines of an input stop being interpreted, by the fault
 abbrev pub Stops :
-    {S : Type 0} → Meaning S → (S → List ℕ → Type 0) → (S → List ℕ → S → Type 0) → S → S → Option (List ℕ) → Option (List ℕ) → Option (List ℕ) → Option (List ℕ) → RunFault → Type 0
-Stops does refuses starves old new before after held holds (runs.Line n) = StopsAt n does refuses old new before after held holds
-Stops does refuses starves old new before after held holds runs.TooLong = StopsTooLong does old new before after held holds
-Stops does refuses starves old new before after held holds runs.Read = StopsReading does old new before after held holds
-Stops does refuses starves old new before after held holds runs.Write = StopsWriting does old new before after held holds
-Stops does refuses starves old new before after held holds runs.Memory = StopsForMemory does starves old new before after held holds
+    {S : Type 0} → Meaning S → (S → List ℕ → Type 0) → (S → List ℕ → S → Type 0) → S → S
+    → Option (List ℕ) → Option (List ℕ) → Option (List ℕ) → Option (List ℕ) → RunFault → Type 0
+Stops does refuses starves old new before after held holds (runs.Line n) =
+    StopsAt n does refuses old new before after held holds
+Stops does refuses starves old new before after held holds runs.TooLong =
+    StopsTooLong does old new before after held holds
+Stops does refuses starves old new before after held holds runs.Read =
+    StopsReading does old new before after held holds
+Stops does refuses starves old new before after held holds runs.Write =
+    StopsWriting does old new before after held holds
+Stops does refuses starves old new before after held holds runs.Memory =
+    StopsForMemory does starves old new before after held holds

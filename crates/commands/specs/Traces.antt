@@ -1,5 +1,6 @@
 -- What `lint --trace` comes to, on the files and streams that are lent for it.
-use Rattle.std.specs.Prelude.{◌≡◌, ℕ, ◌^◌, Bool, true, false, List, [], Option, Some, None, Result, Err}
+use Rattle.std.specs.Prelude.{◌≡◌, ℕ, ◌^◌, Bool, true, false, List, [], Option, Some, None, Result}
+use Rattle.std.specs.Prelude.{Err}
 use Rattle.std.specs.Borrow.{Bor}
 use Rattle.byte_streams.specs.Writings.{IsUnwritten, Writing}
 use Rattle.platforms.specs.Platform.{PlatformLayout}
@@ -14,24 +15,33 @@ use Rattle.file_lints.specs.TraceLints.{IsLintText, is_trace}
 -- how many harts a trace is for: those of a platform where one is named, otherwise four
 abbrev pub HasHarts : {R : Type 0} → Option (Bor (List ℕ)) → Reading R → ℕ → Type 0
 HasHarts None source harts = (harts ≡ 4) × IsUnread source
-HasHarts (Some file) source harts = (platform : PlatformLayout) × HasPlatform source platform × (harts ≡ platform.harts)
+HasHarts (Some file) source harts = (platform : PlatformLayout) × HasPlatform source platform
+    × (harts ≡ platform.harts)
 
 -- why that is not known
 abbrev pub HasNoHarts : {R : Type 0} → Option (Bor (List ℕ)) → Reading R → Trouble → Type 0
 HasNoHarts None source trouble = ⊥
 HasNoHarts (Some file) source trouble = HasNoPlatform file source trouble
 
--- what is written of the bytes of a file that should be a trace for `run` or `judge`, and whether they are one: nothing where they are
+-- what is written of the bytes of a file that should be a trace for `run` or `judge`, and whether
+-- they are one: nothing where they are
 abbrev pub IsTraceLint : List ℕ → Taker → List ℕ → Bool → List ℕ → Type 0
 IsTraceLint name taker bytes true text = (is_trace taker bytes ≡ true) × (text ≡ [])
-IsTraceLint name taker bytes false text = (is_trace taker bytes ≡ false) × IsLintText name taker bytes text
+IsTraceLint name taker bytes false text = (is_trace taker bytes ≡ false)
+    × IsLintText name taker bytes text
 
--- `lint --trace`: the platform is read where one is named, then the trace, and what is wrong with it is printed
-pub data LintsTrace {R W : Type 0} (file : Bor (List ℕ)) (platform : Option (Bor (List ℕ))) (first second : Reading R) (out : Writing W) : Result ℕ Trouble → Type 0 where
+-- `lint --trace`: the platform is read where one is named, then the trace, and what is wrong with
+-- it is printed
+pub data LintsTrace {R W : Type 0} (file : Bor (List ℕ)) (platform : Option (Bor (List ℕ)))
+    (first second : Reading R) (out : Writing W) : Result ℕ Trouble → Type 0 where
   linted :
-      (harts : ℕ) (bytes : List ℕ) (result : Result ℕ Trouble) → HasHarts platform second harts → HasBytes (2 ^ 30) first bytes → Tells (IsTraceLint file.now (Run harts) bytes) out result
+      (harts : ℕ) (bytes : List ℕ) (result : Result ℕ Trouble) → HasHarts platform second harts
+      → HasBytes (2 ^ 30) first bytes
+      → Tells (IsTraceLint file.now (Run harts) bytes) out result
       → LintsTrace file platform first second out result
-  no_harts : (trouble : Trouble) → HasNoHarts platform second trouble → IsUnread first → IsUnwritten out → LintsTrace file platform first second out (Err trouble)
+  no_harts : (trouble : Trouble) → HasNoHarts platform second trouble → IsUnread first
+      → IsUnwritten out → LintsTrace file platform first second out (Err trouble)
   no_bytes :
-      (harts : ℕ) (trouble : Trouble) → HasHarts platform second harts → HasNoBytes (2 ^ 30) file first trouble → IsUnwritten out
+      (harts : ℕ) (trouble : Trouble) → HasHarts platform second harts
+      → HasNoBytes (2 ^ 30) file first trouble → IsUnwritten out
       → LintsTrace file platform first second out (Err trouble)

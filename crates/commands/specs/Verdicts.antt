@@ -14,9 +14,12 @@ abbrev pub accepted_by : Version → ℕ → List ℕ
 accepted_by One n = accepted_text n
 accepted_by (Two limit) n = accepted_of_text n (limit_number limit)
 
--- what `check` answers for a certificate of a view, its line and its status: a yes with 0 where it is right, and otherwise a no with 1
+-- what `check` answers for a certificate of a view, its line and its status: a yes with 0 where it
+-- is right, and otherwise a no with 1
 pub data IsVerdict (view : View) (bytes : List ℕ) : List ℕ → ℕ → Type 0 where
-  yes : (n : ℕ) (right : IsRight view bytes n) → IsVerdict view bytes (accepted_by right.version n) 0
+  yes : (n : ℕ) (right : IsRight view bytes n)
+      → IsVerdict view bytes (accepted_by right.version n) 0
   no :
-      (refusal : CheckRefusal) → ((n : ℕ) → IsRight view bytes n → ⊥) → RefusalStands view bytes refusal
+      (refusal : CheckRefusal) → ((n : ℕ) → IsRight view bytes n → ⊥)
+      → RefusalStands view bytes refusal
       → IsVerdict view bytes (refused_text (refusal_number refusal) (refusal_name refusal)) 1

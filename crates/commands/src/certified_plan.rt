@@ -17,12 +17,10 @@ ghost use Rattle.commands.specs.CertifiedPlan.{placing, AreNeeded, IsBeyond, IsC
 
 use crate::certificate_sink::CertificateSink;
 use byte_streams::DeviceFault;
-use command_inputs::map_by;
+use command_inputs::{Trouble, map_by};
 use entry_planner::{PackedPlan, plan_map};
 use permission_map::{Memory, PermissionMap};
-use pmp_encoding::{Bank, Limit, PackedEntry};
-use command_inputs::Trouble;
-use pmp_encoding::Xlen;
+use pmp_encoding::{Bank, Limit, PackedEntry, Xlen};
 use std::alloc::Global;
 
 /// The plan of a map: the fewest entries that mean it, of the lists of so many the one that the planner chooses.

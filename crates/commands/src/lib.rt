@@ -34,15 +34,15 @@ mod lint;
 mod lint_trace;
 mod on_maps;
 
+pub use certificate_sink::{CertificateSink, Straight, Whole};
+pub use certified_plan::{bank_of, needed_by, plan_and_certify, planned};
+pub use expected::tell_first;
+pub use laws::width_law;
 pub use lint::{
     do_lint, do_lint_listing, lint_as_platform, lint_listing, lint_map, names_platform,
 };
 pub use lint_trace::{TRACE_BYTES, do_lint_trace, lint_as_trace};
-pub use certificate_sink::{CertificateSink, Straight, Whole};
-pub use certified_plan::{bank_of, needed_by, plan_and_certify, planned};
 pub use on_maps::{
     Asked, Table, do_audit, do_check, do_judge_as, do_map, do_plan, do_show_as, most_entries,
     verdict,
 };
-pub use expected::tell_first;
-pub use laws::width_law;

@@ -6,12 +6,11 @@ ghost use Rattle.command_inputs.specs.Inputs.{reading};
 ghost use Rattle.commands.specs.Lint.{listing_fault, listing_reason, other_width, names_platform, IsListingLint, IsMapLint, IsPlatformLint, Lints, LintsListing, Tells};
 
 use byte_streams::{DeviceFault, Sink, Source, write_whole};
-use command_inputs::{MAP_BYTES, REGISTER_BYTES, answer_status, bytes_in};
-use map_lint::{LintFault, lint};
+use command_inputs::{MAP_BYTES, REGISTER_BYTES, Trouble, answer_status, bytes_in};
 use file_lints::lint_platform;
-use command_inputs::Trouble;
-use register_text::{is_listing, listing_of};
+use map_lint::{LintFault, lint};
 use pmp_encoding::Xlen;
+use register_text::{is_listing, listing_of};
 use std::alloc::Global;
 use text_lines::{Line, push_decimal, push_text};
 

@@ -7,10 +7,9 @@ ghost use Rattle.commands.specs.Lint.{Tells};
 ghost use Rattle.commands.specs.Traces.{HasHarts, HasNoHarts, IsTraceLint, LintsTrace};
 
 use byte_streams::{Sink, Source};
-use command_inputs::{answer_status, bytes_in, read_platform};
-use command_inputs::Trouble;
-use std::alloc::Global;
+use command_inputs::{Trouble, answer_status, bytes_in, read_platform};
 use file_lints::{LintFault, Taker, lint_trace};
+use std::alloc::Global;
 
 /// How many bytes a trace may have that is linted.
 pub const TRACE_BYTES: usize = 1 << 30;

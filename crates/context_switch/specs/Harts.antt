@@ -27,6 +27,7 @@ bank_of hart = hart.bank
 abbrev pub with_registers : Hart → RegisterFile → Hart
 with_registers hart file = record hart { registers = file }
 
--- r lends the hart's registers: what is last written through r they are, and all else of the hart stays
+-- r lends the hart's registers: what is last written through r they are, and all else of the hart
+-- stays
 abbrev pub LendsRegisters : MutBor Hart → MutBor RegisterFile → Fml
 LendsRegisters lender r = Lends hart.the_row registers.the_row lender r (with_registers lender.now)

@@ -7,11 +7,12 @@ use Rattle.sbi_decode.specs.Runners.{Runner, runner_of}
 use Rattle.context_switch.specs.Contexts.{saved_of}
 use Rattle.context_switch.specs.Harts.{number_of, world_of, registers_of}
 
--- the hart leaves its world for another one: its registers are saved as those of the world that it leaves, it goes on
--- with those of the other, and every other set is as it was
+-- the hart leaves its world for another one: its registers are saved as those of the world that it
+-- leaves, it goes on with those of the other, and every other set is as it was
 pub record Switches (old new : Hart) (before after : Contexts) (to : World) : Type 0 where
   pub saved : saved_of after (runner_of (number_of old) (world_of old)) ≡ Some (registers_of old)
   pub loaded : saved_of after (runner_of (number_of old) to) ≡ Some (registers_of new)
-  pub others : (other : Runner) → other ≢ runner_of (number_of old) (world_of old) → saved_of after other ≡ saved_of before other
+  pub others : (other : Runner) → other ≢ runner_of (number_of old) (world_of old)
+      → saved_of after other ≡ saved_of before other
   pub world : world_of new ≡ to
   pub number : number_of new ≡ number_of old

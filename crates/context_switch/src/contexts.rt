@@ -1,7 +1,6 @@
 //! The saved registers of the hosts and the enclaves.
 
-use sbi_decode::Registers;
-use sbi_decode::World;
+use sbi_decode::{Registers, World};
 
 /// The saved registers of each world: one set for the host of each of four harts, and one for each enclave, by its id
 /// from 1 to 64. An enclave's set is the same for every hart.

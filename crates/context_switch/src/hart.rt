@@ -4,8 +4,7 @@ ghost use Rattle.std.specs.Prelude.{◌<◌};
 ghost use Rattle.sbi_decode.specs.Runners.{IsWorld, IsWorld-prop};
 
 use pmp_encoding::{Bank, Entry, Limit};
-use sbi_decode::Registers;
-use sbi_decode::World;
+use sbi_decode::{Registers, World};
 
 /// One of up to four harts: the world that runs on it, and the registers and PMP entries that are loaded there.
 #[derive(Clone, Copy)]

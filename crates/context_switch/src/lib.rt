@@ -24,5 +24,5 @@ mod world_switch;
 
 pub use contexts::Contexts;
 pub use hart::Hart;
-pub use world_switch::switch;
 pub use sbi_decode::World;
+pub use world_switch::switch;

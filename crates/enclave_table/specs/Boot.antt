@@ -14,5 +14,6 @@ opening_table layout = record { layout = layout; enclaves = replicate 64 None }
 
 -- the host's view needs that number, which is more than there are; or a growth was refused
 abbrev pub IsBootFault : PlatformLayout → BootFault → Type 0
-IsBootFault layout (NeedsMoreEntries n) = Needs (host_view (opening_table layout)) n × (limit_number layout.limit < n)
+IsBootFault layout (NeedsMoreEntries n) = Needs (host_view (opening_table layout)) n
+    × (limit_number layout.limit < n)
 IsBootFault layout Memory = ⊤

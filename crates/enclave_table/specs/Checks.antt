@@ -3,7 +3,8 @@ use Rattle.std.specs.Prelude.{◌≡◌, ℕ, true, List, false, [], ◌∷◌, 
 use Rattle.sbi_decode.specs.declared.world.World.{World}
 use Rattle.sbi_decode.specs.declared.world.World.TheVariants.{Host, Enclave as InEnclave}
 use Rattle.platforms.specs.Platform.{is_ram}
-use Rattle.measurement.specs.Requests.{is_private, is_shared, is_part, HasCounts, HasPlaces, HasEntry}
+use Rattle.measurement.specs.Requests.{is_private, is_shared, is_part, HasCounts, HasPlaces}
+use Rattle.measurement.specs.Requests.{HasEntry}
 use Rattle.enclave_table.specs.Enclaves.{EnclaveTable, Live, IsFree}
 use Rattle.enclave_table.specs.declared.enclave.Enclave.{Enclave}
 use Rattle.enclave_table.specs.declared.enclave.Stage.{Stage}
@@ -11,7 +12,10 @@ use Rattle.enclave_table.specs.declared.enclave.Stage.TheVariants.{Fresh, Runnin
 use Rattle.enclave_table.specs.declared.life.Entering.{Entering}
 use Rattle.enclave_table.specs.declared.life.Entering.TheVariants.{Run, Resume}
 use Rattle.enclave_table.specs.declared.refusal.Refusal.{Refusal}
-use Rattle.enclave_table.specs.declared.refusal.Refusal.TheVariants.{NotHost, NotEnclave, BadCount, BadAddress, BadEntry, NotRam, Overlap, TableFull, BadId, BadState, BadWord}
+use Rattle.enclave_table.specs.declared.refusal.Refusal.TheVariants.{NotHost, NotEnclave, BadCount}
+use Rattle.enclave_table.specs.declared.refusal.Refusal.TheVariants.{BadAddress, BadEntry, NotRam}
+use Rattle.enclave_table.specs.declared.refusal.Refusal.TheVariants.{Overlap, TableFull, BadId}
+use Rattle.enclave_table.specs.declared.refusal.Refusal.TheVariants.{BadState, BadWord}
 use Rattle.measurement.specs.declared.request.Create.{Create}
 use Rattle.platforms.specs.Ranges.{has_page}
 
@@ -19,10 +23,12 @@ use Rattle.platforms.specs.Ranges.{has_page}
 pub record IsClear (table : EnclaveTable) (parts : Create) : Type 0 where
   pub owned :
       (page : ℕ) → is_part parts page ≡ true
-      → (has_page table.layout.monitor page ≡ false) × ((id : ℕ) (e : Enclave) → Live table id e → is_part e.parts page ≡ false)
+      → (has_page table.layout.monitor page ≡ false)
+      × ((id : ℕ) (e : Enclave) → Live table id e → is_part e.parts page ≡ false)
   pub apart : (page : ℕ) → is_private parts page ≡ true → is_shared parts page ≡ false
 
--- create: what each check asks, of the parts as they are kept, and the refusal where it does not hold
+-- create: what each check asks, of the parts as they are kept, and the refusal where it does not
+-- hold
 abbrev pub create_checks : EnclaveTable → World → Create → List (Refusal × Type 0)
 create_checks table world parts =
     (NotHost, world ≡ Host)
@@ -34,7 +40,8 @@ create_checks table world parts =
     ∷ ((TableFull, (id : ℕ) × IsFree table id)
     ∷ []))))))
 
--- the calls of the host on an enclave: the host asks, the id is live, and the enclave is in a state that the call wants
+-- the calls of the host on an enclave: the host asks, the id is live, and the enclave is in a state
+-- that the call wants
 abbrev pub host_checks : (Stage → Type 0) → EnclaveTable → World → ℕ → List (Refusal × Type 0)
 host_checks Wanted table world id =
     (NotHost, world ≡ Host)

@@ -17,7 +17,8 @@ abbrev pub fresh : (ℕ → List ℕ) → Create → Enclave
 fresh pages parts = record { parts = parts; state = Fresh; digest = measured pages parts }
 
 -- create, where it is not refused: one more enclave under the next id, and it and the host fit
-pub record Creates (pages : ℕ → List ℕ) (old : EnclaveTable) (world : World) (asked : Create) (id : ℕ) (new : EnclaveTable) : Type 0 where
+pub record Creates (pages : ℕ → List ℕ) (old : EnclaveTable) (world : World) (asked : Create)
+    (id : ℕ) (new : EnclaveTable) : Type 0 where
   pub passes : AllPass (create_checks old world (parts_of asked))
   pub next : IsNextId old id
   pub added : new ≡ with_enclave old id (Some (fresh pages (parts_of asked)))
@@ -27,12 +28,14 @@ pub record Creates (pages : ℕ → List ℕ) (old : EnclaveTable) (world : Worl
 -- the host's view or the enclave's would need more entries than there are
 abbrev pub OutgrowsByCreate : (ℕ → List ℕ) → EnclaveTable → Create → Type 0
 OutgrowsByCreate pages old asked =
-    ((id : ℕ) × IsNextId old id × NeedsMore old.layout.limit (host_view (with_enclave old id (Some (fresh pages (parts_of asked))))))
+    ((id : ℕ) × IsNextId old id × NeedsMore old.layout.limit
+    (host_view (with_enclave old id (Some (fresh pages (parts_of asked))))))
     ⊎ NeedsMore old.layout.limit (enclave_view (parts_of asked))
 
 -- a digest is that of the private pages of a creation, where it passes its checks
 abbrev pub IsMeasured : EnclaveTable → World → Create → List ℕ → (ℕ → List ℕ) → Type 0
-IsMeasured table world asked digest pages = AllPass (create_checks table world (parts_of asked)) → digest ≡ measured pages (parts_of asked)
+IsMeasured table world asked digest pages = AllPass (create_checks table world (parts_of asked))
+    → digest ≡ measured pages (parts_of asked)
 
 -- the enclave as it is made, with that digest
 abbrev pub measured_as : List ℕ → Create → Enclave

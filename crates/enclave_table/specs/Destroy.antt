@@ -9,9 +9,15 @@ use Rattle.enclave_table.specs.Fewest.{FitsIn}
 use Rattle.enclave_table.specs.declared.enclave.Enclave.{Enclave}
 use Rattle.pmp_encoding.specs.declared.pages.PageRange.{PageRange}
 
--- destroy, where it is not refused: the enclave is gone, its private pages are to be zeroed, and the host fits
-pub record Destroys (old : EnclaveTable) (world : World) (id : ℕ) (range : PageRange) (new : EnclaveTable) : Type 0 where
+-- destroy, where it is not refused: the enclave is gone, its private pages are to be zeroed, and
+-- the host fits
+pub record Destroys (old : EnclaveTable) (world : World) (id : ℕ) (range : PageRange)
+    (new : EnclaveTable) : Type 0 where
   pub passes : AllPass (host_checks MayDestroy old world id)
-  pub pages : (e : Enclave) → Live old id e → range ≡ record { first = e.parts.base / 4096; count = e.parts.text_pages + e.parts.data_pages }
+  pub pages : (e : Enclave) → Live old id e
+      → range ≡ record {
+        first = e.parts.base / 4096;
+        count = e.parts.text_pages + e.parts.data_pages;
+      }
   pub removed : new ≡ with_enclave old id None
   pub host_fits : FitsIn new.layout.limit (host_view new)

@@ -13,10 +13,12 @@ use Rattle.enclave_table.specs.declared.life.Leaving.TheVariants.{Stop, Exit}
 
 -- the same table, but that the enclave is in that state
 abbrev pub Turns : EnclaveTable → ℕ → Stage → EnclaveTable → Type 0
-Turns old id state new = (e : Enclave) × Live old id e × (new ≡ with_enclave old id (Some (record e { state = state })))
+Turns old id state new = (e : Enclave) × Live old id e
+    × (new ≡ with_enclave old id (Some (record e { state = state })))
 
 -- run and resume: the enclave that is entered was in that state before
-pub record Enters (old : EnclaveTable) (world : World) (id : ℕ) (before : Stage) (new : EnclaveTable) : Type 0 where
+pub record Enters (old : EnclaveTable) (world : World) (id : ℕ) (before : Stage)
+    (new : EnclaveTable) : Type 0 where
   pub passes : AllPass (host_checks (λ state. state ≡ before) old world id)
   pub turned : Turns old id Running new
 
@@ -25,7 +27,9 @@ abbrev pub state_after : Leaving → Stage
 state_after Stop = Stopped
 state_after Exit = Exited
 
--- stop, exit, and an interrupt in an enclave: the enclave that was left has this id, and is in that state after it
-pub record Leaves (old : EnclaveTable) (world : World) (state : Stage) (id : ℕ) (new : EnclaveTable) : Type 0 where
+-- stop, exit, and an interrupt in an enclave: the enclave that was left has this id, and is in that
+-- state after it
+pub record Leaves (old : EnclaveTable) (world : World) (state : Stage) (id : ℕ)
+    (new : EnclaveTable) : Type 0 where
   pub left : world ≡ InEnclave id
   pub turned : Turns old id state new

@@ -5,7 +5,8 @@ use Rattle.prefix_tree.specs.Trees.{PermTree, TreeMeans, IsCanonical}
 use Rattle.sbi_decode.specs.declared.world.World.{World}
 use Rattle.sbi_decode.specs.declared.world.World.TheVariants.{Host, Enclave as InEnclave}
 use Rattle.platforms.specs.Platform.{is_ram, IsLayout}
-use Rattle.measurement.specs.Requests.{is_private, is_shared, is_part, HasCounts, HasPlaces, HasEntry}
+use Rattle.measurement.specs.Requests.{is_private, is_shared, is_part, HasCounts, HasPlaces}
+use Rattle.measurement.specs.Requests.{HasEntry}
 use Rattle.enclave_table.specs.Enclaves.{EnclaveTable, Live}
 use Rattle.enclave_table.specs.Views.{host_view, enclave_view}
 use Rattle.enclave_table.specs.Fewest.{IsListOf}
@@ -14,13 +15,15 @@ use Rattle.enclave_table.specs.declared.enclave.Stage.TheVariants.{Running}
 use Rattle.measurement.specs.declared.request.Create.{Create}
 use Rattle.platforms.specs.Ranges.{has_page}
 
--- each live enclave is as create asked for it, its pages are memory, and none of the monitor's or both private and shared
+-- each live enclave is as create asked for it, its pages are memory, and none of the monitor's or
+-- both private and shared
 pub record IsSound (table : EnclaveTable) (parts : Create) : Type 0 where
   pub counts : HasCounts parts
   pub places : HasPlaces parts
   pub entry : HasEntry parts
   pub in_ram : (page : ℕ) → is_part parts page ≡ true → is_ram table.layout page ≡ true
-  pub not_monitor : (page : ℕ) → is_part parts page ≡ true → has_page table.layout.monitor page ≡ false
+  pub not_monitor : (page : ℕ) → is_part parts page ≡ true
+      → has_page table.layout.monitor page ≡ false
   pub apart : (page : ℕ) → is_private parts page ≡ true → is_shared parts page ≡ false
 
 -- what is true of every table: 64 places, and no page belongs to two enclaves
@@ -28,7 +31,8 @@ pub record IsTable (table : EnclaveTable) : Type 0 where
   pub layout : IsLayout table.layout
   pub places : length table.enclaves ≡ 64
   pub sound : (id : ℕ) (e : Enclave) → Live table id e → IsSound table e.parts
-  pub alone : (id other : ℕ) (e f : Enclave) (page : ℕ) → Live table id e → Live table other f → is_part e.parts page ≡ true → is_part f.parts page ≡ true → id ≡ other
+  pub alone : (id other : ℕ) (e f : Enclave) (page : ℕ) → Live table id e → Live table other f
+      → is_part e.parts page ≡ true → is_part f.parts page ≡ true → id ≡ other
 
 -- the host, or an enclave that is Running
 abbrev pub IsCurrent : EnclaveTable → World → Type 0
@@ -50,7 +54,8 @@ pub record IsKept (kept : Kept) : Type 0 where
   pub table : IsTable kept.table
   pub host : IsListOf kept.table.layout.limit (host_view kept.table) kept.host_list
   pub places : length kept.lists ≡ 64
-  pub each : (id : ℕ) (e : Enclave) → Live kept.table id e → IsListOf kept.table.layout.limit (enclave_view e.parts) (list_at kept id)
+  pub each : (id : ℕ) (e : Enclave) → Live kept.table id e
+      → IsListOf kept.table.layout.limit (enclave_view e.parts) (list_at kept id)
 
 -- the tree of the host's view
 pub record IsHostTree (table : EnclaveTable) (tree : PermTree) : Type 0 where

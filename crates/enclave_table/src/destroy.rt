@@ -12,8 +12,7 @@ ghost use Rattle.enclave_table.specs.Enclaves.{with_enclave};
 use crate::entry_list::EntryList;
 use crate::refusal::Refusal;
 use crate::table::Table;
-use pmp_encoding::PageRange;
-use pmp_encoding::Perm;
+use pmp_encoding::{PageRange, Perm};
 use sbi_decode::World;
 
 impl Table {

@@ -13,10 +13,9 @@ use crate::entry_list::EntryList;
 use crate::planned::{PlannedView, enclave_plan};
 use crate::refusal::Refusal;
 use crate::table::Table;
-use measurement::Create;
 use entry_planner::Plan;
-use pmp_encoding::PageRange;
-use pmp_encoding::{Limit, Perm};
+use measurement::Create;
+use pmp_encoding::{Limit, PageRange, Perm};
 use prefix_tree::Tree;
 use std::alloc::Global;
 

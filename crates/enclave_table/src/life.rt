@@ -61,7 +61,8 @@ impl Table {
             (Enters self.old.table world id (state_before entering) self.new.table) }
         ensures lists { OnOk result (self.new ≡ record self.old { table = self.new.table }) }
         ensures refused { IfErr result (λ refusal.
-            FailsFirst (host_checks (λ state. state ≡ state_before entering) self.old.table world id)
+            FailsFirst (host_checks (λ state. state ≡ state_before entering) self.old.table world
+            id)
             refusal) }
         ensures kept { OnErr result (self.new ≡ self.old) }
     {

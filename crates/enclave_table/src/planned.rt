@@ -9,11 +9,10 @@ ghost use Rattle.enclave_table.specs.Views.{host_view, enclave_view};
 
 use crate::table::Table;
 use crate::views::enclave_map;
-use measurement::Create;
 use entry_planner::{Plan, plan, plan_map};
-use pmp_encoding::PageRange;
+use measurement::Create;
 use permission_map::{MapFault, Memory};
-use pmp_encoding::Perm;
+use pmp_encoding::{PageRange, Perm};
 use prefix_tree::Tree;
 use std::alloc::{AllocError, Global};
 

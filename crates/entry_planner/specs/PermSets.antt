@@ -2,7 +2,8 @@
 use Rattle.std.specs.Prelude.{ℕ, ◌+◌, ◌*◌, Bool, ◌==◌, if◌then◌else◌}
 use Rattle.std.specs.Int.{bit_at}
 use Rattle.pmp_encoding.specs.declared.perm.Perm.{Perm}
-use Rattle.pmp_encoding.specs.declared.perm.Perm.TheVariants.{NoAccess, Read, ReadWrite, Execute, ReadExecute, ReadWriteExecute}
+use Rattle.pmp_encoding.specs.declared.perm.Perm.TheVariants.{NoAccess, Read, ReadWrite, Execute}
+use Rattle.pmp_encoding.specs.declared.perm.Perm.TheVariants.{ReadExecute, ReadWriteExecute}
 use Rattle.pmp_encoding.specs.Perms.{index_of}
 
 -- whether the permission is in the set: the bit at its place in the fixed order is set
@@ -15,4 +16,5 @@ bit_of b = if b then 1 else 0
 
 abbrev pub set_of : (Perm → Bool) → ℕ
 set_of f =
-    bit_of (f NoAccess) + 2 * bit_of (f Read) + 4 * bit_of (f ReadWrite) + 8 * bit_of (f Execute) + 16 * bit_of (f ReadExecute) + 32 * bit_of (f ReadWriteExecute)
+    bit_of (f NoAccess) + 2 * bit_of (f Read) + 4 * bit_of (f ReadWrite) + 8 * bit_of (f Execute) +
+    16 * bit_of (f ReadExecute) + 32 * bit_of (f ReadWriteExecute)

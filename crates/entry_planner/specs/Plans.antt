@@ -1,5 +1,7 @@
--- What a plan keeps of each split block: its least number, and the permissions that are best for both of its halves and for either.
-use Rattle.std.specs.Prelude.{◌≡◌, ℕ, zero, suc, ◌+◌, ◌^◌, ◌<◌, List, [], ◌∷◌, ◌++◌, length, All, ◌&&◌, ◌||◌, ◌==◌, if◌then◌else◌}
+-- What a plan keeps of each split block: its least number, and the permissions that are best for
+-- both of its halves and for either.
+use Rattle.std.specs.Prelude.{◌≡◌, ℕ, zero, suc, ◌+◌, ◌^◌, ◌<◌, List, [], ◌∷◌, ◌++◌, length, All}
+use Rattle.std.specs.Prelude.{◌&&◌, ◌||◌, ◌==◌, if◌then◌else◌}
 use Rattle.pmp_encoding.specs.declared.perm.Perm.{Perm}
 use Rattle.pmp_encoding.specs.declared.region.Entry.{Entry}
 use Rattle.pmp_match.specs.Bounds.{BoundTree, Leaf, Branch}
@@ -27,7 +29,8 @@ pub record AreSmall (plan : Planned) : Type 0 where
 abbrev pub block_cost : PermTree → BlockCost
 block_cost tree = record { least = least_cost tree; best = record { bits = set_of (is_best tree) } }
 
--- a split block's least number, and the permissions that are best for both of its halves, and for either
+-- a split block's least number, and the permissions that are best for both of its halves, and for
+-- either
 abbrev pub split_cost : PermTree → PermTree → SplitCost
 split_cost lower upper =
     record {
@@ -36,9 +39,13 @@ split_cost lower upper =
       either = record { bits = set_of (λ p. is_best lower p || is_best upper p) };
     }
 
--- what it costs as a block: the best for both halves are its best, or, where there is none, the best for either
+-- what it costs as a block: the best for both halves are its best, or, where there is none, the
+-- best for either
 abbrev pub as_block : SplitCost → BlockCost
-as_block c = record { least = c.least; best = record { bits = if c.both.bits == 0 then c.either.bits else c.both.bits } }
+as_block c = record {
+  least = c.least;
+  best = record { bits = if c.both.bits == 0 then c.either.bits else c.both.bits };
+}
 
 -- those of the split blocks in preorder: the block, its lower half's, its upper half's
 abbrev pub costs_in : PermTree → List SplitCost
@@ -58,13 +65,16 @@ cost_in (c ∷ costs) (suc i) p = cost_in costs i p
 -- the tree with the costs of a list that has its split blocks in preorder from the i-th on
 abbrev pub costed : List SplitCost → ℕ → PermTree → BoundTree
 costed costs i (Uniform q) = Leaf q
-costed costs i (Split lower upper) = Branch (cost_in costs i) (costed costs (i + 1) lower) (costed costs (i + 1 + splits lower) upper)
+costed costs i (Split lower upper) =
+    Branch (cost_in costs i) (costed costs (i + 1) lower)
+    (costed costs (i + 1 + splits lower) upper)
 
 -- the split blocks of the tree, in preorder from the i-th of the list on, cost what they cost
 abbrev pub CostsAre : List SplitCost → ℕ → PermTree → Type 0
 CostsAre costs i (Uniform q) = Unit {0}
 CostsAre costs i (Split lower upper) =
-    ((p : Perm) → cost_in costs i p ≡ cost (Split lower upper) p) × CostsAre costs (i + 1) lower × CostsAre costs (i + 1 + splits lower) upper
+    ((p : Perm) → cost_in costs i p ≡ cost (Split lower upper) p) × CostsAre costs (i + 1) lower
+    × CostsAre costs (i + 1 + splits lower) upper
 
 -- the plan has the entries that are chosen for the tree, in order, and its costs
 pub record IsMade (tree : PermTree) (plan : Planned) : Type 0 where

@@ -4,8 +4,7 @@ use crate::beside::beside;
 use crate::costs::SplitCost;
 use crate::packed_cost::PackedCost;
 use crate::shelves::Shelves;
-use pmp_encoding::{PAGE_SIZE, pages_of};
-use pmp_encoding::{Entry, PackedEntry, Perm, Region};
+use pmp_encoding::{Entry, PAGE_SIZE, PackedEntry, Perm, Region, pages_of};
 use prefix_tree::{Chain, Halving};
 use std::alloc::AllocError;
 

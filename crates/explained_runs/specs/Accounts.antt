@@ -29,14 +29,19 @@ pub record Account : Type 0 where
 abbrev pub opened : Machine → Account
 opened machine = record { machine = machine; happened = [] }
 
--- what a line does to the machine, as `DoesLine` has it, and what then has happened: one thing more where it says an event, which is
--- what the event asked of the machine before it, and the reply that the answer tells
+-- what a line does to the machine, as `DoesLine` has it, and what then has happened: one thing more
+-- where it says an event, which is what the event asked of the machine before it, and the reply
+-- that the answer tells
 abbrev pub AccountsLine : Meaning Account
-AccountsLine old count line None new = DoesLine old.machine count line None new.machine × (new.happened ≡ old.happened)
+AccountsLine old count line None new = DoesLine old.machine count line None new.machine
+    × (new.happened ≡ old.happened)
 AccountsLine old count line (Some text) new =
-    (hart : ℕ) × (event : Event) × (reply : Reply) × (meaning_of (state_of old.machine).table.layout.harts line ≡ Some (Some (hart, event)))
-    × Happens old.machine hart event reply new.machine × (reply ≢ NoMemory) × (text ≡ reply_text (count + 1) reply)
-    × (asked : Asked) × IsAsked old.machine hart event asked × (new.happened ≡ old.happened ++ (record { asked = asked; reply = reply }) ∷ [])
+    (hart : ℕ) × (event : Event) × (reply : Reply)
+    × (meaning_of (state_of old.machine).table.layout.harts line ≡ Some (Some (hart, event)))
+    × Happens old.machine hart event reply new.machine × (reply ≢ NoMemory)
+    × (text ≡ reply_text (count + 1) reply)
+    × (asked : Asked) × IsAsked old.machine hart event asked
+    × (new.happened ≡ old.happened ++ (record { asked = asked; reply = reply }) ∷ [])
 
 -- a line that the machine does not understand
 abbrev pub RefusesAccount : Account → List ℕ → Type 0
@@ -44,12 +49,15 @@ RefusesAccount old line = RefusesLine old.machine line
 
 -- a line that wants memory which is refused: it has no answer, and is no part of what happened
 abbrev pub StarvesAccount : Account → List ℕ → Account → Type 0
-StarvesAccount old line new = StarvesLine old.machine line new.machine × (new.happened ≡ old.happened)
+StarvesAccount old line new = StarvesLine old.machine line new.machine
+    × (new.happened ≡ old.happened)
 
 -- the comment on the answer to a line: on what happened by it
 abbrev pub on_event : Comments Account
 on_event = λ old line answer new comment.
-    (asked : Asked) × (reply : Reply) × (new.happened ≡ old.happened ++ (record { asked = asked; reply = reply }) ∷ []) × IsComment (state_of new.machine).table asked reply comment
+    (asked : Asked) × (reply : Reply)
+    × (new.happened ≡ old.happened ++ (record { asked = asked; reply = reply }) ∷ [])
+    × IsComment (state_of new.machine).table asked reply comment
 
 -- what a line does whose answer is explained
 abbrev pub ExplainsLine : Meaning Account

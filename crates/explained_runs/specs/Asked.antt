@@ -18,13 +18,18 @@ use Rattle.explained_runs.specs.declared.asked.Deed.TheVariants as deeds
 
 -- the entry that decides by the list that an access on a hart meets, by which it is judged
 abbrev pub by_met : Machine → ℕ → Decides
-by_met machine hart a found = (list : List Entry) → MeetsList (state_of machine) (kept_of machine) (bank_on machine) hart list → DecidesIn list a found
+by_met machine hart a found = (list : List Entry)
+    → MeetsList (state_of machine) (kept_of machine) (bank_on machine) hart list
+    → DecidesIn list a found
 
--- what an event asks: an access with what decides it, and the call that the registers name once its words are there
+-- what an event asks: an access with what decides it, and the call that the registers name once its
+-- words are there
 pub data IsDeed (machine : Machine) (hart : ℕ) : Event → Deed → Type 0 where
-  access : (a : Access) (value : ℕ) (reason : Reason) → IsReason (by_met machine hart) a reason → IsDeed machine hart (events.Access a value) (deeds.Access a reason)
+  access : (a : Access) (value : ℕ) (reason : Reason) → IsReason (by_met machine hart) a reason
+      → IsDeed machine hart (events.Access a value) (deeds.Access a reason)
   setting : (n value : ℕ) → IsDeed machine hart (events.Reg n value) (deeds.Setting n value)
-  call : (words : _) → IsDeed machine hart (events.Ecall words) (deeds.Call (call_of (calling (state_of machine) hart words.items)))
+  call : (words : _) → IsDeed machine hart (events.Ecall words)
+      (deeds.Call (call_of (calling (state_of machine) hart words.items)))
   interrupt : IsDeed machine hart events.Irq deeds.Interrupt
 
 -- what an event asks on a hart, and the world that runs there before it

@@ -13,7 +13,8 @@ use Rattle.hart_trace.specs.declared.reply.Reply.TheVariants as replies
 use Rattle.explained_runs.specs.declared.asked.Deed.{Deed}
 use Rattle.explained_runs.specs.declared.asked.Deed.TheVariants as deeds
 use Rattle.explained_runs.specs.declared.outcome.Outcome.{Outcome}
-use Rattle.explained_runs.specs.declared.outcome.Outcome.TheVariants.{Done, Refused, HostNeeds, EnclaveNeeds}
+use Rattle.explained_runs.specs.declared.outcome.Outcome.TheVariants.{Done, Refused, HostNeeds}
+use Rattle.explained_runs.specs.declared.outcome.Outcome.TheVariants.{EnclaveNeeds}
 
 -- how far a status is below zero, where it is
 abbrev pub below_zero : ℤ → Option ℕ
@@ -30,26 +31,41 @@ abbrev pub outcome_in : Reply → Outcome
 outcome_in (replies.Call status value world used) = told_by (below_zero status) value
 outcome_in _ = Done 0
 
--- the view that would need more entries after a creation than there are, and how many: the host's, or where that one fits, that of
--- the new enclave
+-- the view that would need more entries after a creation than there are, and how many: the host's,
+-- or where that one fits, that of the new enclave
 abbrev pub OutgrownByCreate : EnclaveTable → Create → Outcome → Type 0
-OutgrownByCreate table asked (HostNeeds n) = NeedsWithCreated table asked n × (limit_number table.layout.limit < n)
-OutgrownByCreate table asked (EnclaveNeeds n) = Needs (enclave_view (parts_of asked)) n × (limit_number table.layout.limit < n) × ((m : ℕ) × NeedsWithCreated table asked m × (m ≤ limit_number table.layout.limit))
+OutgrownByCreate table asked (HostNeeds n) = NeedsWithCreated table asked n
+    × (limit_number table.layout.limit < n)
+OutgrownByCreate table asked (EnclaveNeeds n) = Needs (enclave_view (parts_of asked)) n
+    × (limit_number table.layout.limit < n)
+    × ((m : ℕ) × NeedsWithCreated table asked m × (m ≤ limit_number table.layout.limit))
 OutgrownByCreate table asked _ = ⊥
 
 -- the same of a destruction, whose one view is the host's
 abbrev pub OutgrownByDestroy : EnclaveTable → ℕ → Outcome → Type 0
-OutgrownByDestroy table id (HostNeeds n) = Needs (host_view (with_enclave table id None)) n × (limit_number table.layout.limit < n)
+OutgrownByDestroy table id (HostNeeds n) = Needs (host_view (with_enclave table id None)) n
+    × (limit_number table.layout.limit < n)
 OutgrownByDestroy table id _ = ⊥
 
 -- the same of what was asked
 abbrev pub OutgrownBy : EnclaveTable → Deed → Outcome → Type 0
-OutgrownBy table (deeds.Call (Some (calls.Create base text_pages data_pages shared_base shared_count entry_offset))) outcome =
-    OutgrownByCreate table (record { base = base; text_pages = text_pages; data_pages = data_pages; shared_base = shared_base; shared_count = shared_count; entry_offset = entry_offset }) outcome
+OutgrownBy table (deeds.Call (Some
+    (calls.Create base text_pages data_pages shared_base shared_count entry_offset))) outcome =
+    OutgrownByCreate table (record {
+      base = base;
+      text_pages = text_pages;
+      data_pages = data_pages;
+      shared_base = shared_base;
+      shared_count = shared_count;
+      entry_offset = entry_offset;
+    })
+    outcome
 OutgrownBy table (deeds.Call (Some (calls.Destroy id))) outcome = OutgrownByDestroy table id outcome
 OutgrownBy table _ outcome = ⊥
 
--- what came of an event: what its reply says; or where that says too few entries, which leaves the table as it is, the view that needs
--- more than there are. Where memory is refused for finding that view, it is what the reply says
+-- what came of an event: what its reply says; or where that says too few entries, which leaves the
+-- table as it is, the view that needs more than there are. Where memory is refused for finding that
+-- view, it is what the reply says
 abbrev pub IsOutcome : EnclaveTable → Deed → Reply → Outcome → Type 0
-IsOutcome table deed reply outcome = (outcome ≡ outcome_in reply) ⊎ ((outcome_in reply ≡ Refused 108) × OutgrownBy table deed outcome)
+IsOutcome table deed reply outcome = (outcome ≡ outcome_in reply)
+    ⊎ ((outcome_in reply ≡ Refused 108) × OutgrownBy table deed outcome)

@@ -8,10 +8,13 @@ use Rattle.explained_runs.specs.Accounts.{Account, ExplainsLine}
 -- each of these is an answer with a comment behind it
 abbrev pub AreExplained : List (List ℕ) → List (List ℕ) → Type 0
 AreExplained [] [] = Unit {0}
-AreExplained (answer ∷ answers) (said ∷ rest) = ((comment : List ℕ) × (said ≡ explained answer comment)) × AreExplained answers rest
+AreExplained (answer ∷ answers) (said ∷ rest) =
+    ((comment : List ℕ) × (said ≡ explained answer comment)) × AreExplained answers rest
 AreExplained _ _ = ⊥
 
 -- what lines do in turn whose answers are explained, they do without comments too
 abbrev pub IsRunExplained : Type 0
 IsRunExplained =
-    (old new : Account) (lines said : List (List ℕ)) → Does ExplainsLine old lines said new → (answers : List (List ℕ)) × Does DoesLine old.machine lines answers new.machine × AreExplained answers said
+    (old new : Account) (lines said : List (List ℕ)) → Does ExplainsLine old lines said new
+    → (answers : List (List ℕ)) × Does DoesLine old.machine lines answers new.machine
+    × AreExplained answers said

@@ -3,7 +3,8 @@ use Rattle.std.specs.Prelude.{ℕ, ◌==◌, if◌then◌else◌, List, codes}
 use Rattle.sbi_decode.specs.declared.calls.Call.{Call}
 use Rattle.sbi_decode.specs.declared.calls.Call.TheVariants as calls
 
--- what is said of a caller that may not make a call: stop and exit are an enclave's, all others that ask are the host's
+-- what is said of a caller that may not make a call: stop and exit are an enclave's, all others
+-- that ask are the host's
 abbrev pub caller_text : Call → List ℕ
 caller_text calls.Stop = codes "not an enclave"
 caller_text (calls.Exit value) = codes "not an enclave"

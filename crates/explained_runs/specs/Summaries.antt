@@ -1,10 +1,12 @@
 -- The summary of a run, as it is printed.
-use Rattle.std.specs.Prelude.{ℕ, zero, suc, ◌+◌, ◌==◌, Bool, cond, if◌then◌else◌, is_some, List, [], ◌∷◌, ◌++◌, codes, decimal}
+use Rattle.std.specs.Prelude.{ℕ, zero, suc, ◌+◌, ◌==◌, Bool, cond, if◌then◌else◌, is_some, List, []}
+use Rattle.std.specs.Prelude.{◌∷◌, ◌++◌, codes, decimal}
 use Rattle.enclave_table.specs.Enclaves.{EnclaveTable, enclave_at}
 use Rattle.hart_sim.specs.States.{MachineState}
 use Rattle.explained_runs.specs.declared.groups.Count.{Count}
 use Rattle.explained_runs.specs.declared.groups.Subject.{Subject}
-use Rattle.explained_runs.specs.declared.groups.Subject.TheVariants.{Events, Faults, Calls, Refusals}
+use Rattle.explained_runs.specs.declared.groups.Subject.TheVariants.{Events, Faults, Calls}
+use Rattle.explained_runs.specs.declared.groups.Subject.TheVariants.{Refusals}
 use Rattle.explained_runs.specs.Accounts.{Happening}
 use Rattle.explained_runs.specs.Tallies.{counts_of, most_used, total_of}
 
@@ -46,15 +48,18 @@ kind_name Refusals kind = codes "-" ++ decimal kind
 abbrev pub part_text : Subject → Count → List ℕ
 part_text subject count = kind_name subject count.kind ++ codes ": " ++ decimal count.number
 
--- the counts that are not zero, after one that was told, each behind a comma, and the bracket that closes
+-- the counts that are not zero, after one that was told, each behind a comma, and the bracket that
+-- closes
 abbrev pub more_text : Subject → List Count → List ℕ
 more_text subject [] = codes ")"
-more_text subject (count ∷ counts) = if count.number == 0 then more_text subject counts else codes ", " ++ part_text subject count ++ more_text subject counts
+more_text subject (count ∷ counts) = if count.number == 0 then more_text subject counts
+    else codes ", " ++ part_text subject count ++ more_text subject counts
 
 -- the counts that are not zero, in brackets, and nothing where there are none
 abbrev pub parts_text : Subject → List Count → List ℕ
 parts_text subject [] = []
-parts_text subject (count ∷ counts) = if count.number == 0 then parts_text subject counts else codes " (" ++ part_text subject count ++ more_text subject counts
+parts_text subject (count ∷ counts) = if count.number == 0 then parts_text subject counts
+    else codes " (" ++ part_text subject count ++ more_text subject counts
 
 -- `# NAME: N`, the whole without the end of the line
 abbrev pub named_text : List ℕ → ℕ → List ℕ
@@ -66,7 +71,8 @@ counted_text name n parts = if n == 0 then [] else named_text name n ++ (parts +
 
 -- the line of a subject
 abbrev pub subject_text : Subject → List Happening → List ℕ
-subject_text subject happened = counted_text (title subject) (total_of subject happened) (parts_text subject (counts_of subject happened))
+subject_text subject happened = counted_text (title subject) (total_of subject happened)
+    (parts_text subject (counts_of subject happened))
 
 -- the line of the most entries that any reply said are loaded
 abbrev pub most_text : ℕ → List ℕ
@@ -87,7 +93,8 @@ marked_count s = how_many s.marked s.table.layout.harts
 
 -- the line of the end, always there
 abbrev pub end_text : ℕ → ℕ → List ℕ
-end_text live marked = named_text (codes "at the end: enclaves live") live ++ codes ", harts marked: " ++ decimal marked ++ codes "\n"
+end_text live marked = named_text (codes "at the end: enclaves live") live
+    ++ codes ", harts marked: " ++ decimal marked ++ codes "\n"
 
 -- the summary of what happened, and of the state after it
 abbrev pub summary_text : List Happening → MachineState → List ℕ

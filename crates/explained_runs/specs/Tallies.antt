@@ -1,5 +1,6 @@
 -- What is counted of a run.
-use Rattle.std.specs.Prelude.{◌≡◌, ℕ, ◌+◌, ◌-◌, ◌^◌, ◌==◌, max, min, Bool, false, is_some, List, [], ◌∷◌, map, count_by, if◌then◌else◌, Option, Some, None}
+use Rattle.std.specs.Prelude.{◌≡◌, ℕ, ◌+◌, ◌-◌, ◌^◌, ◌==◌, max, min, Bool, false, is_some, List, []}
+use Rattle.std.specs.Prelude.{◌∷◌, map, count_by, if◌then◌else◌, Option, Some, None}
 use Rattle.pmp_match.specs.Causes.{cause_number}
 use Rattle.sbi_decode.specs.declared.calls.Call.{Call}
 use Rattle.sbi_decode.specs.declared.calls.Call.TheVariants as calls
@@ -11,7 +12,8 @@ use Rattle.explained_runs.specs.declared.asked.Deed.TheVariants as deeds
 use Rattle.explained_runs.specs.declared.groups.Count.{Count}
 use Rattle.explained_runs.specs.declared.groups.Group.{Group}
 use Rattle.explained_runs.specs.declared.groups.Subject.{Subject}
-use Rattle.explained_runs.specs.declared.groups.Subject.TheVariants.{Events, Faults, Calls, Refusals}
+use Rattle.explained_runs.specs.declared.groups.Subject.TheVariants.{Events, Faults, Calls}
+use Rattle.explained_runs.specs.declared.groups.Subject.TheVariants.{Refusals}
 use Rattle.explained_runs.specs.declared.tally.Tally.{Tally}
 use Rattle.explained_runs.specs.Accounts.{Account, ExplainsLine, Happening}
 use Rattle.explained_runs.specs.Outcomes.{below_zero}
@@ -30,7 +32,8 @@ fault_kind _ = None
 
 -- a function of the monitor by its number, and 7 for a call of none of them
 abbrev pub function_of : Option Call → ℕ
-function_of (Some (calls.Create base text_pages data_pages shared_base shared_count entry_offset)) = 0
+function_of (Some (calls.Create base text_pages data_pages shared_base shared_count entry_offset)) =
+    0
 function_of (Some (calls.Destroy id)) = 1
 function_of (Some (calls.Run id)) = 2
 function_of (Some calls.Stop) = 3
@@ -74,11 +77,15 @@ kept n = min n (2 ^ 64 - 1)
 
 -- how many belong to a subject
 abbrev pub total_of : Subject → List Happening → ℕ
-total_of subject happened = kept (count_by (λ happening. is_some (kind_in subject happening)) happened)
+total_of subject happened = kept (count_by (λ happening. is_some (kind_in subject happening))
+    happened)
 
 -- how many are of a kind
 abbrev pub count_of : Subject → List Happening → ℕ → Count
-count_of subject happened kind = record { kind = kind; number = kept (count_by (λ happening. is_kind kind (kind_in subject happening)) happened) }
+count_of subject happened kind = record {
+  kind = kind;
+  number = kept (count_by (λ happening. is_kind kind (kind_in subject happening)) happened);
+}
 
 -- how many are of each kind
 abbrev pub counts_of : Subject → List Happening → List Count
@@ -86,7 +93,10 @@ counts_of subject happened = map (count_of subject happened) (kinds_of subject)
 
 -- a count with one more of a kind, where it is of that kind
 abbrev pub with_one : ℕ → Count → Count
-with_one kind count = record { kind = count.kind; number = if kind == count.kind then kept (count.number + 1) else count.number }
+with_one kind count = record {
+  kind = count.kind;
+  number = if kind == count.kind then kept (count.number + 1) else count.number;
+}
 
 -- a group has counted what happened under its subject
 pub record IsGroupOf (subject : Subject) (happened : List Happening) (group : Group) : Type 0 where
@@ -114,9 +124,13 @@ pub record IsTallyOf (happened : List Happening) (tally : Tally) : Type 0 where
 
 -- a machine has an account of what happened to it, which a tally counted, and of which this holds
 abbrev pub HasAccount : Machine → Tally → (Account → Type 0) → Type 0
-HasAccount machine tally Holds = (happened : List Happening) × IsTallyOf happened tally × Holds (record { machine = machine; happened = happened })
+HasAccount machine tally Holds = (happened : List Happening) × IsTallyOf happened tally
+    × Holds (record { machine = machine; happened = happened })
 
--- what a line does, told of the machine and the tally: of whatever the tally has counted, the account goes on, and the tally with it
+-- what a line does, told of the machine and the tally: of whatever the tally has counted, the
+-- account goes on, and the tally with it
 abbrev pub ExplainsNext : Machine → Tally → ℕ → List ℕ → Option (List ℕ) → Machine → Tally → Type 0
 ExplainsNext old counted n line said new counts =
-    (happened : List Happening) → IsTallyOf happened counted → HasAccount new counts (λ account. ExplainsLine (record { machine = old; happened = happened }) n line said account)
+    (happened : List Happening) → IsTallyOf happened counted
+    → HasAccount new counts (λ account. ExplainsLine
+    (record { machine = old; happened = happened }) n line said account)

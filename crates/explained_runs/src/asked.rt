@@ -5,12 +5,11 @@ ghost use Rattle.hart_trace.specs.declared.event.Event.{Event};
 ghost use Rattle.trace_answers.specs.Reasons.{IsReason};
 ghost use Rattle.explained_runs.specs.Asked.{by_met, IsAsked, IsDeed};
 
-use trace_answers::{Reason, reason_of};
 use hart_sim::{Event, Machine};
 use pmp_encoding::Bank;
 use pmp_match::Access;
-use sbi_decode::Call;
-use sbi_decode::World;
+use sbi_decode::{Call, World};
+use trace_answers::{Reason, reason_of};
 
 /// What an event asks.
 #[derive(Clone, Copy)]

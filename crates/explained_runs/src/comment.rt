@@ -10,12 +10,11 @@ use crate::outcome::{Outcome, outcome_of};
 use crate::refusals::refusal_text;
 use arrayvec::ArrayVec;
 use enclave_table::Table;
-use trace_answers::{Comment, push_address, push_number, push_reason};
 use hart_sim::Reply;
 use lint_texts::append;
 use pmp_match::{Access, Kind};
-use sbi_decode::Call;
-use sbi_decode::World;
+use sbi_decode::{Call, World};
+use trace_answers::{Comment, push_address, push_number, push_reason};
 
 /// Appends `host`, or `enclave ID`.
 fn push_world(comment: &mut Comment, world: World)

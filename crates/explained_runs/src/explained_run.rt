@@ -10,9 +10,9 @@ use crate::asked::asked_of;
 use crate::comment::comment_on;
 use crate::tally::Tally;
 use byte_streams::{Sink, Source};
-use trace_answers::explain;
 use hart_sim::{Machine, push_reply};
 use text_lines::{Interpreter, Line, Refusal, RunFault, interpret_lines};
+use trace_answers::explain;
 
 /// A machine whose answers are explained, and the tally of what happened to it.
 #[derive(Drop)]

@@ -5,11 +5,10 @@ ghost use Rattle.measurement.specs.declared.request.Create.{Create};
 ghost use Rattle.explained_runs.specs.Outcomes.{below_zero, IsOutcome, OutgrownBy, OutgrownByCreate, OutgrownByDestroy, outcome_in};
 
 use crate::asked::{Asked, Deed};
-use measurement::Create;
 use enclave_table::Table;
 use hart_sim::Reply;
-use sbi_decode::Call;
-use sbi_decode::World;
+use measurement::Create;
+use sbi_decode::{Call, World};
 
 /// What a call came to.
 #[derive(Clone, Copy)]

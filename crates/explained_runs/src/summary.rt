@@ -14,9 +14,9 @@ use crate::summary_text::{Text, push_named, push_parts, title};
 use crate::tally::Tally;
 use arrayvec::ArrayVec;
 use byte_streams::{DeviceFault, Sink, write_whole};
-use trace_answers::push_number;
 use hart_sim::Machine;
 use lint_texts::append;
+use trace_answers::push_number;
 
 /// Appends the line of a subject, where anything belongs to it.
 fn push_subject(text: &mut Text, subject: Subject, group: &Group)

@@ -6,8 +6,8 @@ ghost use Rattle.explained_runs.specs.Summaries.{event_name, function_name, kind
 
 use crate::groups::{Count, Subject};
 use arrayvec::ArrayVec;
-use trace_answers::push_number;
 use lint_texts::append;
+use trace_answers::push_number;
 
 /// A text that is being written.
 pub(crate) type Text = ArrayVec<u8, 4096>;

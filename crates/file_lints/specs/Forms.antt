@@ -1,14 +1,17 @@
 -- The forms of events: the words that stand after the one that begins an event.
-use Rattle.std.specs.Prelude.{ℕ, Bool, true, false, ◌&&◌, List, [], ◌∷◌, Option, Some, None, if◌then◌else◌, bytes_eq, codes, is_some}
+use Rattle.std.specs.Prelude.{ℕ, Bool, true, false, ◌&&◌, List, [], ◌∷◌, Option, Some, None}
+use Rattle.std.specs.Prelude.{if◌then◌else◌, bytes_eq, codes, is_some}
 use Rattle.pmp_match.specs.declared.access.Kind.{Kind}
 use Rattle.pmp_match.specs.declared.access.Kind.TheVariants as accesses
 use Rattle.pmp_match.specs.Kinds.{has_size}
 use Rattle.text_lines.specs.Numbers.{number_of}
 use Rattle.hart_trace.specs.Events.{Word, mode_of, register_of}
 use Rattle.file_lints.specs.declared.forms.EventKind.{EventKind}
-use Rattle.file_lints.specs.declared.forms.EventKind.TheVariants.{Fetch, Load, Store, Reg, Ecall, Irq}
+use Rattle.file_lints.specs.declared.forms.EventKind.TheVariants.{Fetch, Load, Store, Reg, Ecall}
+use Rattle.file_lints.specs.declared.forms.EventKind.TheVariants.{Irq}
 use Rattle.file_lints.specs.declared.forms.Slot.{Slot}
-use Rattle.file_lints.specs.declared.forms.Slot.TheVariants.{Mode, Size, Address, Value, Register, Argument}
+use Rattle.file_lints.specs.declared.forms.Slot.TheVariants.{Mode, Size, Address, Value, Register}
+use Rattle.file_lints.specs.declared.forms.Slot.TheVariants.{Argument}
 
 -- the event that a word begins
 abbrev pub kind_of : Word → Option EventKind
@@ -27,7 +30,8 @@ slots_of Fetch = Mode ∷ Size accesses.Fetch ∷ Address ∷ []
 slots_of Load = Mode ∷ Size accesses.Load ∷ Address ∷ []
 slots_of Store = Mode ∷ Size accesses.Store ∷ Address ∷ Value ∷ []
 slots_of Reg = Register ∷ Value ∷ []
-slots_of Ecall = Argument ∷ Argument ∷ Argument ∷ Argument ∷ Argument ∷ Argument ∷ Argument ∷ Argument ∷ []
+slots_of Ecall = Argument ∷ Argument ∷ Argument ∷ Argument ∷ Argument ∷ Argument ∷ Argument
+    ∷ Argument ∷ []
 slots_of Irq = []
 
 -- a call may have fewer

@@ -1,8 +1,10 @@
 -- The words that begin events, and what is near to one of them.
-use Rattle.std.specs.Prelude.{ℕ, ◌+◌, ◌==◌, ◌||◌, ◌&&◌, nat_le, Bool, true, false, [], ◌∷◌, length, Option, Some, None, if◌then◌else◌, codes}
+use Rattle.std.specs.Prelude.{ℕ, ◌+◌, ◌==◌, ◌||◌, ◌&&◌, nat_le, Bool, true, false, [], ◌∷◌, length}
+use Rattle.std.specs.Prelude.{Option, Some, None, if◌then◌else◌, codes}
 use Rattle.hart_trace.specs.Events.{Word}
 use Rattle.file_lints.specs.declared.forms.EventKind.{EventKind}
-use Rattle.file_lints.specs.declared.forms.EventKind.TheVariants.{Fetch, Load, Store, Reg, Ecall, Irq}
+use Rattle.file_lints.specs.declared.forms.EventKind.TheVariants.{Fetch, Load, Store, Reg, Ecall}
+use Rattle.file_lints.specs.declared.forms.EventKind.TheVariants.{Irq}
 
 -- the word that begins an event
 abbrev pub keyword : EventKind → Word
@@ -27,7 +29,8 @@ begins_alike (first ∷ word) (letter ∷ keyword) = lower first == letter && be
 abbrev pub one_letter_off : Word → Word → Bool
 one_letter_off [] keyword = false
 one_letter_off (first ∷ word) [] = false
-one_letter_off (first ∷ word) (letter ∷ keyword) = if lower first == letter then one_letter_off word keyword else length word == length keyword && begins_alike word keyword
+one_letter_off (first ∷ word) (letter ∷ keyword) = if lower first == letter
+    then one_letter_off word keyword else length word == length keyword && begins_alike word keyword
 
 -- a word and one that begins an event: one begins the other, or they differ in one letter
 abbrev pub is_near : Word → EventKind → Bool

@@ -6,10 +6,13 @@ use Rattle.file_lints.specs.declared.breach.Key.TheVariants as keys
 use Rattle.file_lints.specs.declared.breach.Place.{Place}
 use Rattle.file_lints.specs.declared.breach.Place.TheVariants.{File, Monitor, Ram, Device}
 use Rattle.file_lints.specs.declared.breach.Breach.{Breach}
-use Rattle.file_lints.specs.declared.breach.Breach.TheVariants.{Unknown, Missing, NoNumber, NoPages, NoPerm, NoTable, NoTables, Overlap, Rule}
+use Rattle.file_lints.specs.declared.breach.Breach.TheVariants.{Unknown, Missing, NoNumber, NoPages}
+use Rattle.file_lints.specs.declared.breach.Breach.TheVariants.{NoPerm, NoTable, NoTables, Overlap}
+use Rattle.file_lints.specs.declared.breach.Breach.TheVariants.{Rule}
 use Rattle.file_lints.specs.Breaches.{Breaks, BreaksAt, IsBreach}
 
--- the parts of a file in their order: its keys (0), `monitor`, `ram`, `device`, `harts`, `entries`, and then the rules on platforms (6)
+-- the parts of a file in their order: its keys (0), `monitor`, `ram`, `device`, `harts`, `entries`,
+-- and then the rules on platforms (6)
 abbrev pub place_part : Place → ℕ
 place_part File = 0
 place_part Monitor = 1
@@ -36,7 +39,8 @@ place_item (Ram n) = n
 place_item (Device n) = n
 place_item _ = 0
 
--- within a table: its keys (0), the base, the size, whether both are whole pages (3), the permission
+-- within a table: its keys (0), the base, the size, whether both are whole pages (3), the
+-- permission
 abbrev pub key_step : Key → ℕ
 key_step keys.Base = 1
 key_step keys.Size = 2
@@ -73,32 +77,43 @@ step_of (NoPages place) = 3
 step_of (NoPerm place) = 4
 step_of _ = 0
 
--- one breach is looked for before another: its part comes first, or its item in the same part, or its step at the same table
+-- one breach is looked for before another: its part comes first, or its item in the same part, or
+-- its step at the same table
 abbrev pub ComesBefore : Breach → Breach → Type 0
 ComesBefore one other =
     (part_of one < part_of other)
-    ⊎ ((part_of one ≡ part_of other) × ((item_of one < item_of other) ⊎ ((item_of one ≡ item_of other) × (step_of one < step_of other))))
+    ⊎ ((part_of one ≡ part_of other)
+    × ((item_of one < item_of other)
+    ⊎ ((item_of one ≡ item_of other) × (step_of one < step_of other))))
 
 -- a document breaks this first: it does, and breaks nothing that is looked for before it
 pub data IsFirstBreach (document : Members) : Breach → Type 0 where
-  first_breach : (breach : Breach) → IsBreach document breach → ((other : Breach) → IsBreach document other → ComesBefore other breach → ⊥) → IsFirstBreach document breach
+  first_breach : (breach : Breach) → IsBreach document breach
+      → ((other : Breach) → IsBreach document other → ComesBefore other breach → ⊥)
+      → IsFirstBreach document breach
 
 -- the table of a place breaks nothing that is looked for at a step before this one
 abbrev pub BreaksNoneBelow : Members → Place → ℕ → Type 0
-BreaksNoneBelow fields place step = (other : Breach) → Breaks fields place other → step_of other < step → ⊥
+BreaksNoneBelow fields place step = (other : Breach) → Breaks fields place other
+    → step_of other < step → ⊥
 
 -- the same of what stands at a place
 abbrev pub BreaksNoneBelowAt : Data → Place → ℕ → Type 0
-BreaksNoneBelowAt value place step = (other : Breach) → BreaksAt value place other → step_of other < step → ⊥
+BreaksNoneBelowAt value place step = (other : Breach) → BreaksAt value place other
+    → step_of other < step → ⊥
 
 -- no item of an array breaks anything
 abbrev pub BreaksNoItem : Items → (ℕ → Place) → Type 0
-BreaksNoItem items place = (i : ℕ) (value : Data) (other : Breach) → get_item i items ≡ Some value → BreaksAt value (place (i + 1)) other → ⊥
+BreaksNoItem items place = (i : ℕ) (value : Data) (other : Breach) → get_item i items ≡ Some value
+    → BreaksAt value (place (i + 1)) other → ⊥
 
--- no item of an array breaks anything that is looked for before a step of the item of this number, counted from 1
+-- no item of an array breaks anything that is looked for before a step of the item of this number,
+-- counted from 1
 abbrev pub BreaksNoItemBefore : Items → (ℕ → Place) → ℕ → ℕ → Type 0
 BreaksNoItemBefore items place item step =
-    (i : ℕ) (value : Data) (other : Breach) → get_item i items ≡ Some value → BreaksAt value (place (i + 1)) other → (i + 1 < item) ⊎ ((i + 1 ≡ item) × (step_of other < step)) → ⊥
+    (i : ℕ) (value : Data) (other : Breach) → get_item i items ≡ Some value
+    → BreaksAt value (place (i + 1)) other → (i + 1 < item)
+    ⊎ ((i + 1 ≡ item) × (step_of other < step)) → ⊥
 
 -- a document breaks nothing of a part
 abbrev pub BreaksNoneOf : Members → ℕ → Type 0
@@ -107,7 +122,9 @@ BreaksNoneOf document part = (other : Breach) → IsBreach document other → pa
 -- a breach is of a part, and the document breaks nothing of the part that is looked for before it
 pub record IsFirstOf (document : Members) (part : ℕ) (breach : Breach) : Type 0 where
   pub part_is : part_of breach ≡ part
-  pub first : (other : Breach) → IsBreach document other → part_of other ≡ part → (item_of other < item_of breach) ⊎ ((item_of other ≡ item_of breach) × (step_of other < step_of breach)) → ⊥
+  pub first : (other : Breach) → IsBreach document other → part_of other ≡ part
+      → (item_of other < item_of breach)
+      ⊎ ((item_of other ≡ item_of breach) × (step_of other < step_of breach)) → ⊥
 
 -- a breach is of the rules on platforms, which are looked at last
 pub record IsOfRules (breach : Breach) : Type 0 where

@@ -1,5 +1,6 @@
 -- What takes the lines of a trace, and why it does not take one.
-use Rattle.std.specs.Prelude.{◌≡◌, ℕ, ◌&&◌, nat_le, Bool, true, false, List, length, slice_get, Some, is_some}
+use Rattle.std.specs.Prelude.{◌≡◌, ℕ, ◌&&◌, nat_le, Bool, true, false, List, length, slice_get}
+use Rattle.std.specs.Prelude.{Some, is_some}
 use Rattle.text_lines.specs.Lines.{without_return}
 use Rattle.text_lines.specs.Words.{content_of}
 use Rattle.hart_trace.specs.Events.{Word, hart_of}
@@ -11,7 +12,8 @@ use Rattle.file_lints.specs.declared.taker.Taker.{Taker}
 use Rattle.file_lints.specs.declared.taker.Taker.TheVariants.{Run, Judge}
 use Rattle.file_lints.specs.Findings.{BreaksLine, is_line}
 
--- how many harts a line may speak of: those that `run` has, and where `judge` reads it as many as there are at most
+-- how many harts a line may speak of: those that `run` has, and where `judge` reads it as many as
+-- there are at most
 abbrev pub harts_of : Taker → ℕ
 harts_of (Run harts) = harts
 harts_of Judge = 4
@@ -28,7 +30,9 @@ takes Judge raw = is_access_line raw
 -- `run` takes a line and `judge` does not. It begins with this word, which names a hart or does not
 abbrev pub IsForRun : Bool → List ℕ → ℕ → Word → Type 0
 IsForRun named raw before word =
-    (is_line 4 raw ≡ true) × (is_access_line raw ≡ false) × (slice_get (placed_words (content_of (without_return raw))) 0 ≡ Some (before, word)) × (is_some (hart_of 4 word) ≡ named)
+    (is_line 4 raw ≡ true) × (is_access_line raw ≡ false)
+    × (slice_get (placed_words (content_of (without_return raw))) 0 ≡ Some (before, word))
+    × (is_some (hart_of 4 word) ≡ named)
 
 -- the reason, by whether the first word names a hart
 abbrev pub reason_by : Bool → Reason

@@ -12,14 +12,18 @@ use Rattle.file_lints.specs.TraceTexts.{finding_text}
 abbrev pub is_trace : Taker → List ℕ → Bool
 is_trace taker bytes = list_all (takes taker) (raw_lines bytes)
 
--- what is written of lines, the first of which has this number: nothing of one that is taken; of each other its number, where
--- it breaks what, and what would fix it
+-- what is written of lines, the first of which has this number: nothing of one that is taken; of
+-- each other its number, where it breaks what, and what would fix it
 pub data AreFindings (name : List ℕ) (taker : Taker) : ℕ → List (List ℕ) → List ℕ → Type 0 where
   end : {n : ℕ} → AreFindings name taker n [] []
-  fine : {n : ℕ} {lines : List (List ℕ)} {text : List ℕ} (raw : List ℕ) → takes taker raw ≡ true → AreFindings name taker (n + 1) lines text → AreFindings name taker n (raw ∷ lines) text
+  fine : {n : ℕ} {lines : List (List ℕ)} {text : List ℕ} (raw : List ℕ) → takes taker raw ≡ true
+      → AreFindings name taker (n + 1) lines text → AreFindings name taker n (raw ∷ lines) text
   fault :
-      {n : ℕ} {lines : List (List ℕ)} {text : List ℕ} (raw : List ℕ) (before : ℕ) (word : Word) (reason : Reason) → takes taker raw ≡ false → Breaks taker raw before word reason
-      → AreFindings name taker (n + 1) lines text → AreFindings name taker n (raw ∷ lines) (finding_text name (harts_of taker) n before word reason ++ text)
+      {n : ℕ} {lines : List (List ℕ)} {text : List ℕ} (raw : List ℕ) (before : ℕ) (word : Word)
+      (reason : Reason) → takes taker raw ≡ false → Breaks taker raw before word reason
+      → AreFindings name taker (n + 1) lines text
+      → AreFindings name taker n (raw
+      ∷ lines) (finding_text name (harts_of taker) n before word reason ++ text)
 
 -- what is written of a file
 abbrev pub IsLintText : List ℕ → Taker → List ℕ → List ℕ → Type 0

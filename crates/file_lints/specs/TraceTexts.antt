@@ -1,5 +1,6 @@
 -- What is said of a line that is none of a trace, and what would fix it.
-use Rattle.std.specs.Prelude.{ℕ, ◌==◌, ◌&&◌, nat_le, Bool, true, false, List, [], ◌∷◌, ◌++◌, Option, Some, None, if◌then◌else◌, bytes_eq, codes, decimal}
+use Rattle.std.specs.Prelude.{ℕ, ◌==◌, ◌&&◌, nat_le, Bool, true, false, List, [], ◌∷◌, ◌++◌, Option}
+use Rattle.std.specs.Prelude.{Some, None, if◌then◌else◌, bytes_eq, codes, decimal}
 use Rattle.pmp_match.specs.declared.access.Kind.{Kind}
 use Rattle.pmp_match.specs.declared.access.Kind.TheVariants as accesses
 use Rattle.text_lines.specs.Numbers.{number_of}
@@ -8,11 +9,16 @@ use Rattle.lint_texts.specs.Marks.{begins_comment, byte_fault}
 use Rattle.lint_texts.specs.Numbers.{looks_like_number, no_number}
 use Rattle.lint_texts.specs.Pieces.{column_text, place_text, quoted}
 use Rattle.file_lints.specs.declared.forms.EventKind.{EventKind}
-use Rattle.file_lints.specs.declared.forms.EventKind.TheVariants.{Fetch, Load, Store, Reg, Ecall, Irq}
+use Rattle.file_lints.specs.declared.forms.EventKind.TheVariants.{Fetch, Load, Store, Reg, Ecall}
+use Rattle.file_lints.specs.declared.forms.EventKind.TheVariants.{Irq}
 use Rattle.file_lints.specs.declared.forms.Slot.{Slot}
-use Rattle.file_lints.specs.declared.forms.Slot.TheVariants.{Mode, Size, Address, Value, Register, Argument}
+use Rattle.file_lints.specs.declared.forms.Slot.TheVariants.{Mode, Size, Address, Value, Register}
+use Rattle.file_lints.specs.declared.forms.Slot.TheVariants.{Argument}
 use Rattle.file_lints.specs.declared.reason.Reason.{Reason}
-use Rattle.file_lints.specs.declared.reason.Reason.TheVariants.{LongLine, ByteOrderMark, NoText, NoHart, NoEvent, UnknownEvent, Misfit, Missing, Extra, HartOfRun, EventOfRun}
+use Rattle.file_lints.specs.declared.reason.Reason.TheVariants.{LongLine, ByteOrderMark, NoText}
+use Rattle.file_lints.specs.declared.reason.Reason.TheVariants.{NoHart, NoEvent, UnknownEvent}
+use Rattle.file_lints.specs.declared.reason.Reason.TheVariants.{Misfit, Missing, Extra, HartOfRun}
+use Rattle.file_lints.specs.declared.reason.Reason.TheVariants.{EventOfRun}
 use Rattle.file_lints.specs.Keywords.{keyword, near_kind}
 use Rattle.file_lints.specs.Registers.{meant_register}
 
@@ -47,7 +53,8 @@ size_fault kind word (Some size) = no_size kind
 
 -- a word that is no mode
 abbrev pub mode_fault : Word → List ℕ
-mode_fault word = if bytes_eq word (codes "m") then codes " is machine mode; write s or u" else codes " is no mode; write s or u"
+mode_fault word = if bytes_eq word (codes "m") then codes " is machine mode; write s or u"
+    else codes " is no mode; write s or u"
 
 -- a word that is no register, by the one that it means
 abbrev pub register_fault : Option ℕ → List ℕ
@@ -80,7 +87,8 @@ unknown_fault (Some kind) = codes " is no event; write " ++ keyword kind
 
 -- a word that begins no event: it begins a comment of another language, or is near to one that does
 abbrev pub event_fault : Word → List ℕ
-event_fault word = if begins_comment word then codes " is no event; a comment begins with #" else unknown_fault (near_kind word)
+event_fault word = if begins_comment word then codes " is no event; a comment begins with #"
+    else unknown_fault (near_kind word)
 
 -- a word that an event has no longer
 abbrev pub extra_fault : EventKind → List ℕ
@@ -97,14 +105,19 @@ reason_text harts word LongLine = codes "the line is too long; it has at most 10
 reason_text harts word ByteOrderMark = codes "a byte order mark; save the file without one"
 reason_text harts word NoText = byte_fault word
 reason_text harts word NoHart = quoted word ++ hart_fault harts (is_at_digit word)
-reason_text harts word NoEvent = codes "no event stands after the hart; write fetch, load, store, reg, ecall or irq"
+reason_text harts word NoEvent =
+    codes "no event stands after the hart; write fetch, load, store, reg, ecall or irq"
 reason_text harts word UnknownEvent = quoted word ++ event_fault word
-reason_text harts word (Misfit slot) = slot_name slot ++ (codes " " ++ (quoted word ++ misfit_fault slot word))
-reason_text harts word (Missing kind slot) = slot_name slot ++ (codes " is wanting; write " ++ form_text kind)
+reason_text harts word (Misfit slot) = slot_name slot
+    ++ (codes " " ++ (quoted word ++ misfit_fault slot word))
+reason_text harts word (Missing kind slot) = slot_name slot
+    ++ (codes " is wanting; write " ++ form_text kind)
 reason_text harts word (Extra kind) = quoted word ++ extra_fault kind
 reason_text harts word HartOfRun = quoted word ++ codes " names a hart; judge has none"
-reason_text harts word EventOfRun = quoted word ++ codes " is an event of run; judge takes accesses alone"
+reason_text harts word EventOfRun = quoted word
+    ++ codes " is an event of run; judge takes accesses alone"
 
 -- the line that is written: `FILE:LINE:COLUMN: REASON; MEND`
 abbrev pub finding_text : List ℕ → ℕ → ℕ → ℕ → Word → Reason → List ℕ
-finding_text name harts line before word reason = place_text name line ++ (column_text before ++ (reason_text harts word reason ++ codes "\n"))
+finding_text name harts line before word reason = place_text name line
+    ++ (column_text before ++ (reason_text harts word reason ++ codes "\n"))

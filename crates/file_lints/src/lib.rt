@@ -35,7 +35,7 @@ mod texts;
 mod trace_lints;
 
 pub use breach::{Breach, Key, Place, PlacedRange};
-pub use platform_lints::lint_platform;
 pub use lint_texts::LintFault;
-pub use trace_lints::lint_trace;
+pub use platform_lints::lint_platform;
 pub use taker::Taker;
+pub use trace_lints::lint_trace;

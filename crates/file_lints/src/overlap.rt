@@ -7,8 +7,7 @@ ghost use Rattle.file_lints.specs.Overlaps.{IsOverlap, placed_ranges};
 ghost use Rattle.file_lints.specs.declared.breach.PlacedRange.{PlacedRange};
 
 use crate::breach::{Place, PlacedRange};
-use pmp_encoding::PageRange;
-use pmp_encoding::Perm;
+use pmp_encoding::{PageRange, Perm};
 use std::alloc::{AllocError, Global};
 
 /// Whether two ranges have no page in common.

@@ -9,9 +9,8 @@ ghost use Rattle.file_lints.specs.Breaches.{key_name, keys_of, needed_of, number
 ghost use Rattle.file_lints.specs.Order.{key_step, step_of, BreaksNoneBelow};
 
 use crate::breach::{Breach, Key, Place};
-use pmp_encoding::PAGE_SIZE;
 use platform_file::{number, perm_of, range_in, unknown_key, value_at};
-use pmp_encoding::SPACE_SIZE;
+use pmp_encoding::{PAGE_SIZE, SPACE_SIZE};
 use toml::Table;
 
 /// What is wrong with the number at a key.

@@ -8,16 +8,18 @@ use Rattle.hart_sim.specs.Machines.{state_of, bank_on, IsJudged, KeepsBanksRight
 use Rattle.hart_sim.specs.States.{opening_state}
 use Rattle.hart_sim.specs.Steps.{IsEvent, Step}
 
--- boot made the machine: the platform keeps its rules, the state is the opening_state one, and each hart has the fewest entries of its
--- world's view
+-- boot made the machine: the platform keeps its rules, the state is the opening_state one, and each
+-- hart has the fewest entries of its world's view
 pub record IsBooted (platform : PlatformLayout) (machine : Machine) : Type 0 where
   pub rules : IsLayout platform
   pub state : state_of machine ≡ opening_state platform
   pub banks : KeepsBanksRight machine
 
--- an event happens on a hart of the machine: it is a step of its state, an access is judged by the list that it meets, the banks
--- of the other harts stay, and those of the harts that are not marked mean what they should by the fewest entries
-pub record Happens (old : Machine) (hart : ℕ) (event : Event) (reply : Reply) (new : Machine) : Type 0 where
+-- an event happens on a hart of the machine: it is a step of its state, an access is judged by the
+-- list that it meets, the banks of the other harts stay, and those of the harts that are not marked
+-- mean what they should by the fewest entries
+pub record Happens (old : Machine) (hart : ℕ) (event : Event) (reply : Reply) (new : Machine) :
+    Type 0 where
   pub known : hart < (state_of old).table.layout.harts
   pub possible : IsEvent event
   pub happened : Step (state_of old) hart event reply (state_of new)
@@ -28,7 +30,10 @@ pub record Happens (old : Machine) (hart : ℕ) (event : Event) (reply : Reply) 
 -- the machine after boot and these events, each with its hart, which were given these replies
 pub data After (platform : PlatformLayout) : List (ℕ × Event) → List Reply → Machine → Type 0 where
   booted : {machine : Machine} → IsBooted platform machine → After platform [] [] machine
-  happened : {events : List (ℕ × Event)} {replies : List Reply} {old new : Machine} → After platform events replies old → (hart : ℕ) (event : Event) (reply : Reply) → Happens old hart event reply new → After platform (events ++ (hart, event) ∷ []) (replies ++ reply ∷ []) new
+  happened : {events : List (ℕ × Event)} {replies : List Reply} {old new : Machine}
+      → After platform events replies old → (hart : ℕ) (event : Event) (reply : Reply)
+      → Happens old hart event reply new
+      → After platform (events ++ (hart, event) ∷ []) (replies ++ reply ∷ []) new
 
 -- none of the events was on this hart
 abbrev pub AreElsewhere : ℕ → List (ℕ × Event) → Type 0

@@ -18,9 +18,11 @@ pub record LoadsFewest (bank : Bank) (view : ℕ → Perm) : Type 0 where
 -- the bank of each hart that is not marked means the view of its world by the fewest entries
 abbrev pub AreBanksRight : MachineState → (ℕ → Option Bank) → Type 0
 AreBanksRight s banks =
-    (hart : ℕ) (bank : Bank) → hart < s.table.layout.harts → s.marked hart ≡ false → banks hart ≡ Some bank → LoadsFewest bank (current_view s.table (s.worlds hart))
+    (hart : ℕ) (bank : Bank) → hart < s.table.layout.harts → s.marked hart ≡ false
+    → banks hart ≡ Some bank → LoadsFewest bank (current_view s.table (s.worlds hart))
 
--- the list that an event on a hart meets: the host's where it is marked, for it loads them first; otherwise what is loaded
+-- the list that an event on a hart meets: the host's where it is marked, for it loads them first;
+-- otherwise what is loaded
 abbrev pub MeetsList : MachineState → Kept → (ℕ → Option Bank) → ℕ → List Entry → Type 0
 MeetsList s kept banks hart list =
     ((s.marked hart ≡ true) × (list ≡ kept.host_list))

@@ -1,5 +1,6 @@
 -- Changes of a state, and what a call puts into registers.
-use Rattle.std.specs.Prelude.{ℕ, ◌/◌, true, false, ◌==◌, if◌then◌else◌, List, [], ◌∷◌, Option, unwrap_or, option_map}
+use Rattle.std.specs.Prelude.{ℕ, ◌/◌, true, false, ◌==◌, if◌then◌else◌, List, [], ◌∷◌, Option}
+use Rattle.std.specs.Prelude.{unwrap_or, option_map}
 use Rattle.pmp_encoding.specs.declared.pages.PageRange.{PageRange}
 pub use Rattle.sbi_decode.specs.Registers.{with_x}
 use Rattle.sbi_decode.specs.Registers.{RegisterFile}
@@ -13,16 +14,25 @@ abbrev pub with_words : RegisterFile → List ℕ → List ℕ → RegisterFile
 with_words file (n ∷ ns) (word ∷ words) = with_words (with_x file n word) ns words
 with_words file _ _ = file
 
--- the registers on a hart after a call with these words, in a7, a6 and a0 to a5, which goes on past its instruction
+-- the registers on a hart after a call with these words, in a7, a6 and a0 to a5, which goes on past
+-- its instruction
 abbrev pub calling : MachineState → ℕ → List ℕ → RegisterFile
-calling s hart words = past_call (with_words (s.registers (runner_of hart (s.worlds hart))) (17 ∷ (16 ∷ (10 ∷ (11 ∷ (12 ∷ (13 ∷ (14 ∷ (15 ∷ [])))))))) words)
+calling s hart words = past_call (with_words (s.registers (runner_of hart (s.worlds hart))) (17
+    ∷ (16 ∷ (10 ∷ (11 ∷ (12 ∷ (13 ∷ (14 ∷ (15 ∷ [])))))))) words)
 
 -- a value stored, and its page written
 abbrev pub storing : MachineState → ℕ → ℕ → ℕ → MachineState
-storing s address size value = record s { bytes = stored s.bytes address size value; written = λ page. if page == address / 4096 then true else s.written page }
+storing s address size value = record s {
+  bytes = stored s.bytes address size value;
+  written = λ page. if page == address / 4096 then true else s.written page;
+}
 
 -- every byte of these pages zero, and the pages not written, where there are any
 abbrev pub zeroing : MachineState → Option PageRange → MachineState
 zeroing s pages =
-    let zeroed = λ (page : ℕ). unwrap_or (option_map (λ range. in_range range.first range.count page) pages) false in
-    record s { bytes = λ address. if zeroed (address / 4096) then 0 else s.bytes address; written = λ page. if zeroed page then false else s.written page }
+    let zeroed = λ (page : ℕ). unwrap_or
+    (option_map (λ range. in_range range.first range.count page) pages) false in
+    record s {
+      bytes = λ address. if zeroed (address / 4096) then 0 else s.bytes address;
+      written = λ page. if zeroed page then false else s.written page;
+    }

@@ -10,12 +10,17 @@ pub record IsOn (parts : Parts) (hart : ℕ) : Type 0 where
   pub known : hart < (state_in parts).table.layout.harts
   pub limited : AreBanks parts.banks (state_in parts).table.layout.limit
 
--- the platform stays, and the banks have its limit still; banks that were right are right, those of the other harts stay, and so does
--- the hart's own where table and world stay; where the table stays, so does every list that is kept
+-- the platform stays, and the banks have its limit still; banks that were right are right, those of
+-- the other harts stay, and so does the hart's own where table and world stay; where the table
+-- stays, so does every list that is kept
 pub record KeepsFrame (old new : Parts) (hart : ℕ) : Type 0 where
   pub layout : (state_in new).table.layout ≡ (state_in old).table.layout
   pub limited : AreBanks new.banks (state_in new).table.layout.limit
-  pub banks : AreBanksRight (state_in old) (bank_in old) → AreBanksRight (state_in new) (bank_in new)
+  pub banks : AreBanksRight (state_in old) (bank_in old)
+      → AreBanksRight (state_in new) (bank_in new)
   pub others : (other : ℕ) → other ≢ hart → bank_in new other ≡ bank_in old other
-  pub stays : (state_in old).marked hart ≡ false → (state_in new).table ≡ (state_in old).table → (state_in new).worlds hart ≡ (state_in old).worlds hart → bank_in new hart ≡ bank_in old hart
-  pub lists : (state_in new).table ≡ (state_in old).table → kept_by new.monitor ≡ kept_by old.monitor
+  pub stays : (state_in old).marked hart ≡ false → (state_in new).table ≡ (state_in old).table
+      → (state_in new).worlds hart ≡ (state_in old).worlds hart
+      → bank_in new hart ≡ bank_in old hart
+  pub lists : (state_in new).table ≡ (state_in old).table
+      → kept_by new.monitor ≡ kept_by old.monitor

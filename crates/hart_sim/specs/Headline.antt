@@ -17,10 +17,13 @@ use Rattle.enclave_table.specs.Views.{current_view}
 
 -- the last of these events, if there are any, is on this hart
 abbrev pub EndsOn : ℕ → List (ℕ × Event) → Type 0
-EndsOn hart events = (events ≡ []) ⊎ ((before : List (ℕ × Event)) × (event : Event) × (events ≡ before ++ (hart, event) ∷ []))
+EndsOn hart events = (events ≡ [])
+    ⊎ ((before : List (ℕ × Event)) × (event : Event) × (events ≡ before ++ (hart, event) ∷ []))
 
--- one of the events: the machine that those before it left, its reply, the machine that it left, and what it promises
-pub record Moment (platform : PlatformLayout) (before : List (ℕ × Event)) (hart : ℕ) (event : Event) (after : List (ℕ × Event)) (replies : List Reply) (machine : Machine) : Type 0 where
+-- one of the events: the machine that those before it left, its reply, the machine that it left,
+-- and what it promises
+pub record Moment (platform : PlatformLayout) (before : List (ℕ × Event)) (hart : ℕ) (event : Event)
+    (after : List (ℕ × Event)) (replies : List Reply) (machine : Machine) : Type 0 where
   pub answered : List Reply
   pub reply : Reply
   pub rest : List Reply
@@ -32,9 +35,11 @@ pub record Moment (platform : PlatformLayout) (before : List (ℕ × Event)) (ha
   pub promises : Promises (state_of old) hart event reply (state_of new)
   pub since : Run (state_of new) after rest (state_of machine)
 
--- the bank of a hart is as its own last event left it, or boot where it had none, and there the bank meant the view of its world by
--- the fewest entries: since then each event was on another hart, whether or not the hart was marked
-pub record IsLeft (platform : PlatformLayout) (hart : ℕ) (events : List (ℕ × Event)) (replies : List Reply) (machine : Machine) : Type 0 where
+-- the bank of a hart is as its own last event left it, or boot where it had none, and there the
+-- bank meant the view of its world by the fewest entries: since then each event was on another
+-- hart, whether or not the hart was marked
+pub record IsLeft (platform : PlatformLayout) (hart : ℕ) (events : List (ℕ × Event))
+    (replies : List Reply) (machine : Machine) : Type 0 where
   pub before : List (ℕ × Event)
   pub after : List (ℕ × Event)
   pub answered : List Reply
@@ -46,19 +51,26 @@ pub record IsLeft (platform : PlatformLayout) (hart : ℕ) (events : List (ℕ �
   pub own : EndsOn hart before
   pub since : Run (state_of mid) after rest (state_of machine)
   pub elsewhere : AreElsewhere hart after
-  pub meant : (bank : Bank) → bank_on mid hart ≡ Some bank → LoadsFewest bank (current_view (state_of mid).table ((state_of mid).worlds hart))
+  pub meant : (bank : Bank) → bank_on mid hart ≡ Some bank
+      → LoadsFewest bank (current_view (state_of mid).table ((state_of mid).worlds hart))
   pub stays : bank_on machine hart ≡ bank_on mid hart
 
--- the replies are a run of the small machine, which has no PMP entries, from the opening_state state. On each hart that is not marked
--- the loaded list means the view of the world there, and no list of any regions in any order that does so is shorter. On each hart,
--- marked or not, the bank is as its own last event, or boot, left it. Each event kept its promises. Each hart is in the host's world
--- or in that of an enclave that is Running, and each of these runs on just one hart. The table is sound, and the platform is the one
--- that was booted
-pub record Headline (platform : PlatformLayout) (events : List (ℕ × Event)) (replies : List Reply) (machine : Machine) : Type 0 where
+-- the replies are a run of the small machine, which has no PMP entries, from the opening_state
+-- state. On each hart that is not marked the loaded list means the view of the world there, and no
+-- list of any regions in any order that does so is shorter. On each hart, marked or not, the bank
+-- is as its own last event, or boot, left it. Each event kept its promises. Each hart is in the
+-- host's world or in that of an enclave that is Running, and each of these runs on just one hart.
+-- The table is sound, and the platform is the one that was booted
+pub record Headline (platform : PlatformLayout) (events : List (ℕ × Event)) (replies : List Reply)
+    (machine : Machine) : Type 0 where
   pub run : Run (opening_state platform) events replies (state_of machine)
-  pub banks : (hart : ℕ) → hart < platform.harts → (state_of machine).marked hart ≡ false → (bank : Bank) × (bank_on machine hart ≡ Some bank) × LoadsFewest bank (current_view (state_of machine).table ((state_of machine).worlds hart))
+  pub banks : (hart : ℕ) → hart < platform.harts → (state_of machine).marked hart ≡ false
+      → (bank : Bank) × (bank_on machine hart ≡ Some bank)
+      × LoadsFewest bank (current_view (state_of machine).table ((state_of machine).worlds hart))
   pub left : (hart : ℕ) → hart < platform.harts → IsLeft platform hart events replies machine
-  pub each : (before : List (ℕ × Event)) (hart : ℕ) (event : Event) (after : List (ℕ × Event)) → events ≡ before ++ (hart, event) ∷ after → Moment platform before hart event after replies machine
+  pub each : (before : List (ℕ × Event)) (hart : ℕ) (event : Event) (after : List (ℕ × Event))
+      → events ≡ before ++ (hart, event) ∷ after
+      → Moment platform before hart event after replies machine
   pub worlds : AreWorlds (state_of machine)
   pub table : IsTable (state_of machine).table
   pub layout : (state_of machine).table.layout ≡ platform

@@ -17,8 +17,8 @@ use Rattle.hart_sim.specs.Parts.{state_in, bank_in}
 use Rattle.hart_sim.specs.States.{MachineState, awoken}
 use Rattle.hart_sim.specs.Steps.{DoesBy}
 
--- the state of the machine. What it is, its observers show: its table, the world and the registers on each hart, the marks, and the
--- byte at each address
+-- the state of the machine. What it is, its observers show: its table, the world and the registers
+-- on each hart, the marks, and the byte at each address
 unfoldable pub state_of : Machine → MachineState
 state_of machine = state_in machine.parts
 
@@ -30,15 +30,21 @@ kept_of machine = kept_by machine.parts.monitor
 unfoldable pub bank_on : Machine → ℕ → Option Bank
 bank_on machine = bank_in machine.parts
 
--- an access is a fault exactly where the list that it meets says so, and with the cause that it says
+-- an access is a fault exactly where the list that it meets says so, and with the cause that it
+-- says
 abbrev pub IsJudged : Machine → ℕ → Event → Reply → Type 0
 IsJudged machine hart event reply =
-    (access : Access) (value : ℕ) (list : List Entry) (cause : Cause) → event ≡ events.Access access value → MeetsList (state_of machine) (kept_of machine) (bank_on machine) hart list
+    (access : Access) (value : ℕ) (list : List Entry) (cause : Cause)
+    → event ≡ events.Access access value
+    → MeetsList (state_of machine) (kept_of machine) (bank_on machine) hart list
     → (reply ≡ replies.Fault cause) ↔ Judges list access (Err cause)
 
--- on every machine an event does what it does, and an access what the list that it meets says of it, once the mark is taken away
+-- on every machine an event does what it does, and an access what the list that it meets says of
+-- it, once the mark is taken away
 abbrev pub DoesByList : Machine → ℕ → Event → Reply → Machine → Type 0
-DoesByList old hart event reply new = DoesBy (MeetsList (state_of old) (kept_of old) (bank_on old) hart) event (awoken (state_of old) hart) hart reply (state_of new)
+DoesByList old hart event reply new =
+    DoesBy (MeetsList (state_of old) (kept_of old) (bank_on old) hart) event
+    (awoken (state_of old) hart) hart reply (state_of new)
 
 -- what boot makes and every step keeps, and what holds no more once another bank was put in place:
 -- the bank of each hart that is not marked means the view of its world by the fewest entries

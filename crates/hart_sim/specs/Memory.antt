@@ -1,5 +1,6 @@
 -- Memory: a byte at each address, and the pages that were written.
-use Rattle.std.specs.Prelude.{ℕ, zero, suc, ◌+◌, ◌-◌, ◌*◌, ◌/◌, ◌%◌, Bool, if◌then◌else◌, List, [], ◌∷◌, is_some}
+use Rattle.std.specs.Prelude.{ℕ, zero, suc, ◌+◌, ◌-◌, ◌*◌, ◌/◌, ◌%◌, Bool, if◌then◌else◌, List, []}
+use Rattle.std.specs.Prelude.{◌∷◌, is_some}
 use Rattle.pmp_encoding.specs.Registers.{byte_of}
 pub use Rattle.permission_map.specs.Runs.{in_range}
 use Rattle.hart_sim.specs.declared.memory.Memory.{Memory}
@@ -17,7 +18,8 @@ number_of_bytes (byte ∷ bytes) = byte + 256 * number_of_bytes bytes
 
 -- the memory with the lowest bytes of a value put at an address, the lowest first
 abbrev pub stored : (ℕ → ℕ) → ℕ → ℕ → ℕ → ℕ → ℕ
-stored memory address size value a = if in_range address size a then byte_of value (a - address) else memory a
+stored memory address size value a = if in_range address size a then byte_of value (a - address)
+    else memory a
 
 -- the memory with every byte of some pages zero
 abbrev pub zeroed : (ℕ → ℕ) → ℕ → ℕ → ℕ → ℕ

@@ -1,4 +1,5 @@
--- The parts of the machine: the state and the banks that they show, and what is true of them together.
+-- The parts of the machine: the state and the banks that they show, and what is true of them
+-- together.
 use Rattle.std.specs.Prelude.{◌≡◌, ℕ, List, length, Option, Some, slice_get}
 use Rattle.pmp_encoding.specs.declared.bank.Bank.{Bank}
 use Rattle.pmp_encoding.specs.declared.limit.Limit.{Limit}
@@ -31,4 +32,5 @@ bank_in parts hart = slice_get parts.banks hart
 -- there are four banks, and each has as many entries as the platform says
 pub record AreBanks (banks : List Bank) (limit : Limit) : Type 0 where
   pub four : length banks ≡ 4
-  pub limited : (hart : ℕ) (bank : Bank) → slice_get banks hart ≡ Some bank → limit_number bank.limit ≡ limit_number limit
+  pub limited : (hart : ℕ) (bank : Bank) → slice_get banks hart ≡ Some bank
+      → limit_number bank.limit ≡ limit_number limit

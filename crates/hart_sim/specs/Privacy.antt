@@ -1,5 +1,6 @@
 -- What an enclave keeps to itself.
-use Rattle.std.specs.Prelude.{◌≡◌, ◌≢◌, ◌⊎◌, ℕ, ◌+◌, ◌/◌, ◌<◌, ◌≤◌, true, false, List, [], ◌∷◌, Ok, None, if◌then◌else◌}
+use Rattle.std.specs.Prelude.{◌≡◌, ◌≢◌, ◌⊎◌, ℕ, ◌+◌, ◌/◌, ◌<◌, ◌≤◌, true, false, List, [], ◌∷◌, Ok}
+use Rattle.std.specs.Prelude.{None, if◌then◌else◌}
 use Rattle.pmp_encoding.specs.declared.perm.Perm.TheVariants.{NoAccess}
 use Rattle.pmp_match.specs.declared.access.Kind.TheVariants.{Store}
 use Rattle.pmp_match.specs.declared.access.Access.{Access}
@@ -28,20 +29,25 @@ pub record RunsOn (s : MachineState) (hart id : ℕ) (e : Enclave) : Type 0 wher
   pub running : e.state ≡ Running
   pub unmarked : s.marked hart ≡ false
 
--- it cannot tell one state from the other: its parts and registers, and the bytes and written pages of its view, are the same
+-- it cannot tell one state from the other: its parts and registers, and the bytes and written pages
+-- of its view, are the same
 pub record LooksSame (id : ℕ) (e f : Enclave) (s other : MachineState) : Type 0 where
   pub parts : e.parts ≡ f.parts
   pub registers : s.registers (EnclaveOf id) ≡ other.registers (EnclaveOf id)
-  pub bytes : (address : ℕ) → enclave_view e.parts (address / 4096) ≢ NoAccess → s.bytes address ≡ other.bytes address
-  pub written : (page : ℕ) → enclave_view e.parts page ≢ NoAccess → s.written page ≡ other.written page
+  pub bytes : (address : ℕ) → enclave_view e.parts (address / 4096) ≢ NoAccess
+      → s.bytes address ≡ other.bytes address
+  pub written : (page : ℕ) → enclave_view e.parts page ≢ NoAccess
+      → s.written page ≡ other.written page
 
 -- nothing but these changed
 pub record ChangesOwn (id : ℕ) (e : Enclave) (old new : MachineState) : Type 0 where
   pub table : new.table ≡ old.table
   pub worlds : new.worlds ≡ old.worlds
   pub registers : (who : Runner) → who ≢ EnclaveOf id → new.registers who ≡ old.registers who
-  pub bytes : (address : ℕ) → enclave_view e.parts (address / 4096) ≡ NoAccess → new.bytes address ≡ old.bytes address
-  pub written : (page : ℕ) → enclave_view e.parts page ≡ NoAccess → new.written page ≡ old.written page
+  pub bytes : (address : ℕ) → enclave_view e.parts (address / 4096) ≡ NoAccess
+      → new.bytes address ≡ old.bytes address
+  pub written : (page : ℕ) → enclave_view e.parts page ≡ NoAccess
+      → new.written page ≡ old.written page
   pub marked : new.marked ≡ old.marked
 
 -- what an enclave does by itself: accesses, and settings of registers
@@ -54,7 +60,8 @@ IsOwn events.Irq = ⊥
 -- events on one hart, one after the other, their replies, and the state after them
 abbrev pub RunsThrough : ℕ → MachineState → List Event → List Reply → MachineState → Type 0
 RunsThrough hart old [] [] new = new ≡ old
-RunsThrough hart old (event ∷ events) (reply ∷ replies) new = (mid : MachineState) × Step old hart event reply mid × RunsThrough hart mid events replies new
+RunsThrough hart old (event ∷ events) (reply ∷ replies) new = (mid : MachineState)
+    × Step old hart event reply mid × RunsThrough hart mid events replies new
 RunsThrough hart old [] (reply ∷ replies) new = ⊥
 RunsThrough hart old (event ∷ events) [] new = ⊥
 
@@ -63,40 +70,54 @@ abbrev pub AreOwn : List Event → Type 0
 AreOwn [] = Unit {0}
 AreOwn (event ∷ events) = IsOwn event × AreOwn events
 
--- where an enclave runs in two states that it cannot tell apart, whatever it is answered in the one it may be answered in the
--- other, and it cannot tell the states after that apart either; nothing else changes in them
+-- where an enclave runs in two states that it cannot tell apart, whatever it is answered in the one
+-- it may be answered in the other, and it cannot tell the states after that apart either; nothing
+-- else changes in them
 abbrev pub IsPrivate : Type 0
 IsPrivate =
-    (s other new : MachineState) (hart there id : ℕ) (e f : Enclave) (events : List Event) (replies : List Reply)
-    → RunsOn s hart id e → RunsOn other there id f → LooksSame id e f s other → AreOwn events → RunsThrough hart s events replies new
-    → (now : MachineState) × RunsThrough there other events replies now × LooksSame id e f new now × ChangesOwn id e s new × ChangesOwn id f other now
+    (s other new : MachineState) (hart there id : ℕ) (e f : Enclave) (events : List Event)
+    (replies : List Reply)
+    → RunsOn s hart id e → RunsOn other there id f → LooksSame id e f s other → AreOwn events
+    → RunsThrough hart s events replies new
+    → (now : MachineState) × RunsThrough there other events replies now × LooksSame id e f new now
+    × ChangesOwn id e s new × ChangesOwn id f other now
 
--- the event is a store by that enclave that its view allowed, that was done, and that reached the byte
+-- the event is a store by that enclave that its view allowed, that was done, and that reached the
+-- byte
 abbrev pub StoresTo : MachineState → ℕ → Event → Reply → ℕ → ℕ → Type 0
 StoresTo old hart (events.Access a value) reply id byte =
-    (a.kind ≡ Store) × (reply ≡ replies.Done) × (old.worlds hart ≡ InEnclave id) × (verdict (current_view old.table (old.worlds hart)) a ≡ Ok tt) × (a.address ≤ byte) × (byte < a.address + a.size)
+    (a.kind ≡ Store) × (reply ≡ replies.Done) × (old.worlds hart ≡ InEnclave id)
+    × (verdict (current_view old.table (old.worlds hart)) a ≡ Ok tt) × (a.address ≤ byte)
+    × (byte < a.address + a.size)
 StoresTo old hart _ reply id byte = ⊥
 
--- a byte of a page that is private to an enclave before and after an event stays, but for the enclave's own stores
+-- a byte of a page that is private to an enclave before and after an event stays, but for the
+-- enclave's own stores
 abbrev pub KeepsPrivate : MachineState → ℕ → Event → Reply → MachineState → Type 0
 KeepsPrivate old hart event reply new =
-    (id byte : ℕ) (e f : Enclave) → Live old.table id e → Live new.table id f → is_private e.parts (byte / 4096) ≡ true → is_private f.parts (byte / 4096) ≡ true
+    (id byte : ℕ) (e f : Enclave) → Live old.table id e → Live new.table id f
+    → is_private e.parts (byte / 4096) ≡ true → is_private f.parts (byte / 4096) ≡ true
     → (new.bytes byte ≡ old.bytes byte) ⊎ StoresTo old hart event reply id byte
 
 -- an access of a page that is private to an enclave, by any other world, is a fault
 abbrev pub DeniesOthers : MachineState → ℕ → Event → Reply → Type 0
 DeniesOthers old hart event reply =
-    (a : Access) (value id byte : ℕ) (e : Enclave) → event ≡ events.Access a value → Live old.table id e → is_private e.parts (byte / 4096) ≡ true
-    → a.address ≤ byte → byte < a.address + a.size → old.worlds hart ≢ InEnclave id → (cause : Cause) × (reply ≡ replies.Fault cause)
+    (a : Access) (value id byte : ℕ) (e : Enclave) → event ≡ events.Access a value
+    → Live old.table id e → is_private e.parts (byte / 4096) ≡ true
+    → a.address ≤ byte → byte < a.address + a.size → old.worlds hart ≢ InEnclave id
+    → (cause : Cause) × (reply ≡ replies.Fault cause)
 
 -- an access that reaches a page of the monitor's range is a fault, whichever world it is of
 abbrev pub DeniesMonitor : MachineState → Event → Reply → Type 0
 DeniesMonitor old event reply =
-    (a : Access) (value byte : ℕ) → event ≡ events.Access a value → has_page old.table.layout.monitor (byte / 4096) ≡ true
+    (a : Access) (value byte : ℕ) → event ≡ events.Access a value
+    → has_page old.table.layout.monitor (byte / 4096) ≡ true
     → a.address ≤ byte → byte < a.address + a.size → (cause : Cause) × (reply ≡ replies.Fault cause)
 
--- where an enclave is no more, each byte of its private pages is zero, and every other byte is as it was
+-- where an enclave is no more, each byte of its private pages is zero, and every other byte is as
+-- it was
 abbrev pub ZeroesDestroyed : MachineState → MachineState → Type 0
 ZeroesDestroyed old new =
-    (id : ℕ) (e : Enclave) → Live old.table id e → enclave_at new.table.enclaves id ≡ None → (byte : ℕ)
+    (id : ℕ) (e : Enclave) → Live old.table id e → enclave_at new.table.enclaves id ≡ None
+    → (byte : ℕ)
     → new.bytes byte ≡ (if is_private e.parts (byte / 4096) then 0 else old.bytes byte)

@@ -15,18 +15,24 @@ use Rattle.hart_sim.specs.Privacy.{KeepsPrivate, DeniesMonitor, DeniesOthers, Ze
 use Rattle.hart_sim.specs.Wants.{RefusesByNeed}
 use Rattle.enclave_table.specs.Views.{current_view}
 
--- an aligned access in the space is answered by no fault exactly where the current view of its hart holds its kind
+-- an aligned access in the space is answered by no fault exactly where the current view of its hart
+-- holds its kind
 abbrev pub AnswersByView : MachineState → ℕ → Event → Reply → Type 0
 AnswersByView old hart event reply =
-    (access : Access) (value : ℕ) → event ≡ events.Access access value → IsAligned access → access.address < 2 ^ 56
-    → ((cause : Cause) → reply ≢ replies.Fault cause) ↔ (holds (current_view old.table (old.worlds hart) (access.address / 4096)) access.kind ≡ true)
+    (access : Access) (value : ℕ) → event ≡ events.Access access value → IsAligned access
+    → access.address < 2 ^ 56
+    → ((cause : Cause) → reply ≢ replies.Fault cause)
+    ↔ (holds (current_view old.table (old.worlds hart) (access.address / 4096)) access.kind
+    ≡ true)
 
 -- an access changes no registers
 abbrev pub LeavesRegisters : MachineState → Event → MachineState → Type 0
-LeavesRegisters old event new = (access : Access) (value : ℕ) → event ≡ events.Access access value → new.registers ≡ old.registers
+LeavesRegisters old event new = (access : Access) (value : ℕ) → event ≡ events.Access access value
+    → new.registers ≡ old.registers
 
 -- what holds of one event, with the state before it, its reply and the state after it
-pub record Promises (old : MachineState) (hart : ℕ) (event : Event) (reply : Reply) (new : MachineState) : Type 0 where
+pub record Promises (old : MachineState) (hart : ℕ) (event : Event) (reply : Reply)
+    (new : MachineState) : Type 0 where
   pub allowed : AnswersByView old hart event reply
   pub private : KeepsPrivate old hart event reply new
   pub denied : DeniesOthers old hart event reply

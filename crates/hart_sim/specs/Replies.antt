@@ -6,6 +6,9 @@ use Rattle.hart_trace.specs.declared.reply.Reply.{Reply}
 use Rattle.hart_sim.specs.States.{MachineState}
 use Rattle.enclave_table.specs.Views.{current_view}
 
--- the reply to a call or an interrupt has the world on the hart after it, and how many entries the view of that world needs then
+-- the reply to a call or an interrupt has the world on the hart after it, and how many entries the
+-- view of that world needs then
 abbrev pub RepliesWith : (ℕ → ℕ → Reply) → MachineState → ℕ → Reply → Type 0
-RepliesWith reply_of new hart reply = (used : ℕ) × Needs (current_view new.table (new.worlds hart)) used × (reply ≡ reply_of (world_number (new.worlds hart)) used)
+RepliesWith reply_of new hart reply = (used : ℕ)
+    × Needs (current_view new.table (new.worlds hart)) used
+    × (reply ≡ reply_of (world_number (new.worlds hart)) used)

@@ -1,5 +1,6 @@
 -- What a run over a trace does and writes.
-use Rattle.std.specs.Prelude.{◌≡◌, ◌≢◌, ◌⊎◌, ℕ, ◌+◌, ◌^◌, ◌<◌, List, [], ◌∷◌, ◌++◌, length, Option, Some, None, Result, Ok, Err}
+use Rattle.std.specs.Prelude.{◌≡◌, ◌≢◌, ◌⊎◌, ℕ, ◌+◌, ◌^◌, ◌<◌, List, [], ◌∷◌, ◌++◌, length, Option}
+use Rattle.std.specs.Prelude.{Some, None, Result, Ok, Err}
 use Rattle.std.specs.List.{concat}
 use Rattle.std.specs.Io.KnownBytes.{Consumes}
 use Rattle.pmp_encoding.specs.declared.bank.Bank.{Bank}
@@ -20,11 +21,14 @@ use Rattle.hart_sim.specs.Steps.{Run}
 use Rattle.hart_trace.specs.Texts.{reply_text, report_text}
 use Rattle.enclave_table.specs.Views.{current_view}
 
--- what a line, which may name each hart of the platform, does after so many replies: nothing where it has no words; else its event happens, and the reply is told
+-- what a line, which may name each hart of the platform, does after so many replies: nothing where
+-- it has no words; else its event happens, and the reply is told
 abbrev pub DoesLine : Machine → ℕ → List ℕ → Option (List ℕ) → Machine → Type 0
-DoesLine old count line None new = (meaning_of (state_of old).table.layout.harts line ≡ Some None) × (new ≡ old)
+DoesLine old count line None new = (meaning_of (state_of old).table.layout.harts line ≡ Some None)
+    × (new ≡ old)
 DoesLine old count line (Some text) new =
-    (hart : ℕ) × (event : Event) × (reply : Reply) × (meaning_of (state_of old).table.layout.harts line ≡ Some (Some (hart, event)))
+    (hart : ℕ) × (event : Event) × (reply : Reply)
+    × (meaning_of (state_of old).table.layout.harts line ≡ Some (Some (hart, event)))
     × Happens old hart event reply new × (reply ≢ NoMemory) × (text ≡ reply_text (count + 1) reply)
 
 -- a line that is not understood
@@ -33,22 +37,31 @@ RefusesLine machine line = meaning_of (state_of machine).table.layout.harts line
 
 -- a line whose event happens and wants memory that is refused
 abbrev pub StarvesLine : Machine → List ℕ → Machine → Type 0
-StarvesLine old line new = (hart : ℕ) × (event : Event) × (meaning_of (state_of old).table.layout.harts line ≡ Some (Some (hart, event))) × Happens old hart event NoMemory new
+StarvesLine old line new = (hart : ℕ) × (event : Event)
+    × (meaning_of (state_of old).table.layout.harts line ≡ Some (Some (hart, event)))
+    × Happens old hart event NoMemory new
 
 -- lines that say events or have no words, and the events with their harts, in their order
 pub data Spells (harts : ℕ) : List (List ℕ) → List (ℕ × Event) → Type 0 where
   none : Spells harts [] []
-  blank : {lines : List (List ℕ)} {events : List (ℕ × Event)} → Spells harts lines events → (line : List ℕ) → IsShortLine line → meaning_of harts (without_return line) ≡ Some None → Spells harts (lines ++ line ∷ []) events
-  one : {lines : List (List ℕ)} {events : List (ℕ × Event)} → Spells harts lines events → (line : List ℕ) → IsShortLine line → (hart : ℕ) (event : Event) → meaning_of harts (without_return line) ≡ Some (Some (hart, event)) → Spells harts (lines ++ line ∷ []) (events ++ (hart, event) ∷ [])
+  blank : {lines : List (List ℕ)} {events : List (ℕ × Event)} → Spells harts lines events
+      → (line : List ℕ) → IsShortLine line → meaning_of harts (without_return line) ≡ Some None
+      → Spells harts (lines ++ line ∷ []) events
+  one : {lines : List (List ℕ)} {events : List (ℕ × Event)} → Spells harts lines events
+      → (line : List ℕ) → IsShortLine line → (hart : ℕ) (event : Event)
+      → meaning_of harts (without_return line) ≡ Some (Some (hart, event))
+      → Spells harts (lines ++ line ∷ []) (events ++ (hart, event) ∷ [])
 
 -- none of the replies wanted memory
 abbrev pub AreAnswered : List Reply → Type 0
 AreAnswered [] = Unit {0}
 AreAnswered (reply ∷ replies) = (reply ≢ NoMemory) × AreAnswered replies
 
--- a hart's own last event parts a run: right after it the bank of that hart meant the view of its world by the fewest entries, and
--- none of the events that followed was its own, so that bank is there still, whether or not the hart was marked since
-pub record LastOwn (old : Machine) (hart : ℕ) (events : List (ℕ × Event)) (replies : List Reply) (new : Machine) : Type 0 where
+-- a hart's own last event parts a run: right after it the bank of that hart meant the view of its
+-- world by the fewest entries, and none of the events that followed was its own, so that bank is
+-- there still, whether or not the hart was marked since
+pub record LastOwn (old : Machine) (hart : ℕ) (events : List (ℕ × Event)) (replies : List Reply)
+    (new : Machine) : Type 0 where
   pub before : List (ℕ × Event)
   pub event : Event
   pub after : List (ℕ × Event)
@@ -58,16 +71,20 @@ pub record LastOwn (old : Machine) (hart : ℕ) (events : List (ℕ × Event)) (
   pub mid : Machine
   pub events_part : events ≡ before ++ (hart, event) ∷ after
   pub replies_part : replies ≡ answered ++ reply ∷ rest
-  pub until : Run (state_of old) (before ++ (hart, event) ∷ []) (answered ++ reply ∷ []) (state_of mid)
+  pub until : Run (state_of old) (before ++ (hart, event) ∷ []) (answered ++ reply
+      ∷ []) (state_of mid)
   pub since : Run (state_of mid) after rest (state_of new)
   pub elsewhere : AreElsewhere hart after
-  pub meant : (bank : Bank) → bank_on mid hart ≡ Some bank → LoadsFewest bank (current_view (state_of mid).table ((state_of mid).worlds hart))
+  pub meant : (bank : Bank) → bank_on mid hart ≡ Some bank
+      → LoadsFewest bank (current_view (state_of mid).table ((state_of mid).worlds hart))
   pub stays : bank_on new hart ≡ bank_on mid hart
 
--- the events that lines say are a run from one state to the other, the text tells the replies, none of which wanted memory,
--- and a hart on which none of them was has the bank that it had, and each other one that which its own last event left it. Where
--- the machine came of boot and events, it comes of these and those after them
-pub record Report (old : Machine) (lines : List (List ℕ)) (text : List ℕ) (new : Machine) : Type 0 where
+-- the events that lines say are a run from one state to the other, the text tells the replies, none
+-- of which wanted memory, and a hart on which none of them was has the bank that it had, and each
+-- other one that which its own last event left it. Where the machine came of boot and events, it
+-- comes of these and those after them
+pub record Report (old : Machine) (lines : List (List ℕ)) (text : List ℕ) (new : Machine) :
+    Type 0 where
   pub events : List (ℕ × Event)
   pub replies : List Reply
   pub spelled : Spells (state_of old).table.layout.harts lines events
@@ -76,28 +93,38 @@ pub record Report (old : Machine) (lines : List (List ℕ)) (text : List ℕ) (n
   pub each : AreAnswered replies
   pub idle : (hart : ℕ) → AreElsewhere hart events → bank_on new hart ≡ bank_on old hart
   pub last : (hart : ℕ) → AreElsewhere hart events ⊎ LastOwn old hart events replies new
-  pub after : (platform : PlatformLayout) (before : List (ℕ × Event)) (answered : List Reply) → After platform before answered old → After platform (before ++ events) (answered ++ replies) new
+  pub after : (platform : PlatformLayout) (before : List (ℕ × Event)) (answered : List Reply)
+      → After platform before answered old
+      → After platform (before ++ events) (answered ++ replies) new
 
 -- so it is wherever lines were done in turn
 abbrev pub IsReported : Type 0
-IsReported = (old new : Machine) (lines answers : List (List ℕ)) → Does DoesLine old lines answers new → Report old lines (concat answers) new
+IsReported = (old new : Machine) (lines answers : List (List ℕ))
+    → Does DoesLine old lines answers new → Report old lines (concat answers) new
 
 -- with these lines the bytes begin, each before its LF, or they are all of its lines
 abbrev pub BeginsWith : List ℕ → List (List ℕ) → Type 0
 BeginsWith bytes lines = ((rest : List ℕ) × (bytes ≡ ended lines ++ rest)) ⊎ AreLines bytes lines
 
--- which lines of what was read were done. Where the run ended well, all; where line n was not understood, those before it; where the
--- reader failed or too much came, each that a LF ended, of the first 2^40 bytes; else one at least, the last of which ended the run
+-- which lines of what was read were done. Where the run ended well, all; where line n was not
+-- understood, those before it; where the reader failed or too much came, each that a LF ended, of
+-- the first 2^40 bytes; else one at least, the last of which ended the run
 abbrev pub AreDone : Result (Unit {0}) RunFault → List ℕ → List (List ℕ) → Type 0
 AreDone (Ok done) bytes lines = AreLines bytes lines
-AreDone (Err (faults.Line n)) bytes lines = (length lines + 1 ≡ n) × ((rest : List ℕ) × (bytes ≡ ended lines ++ rest))
-AreDone (Err faults.Read) bytes lines = (rest : List ℕ) × (bytes ≡ ended lines ++ rest) × IsShortLine rest
-AreDone (Err faults.TooLong) bytes lines = (rest beyond : List ℕ) × (bytes ≡ ended lines ++ (rest ++ beyond)) × IsShortLine rest × (length (ended lines ++ rest) ≡ 2 ^ 40)
+AreDone (Err (faults.Line n)) bytes lines = (length lines + 1 ≡ n)
+    × ((rest : List ℕ) × (bytes ≡ ended lines ++ rest))
+AreDone (Err faults.Read) bytes lines = (rest : List ℕ) × (bytes ≡ ended lines ++ rest)
+    × IsShortLine rest
+AreDone (Err faults.TooLong) bytes lines = (rest beyond : List ℕ)
+    × (bytes ≡ ended lines ++ (rest ++ beyond)) × IsShortLine rest
+    × (length (ended lines ++ rest) ≡ 2 ^ 40)
 AreDone (Err faults.Write) bytes lines = (0 < length lines) × BeginsWith bytes lines
 AreDone (Err faults.Memory) bytes lines = (0 < length lines) × BeginsWith bytes lines
 
 -- the lines that were done say events, and the machine is the one after these and those before them
-pub record GoesOn (platform : PlatformLayout) (events : List (ℕ × Event)) (replies : List Reply) (result : Result (Unit {0}) RunFault) (old new : Machine) (before after : Option (List ℕ)) : Type 0 where
+pub record GoesOn (platform : PlatformLayout) (events : List (ℕ × Event)) (replies : List Reply)
+    (result : Result (Unit {0}) RunFault) (old new : Machine) (before after : Option (List ℕ)) :
+    Type 0 where
   pub bytes : List ℕ
   pub consumed : Consumes before after bytes
   pub lines : List (List ℕ)

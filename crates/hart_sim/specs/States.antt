@@ -12,9 +12,10 @@ use Rattle.sbi_decode.specs.Runners.{Runner}
 use Rattle.monitor_core.specs.States.{MonitorState}
 use Rattle.monitor_core.specs.Changes.{without_mark}
 
--- the enclaves, the world that runs on each hart, the registers of each host and enclave, the byte at each address, the pages
--- that were written, and the harts that are marked: each of these loads the host's entries before its next event. A hart that
--- there is not stays in the host's world, its registers zero, and is never marked
+-- the enclaves, the world that runs on each hart, the registers of each host and enclave, the byte
+-- at each address, the pages that were written, and the harts that are marked: each of these loads
+-- the host's entries before its next event. A hart that there is not stays in the host's world, its
+-- registers zero, and is never marked
 pub record MachineState : Type 0 where
   pub table : EnclaveTable
   pub worlds : ℕ → World
@@ -25,20 +26,38 @@ pub record MachineState : Type 0 where
 
 -- the monitor's part of a state
 abbrev pub core_of : MachineState → MonitorState
-core_of s = record { table = s.table; worlds = s.worlds; registers = s.registers; marked = s.marked }
+core_of s = record {
+  table = s.table;
+  worlds = s.worlds;
+  registers = s.registers;
+  marked = s.marked;
+}
 
 -- a state with another such part
 abbrev pub with_core : MachineState → MonitorState → MachineState
-with_core s core = record s { table = core.table; worlds = core.worlds; registers = core.registers; marked = core.marked }
+with_core s core = record s {
+  table = core.table;
+  worlds = core.worlds;
+  registers = core.registers;
+  marked = core.marked;
+}
 
 -- the state that an event on a hart meets: the hart is not marked
 abbrev pub awoken : MachineState → ℕ → MachineState
 awoken s hart = with_core s (without_mark (core_of s) hart)
 
--- the opening_state state of a platform: no enclave, each hart in the host's world, all registers and bytes zero, no page written
+-- the opening_state state of a platform: no enclave, each hart in the host's world, all registers
+-- and bytes zero, no page written
 abbrev pub opening_state : PlatformLayout → MachineState
 opening_state layout =
-    record { table = opening_table layout; worlds = λ hart. Host; registers = λ who. zeros; bytes = λ address. 0; written = λ page. false; marked = λ hart. false }
+    record {
+      table = opening_table layout;
+      worlds = λ hart. Host;
+      registers = λ who. zeros;
+      bytes = λ address. 0;
+      written = λ page. false;
+      marked = λ hart. false;
+    }
 
 -- the view of the world that runs on a hart
 abbrev pub view_on : MachineState → ℕ → ℕ → Perm

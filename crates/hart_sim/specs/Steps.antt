@@ -1,5 +1,6 @@
 -- One step of the machine: what an event on a hart may be answered, and the state that it leaves.
-use Rattle.std.specs.Prelude.{◌≡◌, ◌≢◌, ◌⊎◌, ℕ, ◌/◌, ◌%◌, ◌^◌, ◌<◌, false, ◌&&◌, ◌==◌, nat_lt, if◌then◌else◌, List, [], ◌∷◌, ◌++◌, Option, Result, Ok, Err, ◌*◌}
+use Rattle.std.specs.Prelude.{◌≡◌, ◌≢◌, ◌⊎◌, ℕ, ◌/◌, ◌%◌, ◌^◌, ◌<◌, false, ◌&&◌, ◌==◌, nat_lt}
+use Rattle.std.specs.Prelude.{if◌then◌else◌, List, [], ◌∷◌, ◌++◌, Option, Result, Ok, Err, ◌*◌}
 use Rattle.pmp_encoding.specs.declared.perm.Perm.{Perm}
 use Rattle.pmp_encoding.specs.declared.region.Entry.{Entry}
 use Rattle.pmp_match.specs.declared.access.Access.{Access}
@@ -27,44 +28,61 @@ use Rattle.hart_sim.specs.Replies.{RepliesWith}
 use Rattle.enclave_table.specs.Views.{current_view}
 use Rattle.sbi_decode.specs.Runners.{runner_of}
 
--- what a view says of an access: misaligned first, then outside the space of 2 ^ 56 bytes, then what the page's permission holds
+-- what a view says of an access: misaligned first, then outside the space of 2 ^ 56 bytes, then
+-- what the page's permission holds
 abbrev pub verdict : (ℕ → Perm) → Access → Result (Unit {0}) Cause
 verdict view a =
     if a.address % a.size == 0
-    then (if nat_lt a.address (2 ^ 56) && holds (view (a.address / 4096)) a.kind then Ok tt else Err (access_fault a.kind))
+    then (if nat_lt a.address (2 ^ 56) && holds (view (a.address / 4096)) a.kind then Ok tt
+    else Err (access_fault a.kind))
     else Err (misaligned a.kind)
 
--- an access that is allowed. A store may want memory where its page was not written, and then nothing changes
+-- an access that is allowed. A store may want memory where its page was not written, and then
+-- nothing changes
 abbrev pub TakesEffect : Kind → MachineState → Access → ℕ → Reply → MachineState → Type 0
 TakesEffect Fetch s a value reply new = (reply ≡ replies.Done) × (new ≡ s)
-TakesEffect Load s a value reply new = (reply ≡ replies.Loaded (number_of_bytes (bytes_at s.bytes a.address a.size))) × (new ≡ s)
+TakesEffect Load s a value reply new =
+    (reply ≡ replies.Loaded (number_of_bytes (bytes_at s.bytes a.address a.size))) × (new ≡ s)
 TakesEffect Store s a value reply new =
     ((reply ≡ replies.Done) × (new ≡ storing s a.address a.size value))
     ⊎ ((reply ≡ replies.NoMemory) × (s.written (a.address / 4096) ≡ false) × (new ≡ s))
 
 -- an access, by what the view says of it
-abbrev pub Accesses : Result (Unit {0}) Cause → MachineState → Access → ℕ → Reply → MachineState → Type 0
+abbrev pub Accesses : Result (Unit {0}) Cause → MachineState → Access → ℕ → Reply → MachineState
+    → Type 0
 Accesses (Err cause) s a value reply new = (reply ≡ replies.Fault cause) × (new ≡ s)
 Accesses (Ok done) s a value reply new = TakesEffect a.kind s a value reply new
 
--- the monitor serves a call: its state is the machine's then, the pages are zero that it says, and the reply is its answer
-abbrev pub Serves : (Answer → Option PageRange → MonitorState → Type 0) → MachineState → ℕ → Reply → MachineState → Type 0
+-- the monitor serves a call: its state is the machine's then, the pages are zero that it says, and
+-- the reply is its answer
+abbrev pub Serves : (Answer → Option PageRange → MonitorState → Type 0) → MachineState → ℕ → Reply
+    → MachineState → Type 0
 Serves DoesEvent s hart reply new =
-    (answer : Answer) × (pages : Option PageRange) × (core : MonitorState) × DoesEvent answer pages core × (new ≡ zeroing (with_core s core) pages) × RepliesWith (replies.Call answer.status answer.value) new hart reply
+    (answer : Answer) × (pages : Option PageRange) × (core : MonitorState)
+    × DoesEvent answer pages core × (new ≡ zeroing (with_core s core) pages)
+    × RepliesWith (replies.Call answer.status answer.value) new hart reply
 
 -- an event, on a hart that is not marked
 abbrev pub DoesEvent : Event → MachineState → ℕ → Reply → MachineState → Type 0
-DoesEvent (events.Access a value) s hart reply new = Accesses (verdict (current_view s.table (s.worlds hart)) a) s a value reply new
-DoesEvent (events.Reg n value) s hart reply new = (reply ≡ replies.Done) × (new ≡ with_core s (with_running (core_of s) hart (with_x (s.registers (runner_of hart (s.worlds hart))) n value)))
+DoesEvent (events.Access a value) s hart reply new =
+    Accesses (verdict (current_view s.table (s.worlds hart)) a) s a value reply new
+DoesEvent (events.Reg n value) s hart reply new = (reply ≡ replies.Done)
+    × (new ≡ with_core s (with_running (core_of s) hart
+    (with_x (s.registers (runner_of hart (s.worlds hart))) n value)))
 DoesEvent (events.Ecall words) s hart reply new =
     let file = calling s hart words.items in
-    Serves (DoesCall (call_of file) (λ page. bytes_at s.bytes (page * 4096) 4096) (with_running (core_of s) hart file) hart) s hart reply new
-DoesEvent events.Irq s hart reply new = (core : MonitorState) × Interrupts (s.worlds hart) (core_of s) hart core × (new ≡ with_core s core) × RepliesWith replies.Irq new hart reply
+    Serves (DoesCall (call_of file) (λ page. bytes_at s.bytes (page * 4096) 4096)
+    (with_running (core_of s) hart file) hart) s hart reply new
+DoesEvent events.Irq s hart reply new = (core : MonitorState)
+    × Interrupts (s.worlds hart) (core_of s) hart core × (new ≡ with_core s core)
+    × RepliesWith replies.Irq new hart reply
 
--- an event by the lists that an access may meet, whatever they mean: the access does what such a list says of it, and any other event
--- what it does
+-- an event by the lists that an access may meet, whatever they mean: the access does what such a
+-- list says of it, and any other event what it does
 abbrev pub DoesBy : (List Entry → Type 0) → Event → MachineState → ℕ → Reply → MachineState → Type 0
-DoesBy Meets (events.Access a value) s hart reply new = (list : List Entry) (said : Result (Unit {0}) Cause) → Meets list → Judges list a said → Accesses said s a value reply new
+DoesBy Meets (events.Access a value) s hart reply new =
+    (list : List Entry) (said : Result (Unit {0}) Cause) → Meets list → Judges list a said
+    → Accesses said s a value reply new
 DoesBy Meets (events.Reg n value) s hart reply new = DoesEvent (events.Reg n value) s hart reply new
 DoesBy Meets (events.Ecall words) s hart reply new = DoesEvent (events.Ecall words) s hart reply new
 DoesBy Meets events.Irq s hart reply new = DoesEvent events.Irq s hart reply new
@@ -73,13 +91,18 @@ DoesBy Meets events.Irq s hart reply new = DoesEvent events.Irq s hart reply new
 abbrev pub Step : MachineState → ℕ → Event → Reply → MachineState → Type 0
 Step old hart event reply new = DoesEvent event (awoken old hart) hart reply new
 
--- what may happen on a hart: accesses by supervisor or user, settings of x0 to x31, calls of at most eight words, interrupts
+-- what may happen on a hart: accesses by supervisor or user, settings of x0 to x31, calls of at
+-- most eight words, interrupts
 abbrev pub IsEvent : Event → Type 0
 IsEvent (events.Access a value) = a.mode ≢ Machine
 IsEvent (events.Reg n value) = n < 32
 IsEvent _ = Unit {0}
 
--- a run: each event may happen, on a hart that there is, and each step goes on from the state that the one before it left
+-- a run: each event may happen, on a hart that there is, and each step goes on from the state that
+-- the one before it left
 pub data Run (old : MachineState) : List (ℕ × Event) → List Reply → MachineState → Type 0 where
   still : Run old [] [] old
-  step : {events : List (ℕ × Event)} {replies : List Reply} {mid new : MachineState} → Run old events replies mid → (hart : ℕ) (event : Event) (reply : Reply) → hart < mid.table.layout.harts → IsEvent event → Step mid hart event reply new → Run old (events ++ (hart, event) ∷ []) (replies ++ reply ∷ []) new
+  step : {events : List (ℕ × Event)} {replies : List Reply} {mid new : MachineState}
+      → Run old events replies mid → (hart : ℕ) (event : Event) (reply : Reply)
+      → hart < mid.table.layout.harts → IsEvent event → Step mid hart event reply new
+      → Run old (events ++ (hart, event) ∷ []) (replies ++ reply ∷ []) new

@@ -27,25 +27,39 @@ use Rattle.hart_sim.specs.Memory.{bytes_at}
 
 -- a call was answered with this refusal
 abbrev pub IsAnsweredBy : Reply → Refusal → Type 0
-IsAnsweredBy reply refusal = (value world used : ℕ) × (reply ≡ replies.Call (below_zero (refusal_number refusal)) value world used)
+IsAnsweredBy reply refusal = (value world used : ℕ)
+    × (reply ≡ replies.Call (below_zero (refusal_number refusal)) value world used)
 
--- a call that passes its other checks is refused for want of entries only where a view after it would need more than there are;
--- and where one would, it is refused, for want of entries or out of memory
+-- a call that passes its other checks is refused for want of entries only where a view after it
+-- would need more than there are; and where one would, it is refused, for want of entries or out of
+-- memory
 abbrev pub IsRefusedExactlyWhere : Type 0 → Reply → Type 0
-IsRefusedExactlyWhere Outgrows reply = (IsAnsweredBy reply NoEntries → Outgrows) × (Outgrows → IsAnsweredBy reply NoEntries ⊎ IsAnsweredBy reply NoMemory)
+IsRefusedExactlyWhere Outgrows reply = (IsAnsweredBy reply NoEntries → Outgrows)
+    × (Outgrows → IsAnsweredBy reply NoEntries ⊎ IsAnsweredBy reply NoMemory)
 
 abbrev pub CreatesByNeed : Type 0
 CreatesByNeed =
-    (asked : Create) (s : MachineState) (hart : ℕ) (reply : Reply) (new : MachineState) → AllPass (create_checks s.table (s.worlds hart) (parts_of asked)) → Serves (DoesCall (Some (calls.Create asked.base asked.text_pages asked.data_pages asked.shared_base asked.shared_count asked.entry_offset)) (λ page. bytes_at s.bytes (page * 4096) 4096) (core_of s) hart) s hart reply new
-    → IsRefusedExactlyWhere (OutgrowsByCreate (λ page. bytes_at s.bytes (page * 4096) 4096) s.table asked) reply
+    (asked : Create) (s : MachineState) (hart : ℕ) (reply : Reply) (new : MachineState)
+    → AllPass (create_checks s.table (s.worlds hart) (parts_of asked))
+    → Serves (DoesCall (Some (calls.Create asked.base asked.text_pages asked.data_pages
+    asked.shared_base asked.shared_count asked.entry_offset))
+    (λ page. bytes_at s.bytes (page * 4096) 4096) (core_of s) hart) s hart reply new
+    → IsRefusedExactlyWhere (OutgrowsByCreate (λ page. bytes_at s.bytes (page * 4096) 4096) s.table
+    asked) reply
 
 abbrev pub DestroysByNeed : Type 0
 DestroysByNeed =
-    (id : ℕ) (s : MachineState) (hart : ℕ) (reply : Reply) (new : MachineState) → AllPass (host_checks MayDestroy s.table (s.worlds hart) id) → Serves (DoesCall (Some (calls.Destroy id)) (λ page. bytes_at s.bytes (page * 4096) 4096) (core_of s) hart) s hart reply new
-    → IsRefusedExactlyWhere (NeedsMore s.table.layout.limit (host_view (with_enclave s.table id None))) reply
+    (id : ℕ) (s : MachineState) (hart : ℕ) (reply : Reply) (new : MachineState)
+    → AllPass (host_checks MayDestroy s.table (s.worlds hart) id)
+    → Serves (DoesCall (Some (calls.Destroy id)) (λ page. bytes_at s.bytes (page * 4096) 4096)
+    (core_of s) hart) s hart reply new
+    → IsRefusedExactlyWhere (NeedsMore s.table.layout.limit
+    (host_view (with_enclave s.table id None))) reply
 
--- the call that an event makes on a hart is refused for want of entries just where a view after it would need more; an event that is
--- no call is never refused so
+-- the call that an event makes on a hart is refused for want of entries just where a view after it
+-- would need more; an event that is no call is never refused so
 abbrev pub RefusesByNeed : MachineState → ℕ → Event → Reply → Type 0
-RefusesByNeed s hart (events.Ecall words) reply = IsRefusedByNeed (call_of (calling s hart words.items)) s.table (s.worlds hart) (IsAnsweredBy reply)
+RefusesByNeed s hart (events.Ecall words) reply =
+    IsRefusedByNeed (call_of (calling s hart words.items)) s.table (s.worlds hart)
+    (IsAnsweredBy reply)
 RefusesByNeed s hart _ reply = IsRefusedByNeed None s.table (s.worlds hart) (IsAnsweredBy reply)

@@ -7,11 +7,12 @@ use Rattle.hart_trace.specs.declared.reply.Reply.{Reply}
 use Rattle.hart_sim.specs.States.{MachineState, core_of, opening_state}
 use Rattle.hart_sim.specs.Steps.{Run}
 
--- the monitor's part says it: each hart is in the host's world or in that of an enclave that is Running, each of these runs on just
--- one hart, and a marked hart is in the host's world
+-- the monitor's part says it: each hart is in the host's world or in that of an enclave that is
+-- Running, each of these runs on just one hart, and a marked hart is in the host's world
 abbrev pub AreWorlds : MachineState → Type 0
 AreWorlds s = ArePlaced (core_of s)
 
 -- so it is after every run from the opening_state state
 abbrev pub RunsKeepWorlds : Type 0
-RunsKeepWorlds = (layout : PlatformLayout) (events : List (ℕ × Event)) (replies : List Reply) (s : MachineState) → Run (opening_state layout) events replies s → AreWorlds s
+RunsKeepWorlds = (layout : PlatformLayout) (events : List (ℕ × Event)) (replies : List Reply)
+    (s : MachineState) → Run (opening_state layout) events replies s → AreWorlds s

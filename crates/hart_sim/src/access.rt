@@ -3,8 +3,8 @@
 ghost use Rattle.std.specs.Prelude.{◌≡◌, ◌%◌};
 ghost use Rattle.hart_sim.specs.Effects.{ReachesMemory};
 
-use crate::parts::Parts;
 use crate::Memory;
+use crate::parts::Parts;
 use hart_trace::Reply;
 use pmp_match::{Access, Kind, judge};
 use std::alloc::Global;

@@ -1,8 +1,8 @@
 //! The machine as it is at boot.
 
+use crate::Memory;
 use crate::hart_bank::HartBank;
 use crate::parts::Parts;
-use crate::Memory;
 use monitor_core::{BootFault, Monitor, Platform};
 use pmp_encoding::Bank;
 use std::alloc::{AllocError, Global};

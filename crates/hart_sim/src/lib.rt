@@ -53,13 +53,12 @@ mod step;
 mod trace_run;
 
 pub use byte_streams::{Counted, DeviceFault, Sink, Source, fakes};
-pub use hart_trace::{Event, parse_line};
+pub use hart_trace::{Event, Reply, parse_line, push_reply};
 pub use laws::{
     creation_law, destruction_law, headline_law, platform_law, privacy_law, private_bytes_law,
     report_law, step_law, worlds_law,
 };
 pub use machine::Machine;
-pub use hart_trace::{Reply, push_reply};
+pub use memory::Memory;
 pub use text_lines::{NotUnderstood, RunFault};
 pub use trace_run::run;
-pub use memory::Memory;

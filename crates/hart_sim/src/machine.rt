@@ -5,8 +5,7 @@ ghost use Rattle.hart_sim.specs.Parts.{AreBanks};
 
 use crate::parts::Parts;
 use arrayvec::ArrayVec;
-use hart_trace::Event;
-use hart_trace::Reply;
+use hart_trace::{Event, Reply};
 use monitor_core::{BootFault, Platform, Table, World};
 use pmp_encoding::Bank;
 use sbi_decode::Registers;

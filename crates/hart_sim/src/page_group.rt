@@ -57,7 +57,8 @@ impl PageGroup {
         requires size { size ≤ 8 }
         requires inside { at + size ≤ 4096 }
         ensures bytes { OnOk result ((k : ℕ) → byte_in (page_at self.new place) k
-            ≡ (if in_range at size k then byte_of value (k - at) else byte_in (page_at self.old place) k)) }
+            ≡ (if in_range at size k then byte_of value (k - at)
+            else byte_in (page_at self.old place) k)) }
         ensures written { OnOk result (is_some (page_at self.new place) ≡ true) }
         ensures others { OnOk result ((other : ℕ) → other ≢ place
             → page_at self.new other ≡ page_at self.old other) }
@@ -88,7 +89,8 @@ impl PageGroup {
         requires inside { at + size ≤ 4096 }
         requires new { page_at self.old place ≡ None }
         ensures bytes { OnOk result ((k : ℕ) → byte_in (page_at self.new place) k
-            ≡ (if in_range at size k then byte_of value (k - at) else byte_in (page_at self.old place) k)) }
+            ≡ (if in_range at size k then byte_of value (k - at)
+            else byte_in (page_at self.old place) k)) }
         ensures written { OnOk result (is_some (page_at self.new place) ≡ true) }
         ensures others { OnOk result ((other : ℕ) → other ≢ place
             → page_at self.new other ≡ page_at self.old other) }

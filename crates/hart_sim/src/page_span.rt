@@ -57,7 +57,8 @@ impl PageSpan {
         requires size { size ≤ 8 }
         requires inside { at + size ≤ 4096 }
         ensures bytes { OnOk result ((k : ℕ) → byte_in (page_on self.new place) k
-            ≡ (if in_range at size k then byte_of value (k - at) else byte_in (page_on self.old place) k)) }
+            ≡ (if in_range at size k then byte_of value (k - at)
+            else byte_in (page_on self.old place) k)) }
         ensures written { OnOk result (is_some (page_on self.new place) ≡ true) }
         ensures others { OnOk result ((other : ℕ) → other ≢ place
             → page_on self.new other ≡ page_on self.old other) }
@@ -87,7 +88,8 @@ impl PageSpan {
         requires inside { at + size ≤ 4096 }
         requires new { has_group self.old (place / 64) ≡ false }
         ensures bytes { OnOk result ((k : ℕ) → byte_in (page_on self.new place) k
-            ≡ (if in_range at size k then byte_of value (k - at) else byte_in (page_on self.old place) k)) }
+            ≡ (if in_range at size k then byte_of value (k - at)
+            else byte_in (page_on self.old place) k)) }
         ensures written { OnOk result (is_some (page_on self.new place) ≡ true) }
         ensures others { OnOk result ((other : ℕ) → other ≢ place
             → page_on self.new other ≡ page_on self.old other) }

@@ -1,7 +1,7 @@
 //! The parts of the machine: the monitor, memory, and the banks that are loaded.
 
-use crate::hart_bank::HartBank;
 use crate::Memory;
+use crate::hart_bank::HartBank;
 use monitor_core::Monitor;
 use std::alloc::Global;
 

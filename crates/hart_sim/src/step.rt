@@ -1,8 +1,7 @@
 //! An event on a hart: it loads what it has to, and then the event happens.
 
 use crate::parts::Parts;
-use hart_trace::Event;
-use hart_trace::Reply;
+use hart_trace::{Event, Reply};
 
 impl Parts {
     ghost use Rattle.std.specs.Prelude.{◌≡◌, ℕ, ◌<◌, ◌↔◌, List, false, Err, Some};

@@ -12,8 +12,9 @@ ghost use Rattle.hart_sim.specs.Reports.{DoesLine, RefusesLine, StarvesLine, Goe
 use crate::machine::Machine;
 use arrayvec::ArrayVec;
 use byte_streams::{Sink, Source};
-use hart_trace::{Event, access_ahead, call_ahead, interrupt_ahead, parse_line, setting_ahead};
-use hart_trace::push_reply;
+use hart_trace::{
+    Event, access_ahead, call_ahead, interrupt_ahead, parse_line, push_reply, setting_ahead,
+};
 use text_lines::{Interpreter, Line, NotUnderstood, Refusal, RunFault, interpret_lines};
 
 impl Machine {

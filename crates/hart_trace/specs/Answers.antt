@@ -1,5 +1,6 @@
 -- What `judge` writes for a trace of accesses.
-use Rattle.std.specs.Prelude.{◌≡◌, ℕ, ◌+◌, List, ◌++◌, Option, Some, None, Result, Ok, Err, codes, decimal}
+use Rattle.std.specs.Prelude.{◌≡◌, ℕ, ◌+◌, List, ◌++◌, Option, Some, None, Result, Ok, Err, codes}
+use Rattle.std.specs.Prelude.{decimal}
 use Rattle.pmp_encoding.specs.declared.bank.Bank.{Bank}
 use Rattle.pmp_encoding.specs.declared.region.Entry.{Entry}
 use Rattle.pmp_encoding.specs.Banks.{HasList}
@@ -44,15 +45,18 @@ Outcomes = Access → Result (Unit {0}) Cause → Type 0
 -- the answer after n others: none without an access, otherwise its outcome
 abbrev pub IsAnswer : Outcomes → ℕ → Option Access → Option (List ℕ) → Type 0
 IsAnswer outcomes n None answer = answer ≡ None
-IsAnswer outcomes n (Some access) answer = (result : Result (Unit {0}) Cause) × outcomes access result × (answer ≡ Some (answer_text (n + 1) result))
+IsAnswer outcomes n (Some access) answer = (result : Result (Unit {0}) Cause)
+    × outcomes access result × (answer ≡ Some (answer_text (n + 1) result))
 
 -- a line is an access or has no words, and has that answer; nothing else comes of it
 abbrev pub answered_by : Outcomes → Meaning (Unit {0})
-answered_by outcomes = λ old n line answer new. (access : Option Access) × (access_on line ≡ Some access) × IsAnswer outcomes n access answer
+answered_by outcomes = λ old n line answer new. (access : Option Access)
+    × (access_on line ≡ Some access) × IsAnswer outcomes n access answer
 
 -- what accesses come to by the list that a bank's registers mean
 abbrev pub by_list : Bank → Outcomes
-by_list bank = λ access result. (entries : List Entry) → HasList bank entries → Judges entries access result
+by_list bank = λ access result. (entries : List Entry) → HasList bank entries
+    → Judges entries access result
 
 -- the answers by that list
 abbrev pub judged_by : Bank → Meaning (Unit {0})

@@ -1,5 +1,7 @@
 -- The lines of a trace: the event of each.
-use Rattle.std.specs.Prelude.{◌≡◌, ℕ, ◌-◌, Bool, true, false, not, refl, ◌&&◌, ◌==◌, nat_lt, nat_le, if◌then◌else◌, List, [], ◌∷◌, length, Option, Some, None, option_map, codes, bytes_eq}
+use Rattle.std.specs.Prelude.{◌≡◌, ℕ, ◌-◌, Bool, true, false, not, refl, ◌&&◌, ◌==◌, nat_lt, nat_le}
+use Rattle.std.specs.Prelude.{if◌then◌else◌, List, [], ◌∷◌, length, Option, Some, None, option_map}
+use Rattle.std.specs.Prelude.{codes, bytes_eq}
 use Rattle.pmp_match.specs.declared.access.Mode.{Mode}
 use Rattle.pmp_match.specs.declared.access.Mode.TheVariants.{Supervisor, User}
 use Rattle.pmp_match.specs.declared.access.Kind.{Kind}
@@ -21,11 +23,14 @@ None >>= f = None
 (Some x) >>= f = f x
 
 abbrev pub mode_of : Word → Option Mode
-mode_of word = if bytes_eq word (codes "s") then Some Supervisor else if bytes_eq word (codes "u") then Some User else None
+mode_of word = if bytes_eq word (codes "s") then Some Supervisor else if bytes_eq word (codes "u")
+    then Some User else None
 
 -- an access of a size that its kind has
-abbrev pub sized : Mode → (kind : Kind) → (size address : ℕ) → (b : Bool) → has_size kind size ≡ b → Option Access
-sized mode kind size address true fits = Some (record { mode = mode; kind = kind; size = size; address = address; sized = fits })
+abbrev pub sized : Mode → (kind : Kind) → (size address : ℕ) → (b : Bool) → has_size kind size ≡ b
+    → Option Access
+sized mode kind size address true fits =
+    Some (record { mode = mode; kind = kind; size = size; address = address; sized = fits })
 sized mode kind size address false fits = None
 
 -- M, SIZE and ADDR, and the words after them
@@ -77,7 +82,8 @@ numbers_of (word ∷ words) = do
 
 -- a call of at most 8 words
 abbrev pub call_in : List Word → Option Event
-call_in words = if nat_le (length words) 8 then option_map (λ ns. events.Ecall (record { items = ns })) (numbers_of words) else None
+call_in words = if nat_le (length words) 8
+    then option_map (λ ns. events.Ecall (record { items = ns })) (numbers_of words) else None
 
 abbrev pub interrupt_of : List Word → Option Event
 interrupt_of [] = Some events.Irq
@@ -97,7 +103,8 @@ event_of (keyword ∷ words) =
 
 -- `@H`, H one digit below the number of harts
 abbrev pub hart_of : ℕ → Word → Option ℕ
-hart_of harts (at ∷ digit ∷ []) = if at == 64 && nat_le 48 digit && nat_le digit 57 && nat_lt (digit - 48) harts then Some (digit - 48) else None
+hart_of harts (at ∷ digit ∷ []) = if at == 64 && nat_le 48 digit && nat_le digit 57
+    && nat_lt (digit - 48) harts then Some (digit - 48) else None
 hart_of harts _ = None
 
 -- the hart that the first word names, or hart 0, and what happens there

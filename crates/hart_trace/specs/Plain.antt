@@ -1,5 +1,6 @@
 -- The plainest spelling of an access.
-use Rattle.std.specs.Prelude.{◌≡◌, ◌≤◌, ◌<◌, ℕ, length, drop, slice_index, bit_and, ◌++◌, Bool, true, ◌||◌, ◌==◌, List, [], ◌∷◌, Some, codes, option_map}
+use Rattle.std.specs.Prelude.{◌≡◌, ◌≤◌, ◌<◌, ℕ, length, drop, slice_index, bit_and, ◌++◌, Bool}
+use Rattle.std.specs.Prelude.{true, ◌||◌, ◌==◌, List, [], ◌∷◌, Some, codes, option_map}
 use Rattle.std.specs.List.{list_all}
 use Rattle.std.specs.Int.{from_le_bytes, w64}
 use Rattle.pmp_match.specs.declared.access.Access.{Access}
@@ -19,11 +20,14 @@ is_mark b = b == 120 || b == 88
 
 -- a letter for the mode, one for the size, and `0x` or `0X` before what follows
 abbrev pub Starts : List ℕ → Mode → ℕ → List ℕ → Type 0
-Starts text mode size behind = (m s x : ℕ) × (text ≡ m ∷ 32 ∷ s ∷ 32 ∷ 48 ∷ x ∷ behind) × (mode_of (m ∷ []) ≡ Some mode) × (number_of (s ∷ []) ≡ Some size) × (is_letter m ≡ true) × (is_letter s ≡ true) × (is_mark x ≡ true)
+Starts text mode size behind = (m s x : ℕ) × (text ≡ m ∷ 32 ∷ s ∷ 32 ∷ 48 ∷ x ∷ behind)
+    × (mode_of (m ∷ []) ≡ Some mode) × (number_of (s ∷ []) ≡ Some size) × (is_letter m ≡ true)
+    × (is_letter s ≡ true) × (is_mark x ≡ true)
 
 -- a text begins with letters that spell a number, and after them stands the rest
 abbrev pub BeginsNumber : List ℕ → ℕ → List ℕ → Type 0
-BeginsNumber text value rest = (b : ℕ) × (word : List ℕ) × (text ≡ (b ∷ word) ++ rest) × (list_all is_letter (b ∷ word) ≡ true) × (number_of (b ∷ word) ≡ Some value)
+BeginsNumber text value rest = (b : ℕ) × (word : List ℕ) × (text ≡ (b ∷ word) ++ rest)
+    × (list_all is_letter (b ∷ word) ≡ true) × (number_of (b ∷ word) ≡ Some value)
 
 -- the keyword of each kind of access
 abbrev pub keyword : Kind → List ℕ
@@ -41,15 +45,18 @@ EndsBefore text rest = EndsWord is_blank text × (words_of text ≡ words_of res
 
 -- the first eight bytes of a text make this number, the first of them lowest
 abbrev pub BeginsWith : List ℕ → ℕ → Type 0
-BeginsWith text number = (8 ≤ length text) × (number ≡ from_le_bytes w64 text) × ((i : ℕ) → slice_index text i < 256)
+BeginsWith text number = (8 ≤ length text) × (number ≡ from_le_bytes w64 text)
+    × ((i : ℕ) → slice_index text i < 256)
 
 -- a line whose first bytes under the mask are the number begins with the keyword and a blank
 pub record Tells (k : Keyword) : Type 0 where
   pub short : k.len < 8
-  pub said : (line : List ℕ) (first : ℕ) → BeginsWith line first → bit_and first k.mask ≡ k.number → line ≡ keyword k.kind ++ 32 ∷ drop k.len line
+  pub said : (line : List ℕ) (first : ℕ) → BeginsWith line first → bit_and first k.mask ≡ k.number
+      → line ≡ keyword k.kind ++ 32 ∷ drop k.len line
 
 -- a text begins with plain words that say an access of that kind, and has these words after it
-pub record BeginsAccess (kind : Kind) (text : List ℕ) (access : Access) (words : List (List ℕ)) (behind : List ℕ) : Type 0 where
+pub record BeginsAccess (kind : Kind) (text : List ℕ) (access : Access) (words : List (List ℕ))
+    (behind : List ℕ) : Type 0 where
   pub spelled : List ℕ
   pub parts : text ≡ spelled ++ behind
   pub plain : list_all is_plain spelled ≡ true
@@ -69,9 +76,12 @@ pub record BeginsEvent (text : List ℕ) (event : Event) (behind : List ℕ) : T
   pub plain : list_all is_plain line ≡ true
   pub said : (harts : ℕ) → meaning_of harts line ≡ Some (Some (0, event))
 
--- a hart's name before what follows, or no name: what follows says on the first hart, the text says on that one
+-- a hart's name before what follows, or no name: what follows says on the first hart, the text says
+-- on that one
 pub record Named (harts : ℕ) (text : List ℕ) (hart : ℕ) (behind : List ℕ) : Type 0 where
   pub name : List ℕ
   pub parts : text ≡ name ++ behind
   pub plain : list_all is_plain name ≡ true
-  pub said : (line : List ℕ) (event : Event) → meaning_of 0 line ≡ Some (Some (0, event)) → meaning_of harts line ≡ Some (Some (0, event)) → meaning_of harts (name ++ line) ≡ Some (Some (hart, event))
+  pub said : (line : List ℕ) (event : Event) → meaning_of 0 line ≡ Some (Some (0, event))
+      → meaning_of harts line ≡ Some (Some (0, event))
+      → meaning_of harts (name ++ line) ≡ Some (Some (hart, event))

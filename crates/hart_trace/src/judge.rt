@@ -7,8 +7,8 @@ ghost use Rattle.hart_trace.specs.Answers.{access_on, answered_by, is_no_access,
 
 use crate::access_judge::AccessJudge;
 use crate::answers::push_answer;
-use byte_streams::{Sink, Source};
 use crate::{Event, access_ahead, is_wordless, parse_by_words, spaced_access};
+use byte_streams::{Sink, Source};
 use pmp_encoding::Bank;
 use pmp_match::{Access, Segments};
 use text_lines::{Interpreter, Line, NotUnderstood, Refusal, RunFault, interpret_lines};

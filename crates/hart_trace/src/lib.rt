@@ -42,12 +42,12 @@ mod reply;
 mod spaced;
 mod trace;
 
-pub use ahead::{access_ahead, call_ahead, interrupt_ahead, setting_ahead};
-pub use event::Event;
-pub use spaced::{is_wordless, spaced_access};
-pub use trace::{parse_by_words, parse_line};
 pub use access_judge::AccessJudge;
+pub use ahead::{access_ahead, call_ahead, interrupt_ahead, setting_ahead};
 pub use answers::push_answer;
+pub use event::Event;
 pub use judge::{LineJudge, judge_lines, judge_trace};
 pub use lines::push_reply;
 pub use reply::Reply;
+pub use spaced::{is_wordless, spaced_access};
+pub use trace::{parse_by_words, parse_line};

@@ -1,5 +1,6 @@
 -- The words of a line, each with how many bytes of the line stand before it.
-use Rattle.std.specs.Prelude.{ℕ, ◌+◌, ◌-◌, Bool, if◌then◌else◌, List, [], ◌∷◌, length, map, take, drop}
+use Rattle.std.specs.Prelude.{ℕ, ◌+◌, ◌-◌, Bool, if◌then◌else◌, List, [], ◌∷◌, length, map, take}
+use Rattle.std.specs.Prelude.{drop}
 use Rattle.std.specs.List.{position_or_len, prefix_len}
 use Rattle.text_lines.specs.Words.{is_blank}
 
@@ -23,16 +24,19 @@ PlacedWord = ℕ × List ℕ
 abbrev pub end_of : PlacedWord → ℕ
 end_of placed = placed.0 + length placed.1
 
--- a byte before some words: it stands alone where a blank or nothing follows it, otherwise it begins the first of them
+-- a byte before some words: it stands alone where a blank or nothing follows it, otherwise it
+-- begins the first of them
 abbrev pub placed_joined : (ℕ → Bool) → ℕ → ℕ → List ℕ → List PlacedWord → List PlacedWord
 placed_joined blank at b [] words = (at, b ∷ []) ∷ words
 placed_joined blank at b (next ∷ rest) [] = (at, b ∷ []) ∷ []
-placed_joined blank at b (next ∷ rest) (placed ∷ words) = if blank next then (at, b ∷ []) ∷ placed ∷ words else (at, b ∷ placed.1) ∷ words
+placed_joined blank at b (next ∷ rest) (placed ∷ words) = if blank next then (at, b ∷ []) ∷ placed
+    ∷ words else (at, b ∷ placed.1) ∷ words
 
 -- the words of a text before which so many bytes stand, which one or more blanks part
 abbrev pub placed_by : (ℕ → Bool) → ℕ → List ℕ → List PlacedWord
 placed_by blank at [] = []
-placed_by blank at (b ∷ bytes) = if blank b then placed_by blank (at + 1) bytes else placed_joined blank at b bytes (placed_by blank (at + 1) bytes)
+placed_by blank at (b ∷ bytes) = if blank b then placed_by blank (at + 1) bytes
+    else placed_joined blank at b bytes (placed_by blank (at + 1) bytes)
 
 -- the words of a text that begin at a place or after it
 abbrev pub placed_at : List ℕ → ℕ → List PlacedWord

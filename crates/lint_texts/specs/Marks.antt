@@ -21,7 +21,8 @@ abbrev pub byte_fault : List ℕ → List ℕ
 byte_fault text =
     if begins_with 13 text then codes "a CR that no LF follows; end lines with LF"
     else if begins_with 0 text then codes "a NUL byte; save the file as UTF-8"
-    else if begins_with_both 255 254 text || begins_with_both 254 255 text then codes "a byte order mark of UTF-16; save the file as UTF-8 without one"
+    else if begins_with_both 255 254 text || begins_with_both 254 255 text
+    then codes "a byte order mark of UTF-16; save the file as UTF-8 without one"
     else if begins_with_both 194 160 text then codes "a no-break space; write a space"
     else codes "a byte that is no visible ASCII character; write it behind a #"
 

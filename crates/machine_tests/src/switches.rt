@@ -2,9 +2,8 @@
 
 use context_switch::{Contexts, Hart, switch};
 use pmp_encoding::{Bank, Entry, Limit, Perm, Region};
-use sbi_decode::Registers;
+use sbi_decode::{Registers, World};
 use std::process::Abort;
-use sbi_decode::World;
 
 const A0: usize = 10;
 

@@ -10,8 +10,8 @@ mod refusals;
 mod scattered;
 mod views;
 
-use measurement::{Create, Pages};
 use enclave_table::{CreateNeeds, Owner, Refusal, Table, World};
+use measurement::{Create, Pages};
 use platforms::Platform;
 use pmp_encoding::{Bank, Entry, Perm};
 use std::alloc::Global;

@@ -1,5 +1,6 @@
 -- What the lines of a map file cost.
-use Rattle.std.specs.Prelude.{◌≡◌, ℕ, ◌+◌, ◌-◌, ◌==◌, nat_lt, min, if◌then◌else◌, List, [], ◌∷◌, ◌++◌, Option, Some, None, codes, decimal, drop, length, take}
+use Rattle.std.specs.Prelude.{◌≡◌, ℕ, ◌+◌, ◌-◌, ◌==◌, nat_lt, min, if◌then◌else◌, List, [], ◌∷◌}
+use Rattle.std.specs.Prelude.{◌++◌, Option, Some, None, codes, decimal, drop, length, take}
 use Rattle.pmp_encoding.specs.declared.region.Entry.{Entry}
 use Rattle.pmp_match.specs.Meaning.{IsFewest}
 use Rattle.permission_map.specs.declared.runs.Run.{Run}
@@ -27,22 +28,29 @@ entries_named n = if n == 1 then codes " entry\n" else codes " entries\n"
 
 -- what is said of the line of that number
 abbrev pub cost_text : ℕ → Option ℕ → List ℕ
-cost_text line (Some n) = codes "without line " ++ decimal line ++ codes ": " ++ decimal n ++ entries_named n
+cost_text line (Some n) = codes "without line " ++ decimal line ++ codes ": " ++ decimal n
+    ++ entries_named n
 cost_text line None = codes "without line " ++ decimal line ++ codes ": more than 4096 ranges\n"
 
--- what is said of so many of these settings, from the first on: of each how many entries the map of all others needs
+-- what is said of so many of these settings, from the first on: of each how many entries the map of
+-- all others needs
 pub data AreCosts (settings : List Numbered) : ℕ → List ℕ → Type 0 where
   none : AreCosts settings 0 []
   more :
-      (i : ℕ) (numbered : Numbered) (cost : Option ℕ) (text : List ℕ) → AreCosts settings i text → drop i settings ≡ numbered ∷ drop (i + 1) settings
-      → HasCost (take i settings ++ drop (i + 1) settings) cost → AreCosts settings (i + 1) (text ++ cost_text numbered.line cost)
+      (i : ℕ) (numbered : Numbered) (cost : Option ℕ) (text : List ℕ) → AreCosts settings i text
+      → drop i settings ≡ numbered ∷ drop (i + 1) settings
+      → HasCost (take i settings ++ drop (i + 1) settings) cost
+      → AreCosts settings (i + 1) (text ++ cost_text numbered.line cost)
 
 -- how many of so many settings are not looked at, where there are more than 512
 abbrev pub unlooked_text : ℕ → List ℕ
-unlooked_text n = if nat_lt 512 n then codes "lines after these that are not looked at: " ++ decimal (n - 512) ++ codes "\n" else []
+unlooked_text n = if nat_lt 512 n then codes "lines after these that are not looked at: "
+    ++ decimal (n - 512) ++ codes "\n" else []
 
--- what is said of the lines of a file that set something: of the first 512, and how many there are more
+-- what is said of the lines of a file that set something: of the first 512, and how many there are
+-- more
 pub record IsCostText (bytes text : List ℕ) : Type 0 where
   pub said : List ℕ
-  pub are_costs : AreCosts (settings_from 1 (raw_lines bytes)) (min (length (settings_from 1 (raw_lines bytes))) 512) said
+  pub are_costs : AreCosts (settings_from 1 (raw_lines bytes))
+      (min (length (settings_from 1 (raw_lines bytes))) 512) said
   pub lines : text ≡ said ++ unlooked_text (length (settings_from 1 (raw_lines bytes)))

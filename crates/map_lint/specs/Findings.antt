@@ -15,7 +15,8 @@ finding_by name n raw (Some said) = []
 -- what is written of lines, one after another, the first of which has number n
 abbrev pub findings_from : List ℕ → ℕ → List (List ℕ) → List ℕ
 findings_from name n [] = []
-findings_from name n (raw ∷ lines) = finding_by name n raw (raw_says raw) ++ findings_from name (n + 1) lines
+findings_from name n (raw ∷ lines) = finding_by name n raw (raw_says raw)
+    ++ findings_from name (n + 1) lines
 
 -- what is written of a file: its lines at fault, and what stands after them
 pub record IsLintText (name bytes : List ℕ) (is_map : Bool) (text : List ℕ) : Type 0 where

@@ -1,5 +1,6 @@
 -- The settings of a map's lines, and the maps to which they lead.
-use Rattle.std.specs.Prelude.{◌≡◌, ◌⊎◌, ◌≢◌, ℕ, ◌+◌, ◌^◌, ◌<◌, ◌≤◌, Bool, true, false, List, [], ◌∷◌, ◌++◌, length, codes, Option, Some}
+use Rattle.std.specs.Prelude.{◌≡◌, ◌⊎◌, ◌≢◌, ℕ, ◌+◌, ◌^◌, ◌<◌, ◌≤◌, Bool, true, false, List, []}
+use Rattle.std.specs.Prelude.{◌∷◌, ◌++◌, length, codes, Option, Some}
 use Rattle.pmp_encoding.specs.declared.perm.Perm.TheVariants.{NoAccess}
 use Rattle.permission_map.specs.declared.runs.Run.{Run}
 use Rattle.permission_map.specs.Runs.{end_of, view_of_runs}
@@ -20,30 +21,39 @@ settings_from n (raw ∷ lines) = settings_by n (raw_says raw) ++ settings_from 
 -- settings lead from a map to a map, one after another
 abbrev pub SetTo : List Run → List Numbered → List Run → Type 0
 SetTo before [] after = after ≡ before
-SetTo before (numbered ∷ settings) after = (middle : List Run) × Sets before numbered.setting middle × SetTo middle settings after
+SetTo before (numbered ∷ settings) after = (middle : List Run) × Sets before numbered.setting middle
+    × SetTo middle settings after
 
 -- after line n, the first of them, there would be too many ranges
 abbrev pub IsTooManyAfter : ℕ → List Run → List Numbered → Type 0
 IsTooManyAfter n before [] = ⊥
 IsTooManyAfter n before (numbered ∷ settings) =
-    ((numbered.line ≡ n) × SetsTooMany before numbered.setting) ⊎ ((middle : List Run) × Sets before numbered.setting middle × IsTooManyAfter n middle settings)
+    ((numbered.line ≡ n) × SetsTooMany before numbered.setting)
+    ⊎ ((middle : List Run) × Sets before numbered.setting middle
+    × IsTooManyAfter n middle settings)
 
 -- settings lead to another map than this one, or on their way there are too many ranges
 abbrev pub LeadElsewhere : List Numbered → List Run → Type 0
-LeadElsewhere settings whole = ((other : List Run) × SetTo [] settings other × (other ≢ whole)) ⊎ ((n : ℕ) × IsTooManyAfter n [] settings)
+LeadElsewhere settings whole = ((other : List Run) × SetTo [] settings other × (other ≢ whole))
+    ⊎ ((n : ℕ) × IsTooManyAfter n [] settings)
 
 -- each page of a setting has no permission
 abbrev pub IsDeniedOn : List Run → Run → Type 0
-IsDeniedOn map setting = (page : ℕ) → setting.first ≤ page → page < end_of setting → view_of_runs map page ≡ NoAccess
+IsDeniedOn map setting = (page : ℕ) → setting.first ≤ page → page < end_of setting
+    → view_of_runs map page ≡ NoAccess
 
 -- some page of a setting has a permission
 abbrev pub IsAllowedOn : List Run → Run → Type 0
-IsAllowedOn map setting = (page : ℕ) × (setting.first ≤ page) × (page < end_of setting) × (view_of_runs map page ≢ NoAccess)
+IsAllowedOn map setting = (page : ℕ) × (setting.first ≤ page) × (page < end_of setting)
+    × (view_of_runs map page ≢ NoAccess)
 
--- whether a setting after others says what holds anyway: it denies its pages, to none of which those others give a permission
+-- whether a setting after others says what holds anyway: it denies its pages, to none of which
+-- those others give a permission
 pub data IsSaidAnyway (kept : List Numbered) (setting : Run) : Bool → Type 0 where
-  denied : (before : List Run) → SetTo [] kept before → setting.perm ≡ NoAccess → IsDeniedOn before setting → IsSaidAnyway kept setting true
-  allowed : (before : List Run) → SetTo [] kept before → IsAllowedOn before setting → IsSaidAnyway kept setting false
+  denied : (before : List Run) → SetTo [] kept before → setting.perm ≡ NoAccess
+      → IsDeniedOn before setting → IsSaidAnyway kept setting true
+  allowed : (before : List Run) → SetTo [] kept before → IsAllowedOn before setting
+      → IsSaidAnyway kept setting false
   allows : setting.perm ≢ NoAccess → IsSaidAnyway kept setting false
 
 -- a line that is named, and whether it says what holds anyway
@@ -51,21 +61,27 @@ pub record Named : Type 0 where
   pub line : ℕ
   pub anyway : Bool
 
--- which settings are named, from first to last, and which are left of all: `kept` are those left of the ones before. A setting
--- is named exactly where all that are still left lead to the whole map without it; from then on it is left out
-pub data AreNamed (whole : List Run) : List Numbered → List Numbered → List Named → List Numbered → Type 0 where
+-- which settings are named, from first to last, and which are left of all: `kept` are those left of
+-- the ones before. A setting is named exactly where all that are still left lead to the whole map
+-- without it; from then on it is left out
+pub data AreNamed (whole : List Run) : List Numbered → List Numbered → List Named → List Numbered
+    → Type 0 where
   end : {kept : List Numbered} → AreNamed whole kept [] [] kept
   idle :
-      {kept rest left : List Numbered} → {named : List Named} → (numbered : Numbered) → (anyway : Bool) → IsSaidAnyway kept numbered.setting anyway
+      {kept rest left : List Numbered} → {named : List Named} → (numbered : Numbered)
+      → (anyway : Bool) → IsSaidAnyway kept numbered.setting anyway
       → SetTo [] (kept ++ rest) whole → AreNamed whole kept rest named left
-      → AreNamed whole kept (numbered ∷ rest) (record { line = numbered.line; anyway = anyway } ∷ named) left
+      → AreNamed whole kept (numbered ∷ rest) (record { line = numbered.line; anyway = anyway }
+      ∷ named) left
   needed :
       {kept rest left : List Numbered} → {named : List Named} → (numbered : Numbered)
-      → LeadElsewhere (kept ++ rest) whole → AreNamed whole (kept ++ numbered ∷ []) rest named left → AreNamed whole kept (numbered ∷ rest) named left
+      → LeadElsewhere (kept ++ rest) whole → AreNamed whole (kept ++ numbered ∷ []) rest named left
+      → AreNamed whole kept (numbered ∷ rest) named left
 
 -- what is said of a line that is named, by whether it says what holds anyway
 abbrev pub idle_reason : Bool → List ℕ
-idle_reason true = codes "1: note: the line says what holds anyway; its pages have no permission without it\n"
+idle_reason true =
+    codes "1: note: the line says what holds anyway; its pages have no permission without it\n"
 idle_reason false = codes "1: warning: the line changes nothing of the whole map; it can go\n"
 
 abbrev pub idle_text : List ℕ → ℕ → Bool → List ℕ
@@ -76,8 +92,10 @@ abbrev pub idle_texts : List ℕ → List Named → List ℕ
 idle_texts name [] = []
 idle_texts name (it ∷ named) = idle_text name it.line it.anyway ++ idle_texts name named
 
--- a warning or a note of each named line; without all of them together, the settings that are left lead to the same map
-pub record AreWarnings (name : List ℕ) (settings : List Numbered) (whole : List Run) (text : List ℕ) : Type 0 where
+-- a warning or a note of each named line; without all of them together, the settings that are left
+-- lead to the same map
+pub record AreWarnings (name : List ℕ) (settings : List Numbered) (whole : List Run)
+    (text : List ℕ) : Type 0 where
   pub named : List Named
   pub left : List Numbered
   pub are_named : AreNamed whole [] settings named left
@@ -86,15 +104,20 @@ pub record AreWarnings (name : List ℕ) (settings : List Numbered) (whole : Lis
 
 -- what is said of the line after which there would be too many ranges
 abbrev pub too_many_text : List ℕ → ℕ → List ℕ
-too_many_text name n = place_text name n ++ codes "1: more than 4096 ranges after this line; a map has at most 4096\n"
+too_many_text name n = place_text name n
+    ++ codes "1: more than 4096 ranges after this line; a map has at most 4096\n"
 
--- what is written after the lines at fault: the line after which there would be too many ranges; otherwise, of a map where at
--- most 512 lines set something, those that can all be left out together
+-- what is written after the lines at fault: the line after which there would be too many ranges;
+-- otherwise, of a map where at most 512 lines set something, those that can all be left out
+-- together
 pub data IsTail (name : List ℕ) (settings : List Numbered) : Bool → List ℕ → Type 0 where
-  after : {is_map : Bool} (n : ℕ) → IsTooManyAfter n [] settings → IsTail name settings is_map (too_many_text name n)
+  after : {is_map : Bool} (n : ℕ) → IsTooManyAfter n [] settings
+      → IsTail name settings is_map (too_many_text name n)
   no_map : (map : List Run) → SetTo [] settings map → IsTail name settings false []
-  many : (map : List Run) → SetTo [] settings map → 512 < length settings → IsTail name settings true []
-  warned : (map : List Run) (text : List ℕ) → SetTo [] settings map → length settings ≤ 512 → AreWarnings name settings map text → IsTail name settings true text
+  many : (map : List Run) → SetTo [] settings map → 512 < length settings
+      → IsTail name settings true []
+  warned : (map : List Run) (text : List ℕ) → SetTo [] settings map → length settings ≤ 512
+      → AreWarnings name settings map text → IsTail name settings true text
 
 -- the range of a setting lies in the space
 abbrev pub IsInside : Numbered → Type 0

@@ -6,8 +6,8 @@ ghost use Rattle.map_lint.specs.Settings.{IsInside};
 ghost use Rattle.map_lint.specs.Costs.{cost_text, entries_named, unlooked_text, AreCosts, HasCost, IsCostText};
 
 use crate::settings::settings_in;
-use entry_planner::plan_map;
 use crate::{Numbered, map_of_both};
+use entry_planner::plan_map;
 use permission_map::Memory;
 use std::alloc::Global;
 use text_lines::{Line, push_decimal, push_text};

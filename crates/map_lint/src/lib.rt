@@ -30,8 +30,8 @@ mod reasons;
 mod report;
 mod settings;
 
+pub use costs::push_line_costs;
 pub use idle::{Numbered, map_of_both};
 pub use laws::mends_law;
 pub use lint_texts::LintFault;
 pub use report::lint;
-pub use costs::push_line_costs;

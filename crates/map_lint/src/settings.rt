@@ -5,8 +5,8 @@ ghost use Rattle.std.specs.List.{All};
 ghost use Rattle.text_lines.specs.Lines.{raw_lines};
 ghost use Rattle.map_lint.specs.Settings.{IsInside, settings_from};
 
-use lint_texts::split_line;
 use crate::Numbered;
+use lint_texts::split_line;
 use map_text::raw_says;
 use permission_map::Memory;
 use std::alloc::Global;

@@ -14,8 +14,8 @@ use Rattle.map_text.specs.MapFile.{FaultAt, Makes}
 use Rattle.printed_lines.specs.Plans.{IsPlanText}
 use Rattle.pmp_encoding.specs.declared.xlen.Xlen.TheVariants.{Rv64}
 
--- the plan of the map that the bytes of a map file make: of the lists of fewest entries the one that is chosen, in its order; a
--- hart of sixteen entries has room for it
+-- the plan of the map that the bytes of a map file make: of the lists of fewest entries the one
+-- that is chosen, in its order; a hart of sixteen entries has room for it
 pub record IsPlanOf (bytes : List ℕ) (entries : List Entry) : Type 0 where
   pub map : List Run
   pub makes : Makes bytes map
@@ -35,14 +35,17 @@ abbrev pub IsTooLarge : Option (List ℕ) → Option (List ℕ) → Type 0
 IsTooLarge before after = (bytes : List ℕ) × Consumes before after bytes × (2 ^ 20 < length bytes)
 
 -- the first line at fault of a map file, which was read to its end
-abbrev pub HasFault : Option (List ℕ) → Option (List ℕ) → ℕ → (List Run → Option (Option Run) → Type 0) → Type 0
+abbrev pub HasFault : Option (List ℕ) → Option (List ℕ) → ℕ
+    → (List Run → Option (Option Run) → Type 0) → Type 0
 HasFault before after n fault = (bytes : List ℕ) × IsRead before after bytes × FaultAt bytes n fault
 
 -- the map that the bytes of a map file make needs more than sixteen entries
 abbrev pub NeedsMore : List ℕ → Type 0
-NeedsMore bytes = (map : List Run) × Makes bytes map × (n : ℕ) × Needs (view_of_runs map) n × (16 < n)
+NeedsMore bytes = (map : List Run) × Makes bytes map × (n : ℕ) × Needs (view_of_runs map) n
+    × (16 < n)
 
--- a source was read to its end, and the text is that of the plan of its map, on a hart of RV64 with sixteen entries
+-- a source was read to its end, and the text is that of the plan of its map, on a hart of RV64 with
+-- sixteen entries
 pub record IsPlanTextOf (before after : Option (List ℕ)) (text : List ℕ) : Type 0 where
   pub bytes : List ℕ
   pub read : IsRead before after bytes

@@ -9,10 +9,9 @@ ghost use Rattle.map_planner.specs.PrintedPlan.{BreaksOff, HasFault, IsPlanOf, I
 use byte_streams::{DeviceFault, Sink, Source, SourceFault};
 use entry_planner::{PackedPlan, plan_map};
 use map_text::{MAP_BYTES, MapFileFault, map_of};
-use pmp_encoding::Limit;
+use pmp_encoding::{Limit, Xlen};
 use printed_lines::print_plan;
 use program_files::read_whole;
-use pmp_encoding::Xlen;
 use std::alloc::Global;
 
 /// Why a plan is not printed whole.

@@ -1,5 +1,6 @@
 -- The column of sizes.
-use Rattle.std.specs.Prelude.{ℕ, ◌-◌, ◌*◌, ◌/◌, ◌%◌, ◌^◌, nat_lt, if◌then◌else◌, List, ◌++◌, codes, decimal, length, take}
+use Rattle.std.specs.Prelude.{ℕ, ◌-◌, ◌*◌, ◌/◌, ◌%◌, ◌^◌, nat_lt, if◌then◌else◌, List, ◌++◌, codes}
+use Rattle.std.specs.Prelude.{decimal, length, take}
 use Rattle.printed_lines.specs.Fields.{size_text}
 
 -- a text of seven bytes or more, or blanks and the text
@@ -9,7 +10,8 @@ column text = take (7 - length text) (codes "       ") ++ text
 -- how many of a unit a size has more than: `>1.9 GiB`, with tenths below ten, and `>127 MiB`
 abbrev pub more_than : ℕ → ℕ → List ℕ → List ℕ
 more_than size unit name =
-    if nat_lt size (10 * unit) then codes ">" ++ decimal (size / unit) ++ codes "." ++ decimal (size % unit * 10 / unit) ++ name
+    if nat_lt size (10 * unit) then codes ">" ++ decimal (size / unit) ++ codes "."
+    ++ decimal (size % unit * 10 / unit) ++ name
     else codes ">" ++ decimal (size / unit) ++ name
 
 -- the same in the unit of which it has fewer than a thousand

@@ -11,13 +11,15 @@ use Rattle.map_table.specs.JsonTables.{json_text}
 use Rattle.map_table.specs.Pictures.{picture_text}
 
 -- the object of all stretches of a view by entries
-pub record IsJsonTable (view : View) (entries : List Entry) (limit : Limit) (text : List ℕ) : Type 0 where
+pub record IsJsonTable (view : View) (entries : List Entry) (limit : Limit) (text : List ℕ) :
+    Type 0 where
   pub stretches : List Stretch
   pub are_stretches : AreStretches view (matched_by entries) 0 stretches (2 ^ 56)
   pub lines : text ≡ json_text (matched_by entries) stretches (length entries) limit
 
 -- the picture of them
-pub record IsPicture (view : View) (entries : List Entry) (limit : Limit) (text : List ℕ) : Type 0 where
+pub record IsPicture (view : View) (entries : List Entry) (limit : Limit) (text : List ℕ) :
+    Type 0 where
   pub stretches : List Stretch
   pub are_stretches : AreStretches view (matched_by entries) 0 stretches (2 ^ 56)
   pub lines : text ≡ picture_text (matched_by entries) stretches (count_text (length entries) limit)

@@ -1,5 +1,6 @@
 -- Hulls of extents, as the nodes of a binary tree.
-use Rattle.std.specs.Prelude.{◌≡◌, ℕ, ◌+◌, ◌*◌, ◌-◌, ◌/◌, ◌<◌, ◌≤◌, ◌||◌, nat_le, nat_lt, Bool, true, false, List, [], ◌∷◌, get_or, length, if◌then◌else◌}
+use Rattle.std.specs.Prelude.{◌≡◌, ℕ, ◌+◌, ◌*◌, ◌-◌, ◌/◌, ◌<◌, ◌≤◌, ◌||◌, nat_le, nat_lt, Bool}
+use Rattle.std.specs.Prelude.{true, false, List, [], ◌∷◌, get_or, length, if◌then◌else◌}
 use Rattle.pmp_encoding.specs.declared.extent.Extent.{Extent}
 use Rattle.map_table.specs.declared.hull_tree.Hull.{Hull}
 
@@ -22,11 +23,13 @@ no_hull = record { base = 0; end = 0; number = 0 }
 
 -- the hull has no number below the bound, or lies before `first` or from `end` on
 abbrev pub is_past : Hull → ℕ → ℕ → ℕ → Bool
-is_past hull bound first end = nat_le bound hull.number || nat_le end hull.base || nat_le hull.end first
+is_past hull bound first end = nat_le bound hull.number || nat_le end hull.base
+    || nat_le hull.end first
 
 -- each leaf from place `from` to before place `to` is past
 abbrev pub AllPast : List Hull → ℕ → ℕ → ℕ → ℕ → ℕ → Type 0
-AllPast leaves from to bound first end = (p : ℕ) → from ≤ p → p < to → is_past (get_or leaves p no_hull) bound first end ≡ true
+AllPast leaves from to bound first end = (p : ℕ) → from ≤ p → p < to
+    → is_past (get_or leaves p no_hull) bound first end ≡ true
 
 -- the first leaf from place `from` on that is not past
 pub record IsNextLeaf (leaves : List Hull) (from bound first end place : ℕ) : Type 0 where
@@ -37,11 +40,13 @@ pub record IsNextLeaf (leaves : List Hull) (from bound first end place : ℕ) : 
 
 -- of n leaves, node n + k is the leaf at place k, and a lower one is a hull of the list
 abbrev pub node_at : List Hull → List Hull → ℕ → Hull
-node_at hulls leaves m = if nat_lt m (length leaves) then get_or hulls m no_hull else get_or leaves (m - length leaves) no_hull
+node_at hulls leaves m = if nat_lt m (length leaves) then get_or hulls m no_hull
+    else get_or leaves (m - length leaves) no_hull
 
 -- each node from 2 * i on lies in the node of half its number
 abbrev pub AreNestedFrom : ℕ → List Hull → List Hull → Type 0
-AreNestedFrom i hulls leaves = (m : ℕ) → 2 * i ≤ m → m < 2 * length leaves → Encloses (node_at hulls leaves (m / 2)) (node_at hulls leaves m)
+AreNestedFrom i hulls leaves = (m : ℕ) → 2 * i ≤ m → m < 2 * length leaves
+    → Encloses (node_at hulls leaves (m / 2)) (node_at hulls leaves m)
 
 -- hulls of all leaves
 pub record AreHulls (hulls leaves : List Hull) : Type 0 where

@@ -1,5 +1,6 @@
 -- The table of a map as one JSON object.
-use Rattle.std.specs.Prelude.{ℕ, ◌+◌, ◌-◌, nat_le, if◌then◌else◌, List, [], ◌∷◌, ◌++◌, Option, Some, None, codes, decimal, drop}
+use Rattle.std.specs.Prelude.{ℕ, ◌+◌, ◌-◌, nat_le, if◌then◌else◌, List, [], ◌∷◌, ◌++◌, Option, Some}
+use Rattle.std.specs.Prelude.{None, codes, decimal, drop}
 use Rattle.pmp_encoding.specs.declared.extent.Extent.{Extent}
 use Rattle.pmp_encoding.specs.declared.limit.Limit.{Limit}
 use Rattle.pmp_encoding.specs.Limits.{limit_number}
@@ -10,16 +11,21 @@ use Rattle.map_table.specs.Rows.{overridden_from}
 
 -- whether a hart of that limit has so many entries
 abbrev pub json_fits : ℕ → Limit → List ℕ
-json_fits n limit = if nat_le n (limit_number limit) then codes ",\n  \"fits\": true,\n  \"stretches\": [" else codes ",\n  \"fits\": false,\n  \"stretches\": ["
+json_fits n limit = if nat_le n (limit_number limit)
+    then codes ",\n  \"fits\": true,\n  \"stretches\": ["
+    else codes ",\n  \"fits\": false,\n  \"stretches\": ["
 
 -- the limit, the number of entries, and whether they fit
 abbrev pub json_head : ℕ → Limit → List ℕ
-json_head n limit = codes "{\n  \"limit\": " ++ decimal (limit_number limit) ++ codes ",\n  \"count\": " ++ decimal n ++ json_fits n limit
+json_head n limit = codes "{\n  \"limit\": " ++ decimal (limit_number limit)
+    ++ codes ",\n  \"count\": " ++ decimal n ++ json_fits n limit
 
 -- the bytes of a stretch, and its permission
 abbrev pub json_stretch : Stretch → List ℕ
 json_stretch s =
-    codes "    {\"first\": \"0x" ++ hex 16 s.first ++ codes "\", \"last\": \"0x" ++ hex 16 (s.end - 1) ++ codes "\", \"perm\": \"" ++ perm_word s.wanted ++ codes "\", \"entry\": "
+    codes "    {\"first\": \"0x" ++ hex 16 s.first ++ codes "\", \"last\": \"0x"
+    ++ hex 16 (s.end - 1) ++ codes "\", \"perm\": \"" ++ perm_word s.wanted
+    ++ codes "\", \"entry\": "
 
 -- numbers, each behind a comma
 abbrev pub numbers_more : List ℕ → List ℕ
@@ -33,7 +39,9 @@ numbers_text (n ∷ numbers) = decimal n ++ numbers_more numbers
 
 -- an entry that decides a stretch, and all those that it overrides there
 abbrev pub json_decider : List Extent → Stretch → ℕ → List ℕ
-json_decider extents s i = decimal i ++ (codes ", \"overridden\": [" ++ (numbers_text (overridden_from (i + 1) (drop (i + 1) extents) s) ++ codes "]}"))
+json_decider extents s i = decimal i
+    ++ (codes ", \"overridden\": [" ++ (numbers_text
+    (overridden_from (i + 1) (drop (i + 1) extents) s) ++ codes "]}"))
 
 -- the entry that decides a stretch, or that there is none
 abbrev pub json_entry : List Extent → Stretch → Option ℕ → List ℕ
@@ -47,13 +55,16 @@ json_row extents s = json_stretch s ++ json_entry extents s s.entry
 -- stretches, each behind a comma
 abbrev pub json_more : List Extent → List Stretch → List ℕ
 json_more extents [] = []
-json_more extents (s ∷ stretches) = codes ",\n" ++ (json_row extents s ++ json_more extents stretches)
+json_more extents (s ∷ stretches) = codes ",\n"
+    ++ (json_row extents s ++ json_more extents stretches)
 
 -- stretches with a comma between them
 abbrev pub json_rows : List Extent → List Stretch → List ℕ
 json_rows extents [] = []
-json_rows extents (s ∷ stretches) = codes "\n" ++ (json_row extents s ++ json_more extents stretches)
+json_rows extents (s ∷ stretches) = codes "\n"
+    ++ (json_row extents s ++ json_more extents stretches)
 
 -- the object
 abbrev pub json_text : List Extent → List Stretch → ℕ → Limit → List ℕ
-json_text extents stretches n limit = json_head n limit ++ json_rows extents stretches ++ codes "\n  ]\n}\n"
+json_text extents stretches n limit = json_head n limit ++ json_rows extents stretches
+    ++ codes "\n  ]\n}\n"

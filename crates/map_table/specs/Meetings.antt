@@ -1,5 +1,6 @@
 -- Which extents have bytes of a piece of the space.
-use Rattle.std.specs.Prelude.{◌≡◌, ℕ, ◌<◌, ◌≤◌, ◌&&◌, nat_lt, Bool, true, false, List, get_or, length}
+use Rattle.std.specs.Prelude.{◌≡◌, ℕ, ◌<◌, ◌≤◌, ◌&&◌, nat_lt, Bool, true, false, List, get_or}
+use Rattle.std.specs.Prelude.{length}
 use Rattle.pmp_encoding.specs.declared.extent.Extent.{Extent}
 use Rattle.pmp_match.specs.Tor.{nowhere}
 
@@ -9,7 +10,8 @@ meets x first end = nat_lt x.base end && nat_lt first x.end
 
 -- no extent from number `from` to before number `to` meets the piece
 abbrev pub MissesAll : List Extent → ℕ → ℕ → ℕ → ℕ → Type 0
-MissesAll extents from to first end = (k : ℕ) → from ≤ k → k < to → meets (get_or extents k nowhere) first end ≡ false
+MissesAll extents from to first end = (k : ℕ) → from ≤ k → k < to
+    → meets (get_or extents k nowhere) first end ≡ false
 
 -- the first extent from number `from` on that meets the piece
 pub record IsNextMeeting (extents : List Extent) (from first end number : ℕ) : Type 0 where
@@ -18,9 +20,11 @@ pub record IsNextMeeting (extents : List Extent) (from first end number : ℕ) :
   pub met : meets (get_or extents number nowhere) first end ≡ true
   pub before : MissesAll extents from number first end
 
--- no extent before number `bound` meets the piece up to the cut; where the cut is before `end`, one that meets the piece
--- up to `end` begins there
+-- no extent before number `bound` meets the piece up to the cut; where the cut is before `end`, one
+-- that meets the piece up to `end` begins there
 pub record IsCut (extents : List Extent) (bound first end cut : ℕ) : Type 0 where
   pub most : cut ≤ end
   pub missed : MissesAll extents 0 bound first cut
-  pub begun : cut < end → (k : ℕ) × (k < bound) × (meets (get_or extents k nowhere) first end ≡ true) × ((get_or extents k nowhere).base ≡ cut)
+  pub begun : cut < end → (k : ℕ) × (k < bound)
+      × (meets (get_or extents k nowhere) first end ≡ true)
+      × ((get_or extents k nowhere).base ≡ cut)

@@ -1,5 +1,7 @@
--- The table of a map as a picture, an SVG: a band for each stretch that an entry decides, and a gap for each other one.
-use Rattle.std.specs.Prelude.{ℕ, ◌+◌, ◌-◌, ◌/◌, ◌^◌, nat_lt, if◌then◌else◌, List, [], ◌∷◌, ◌++◌, Option, Some, None, codes, decimal, drop, length, take}
+-- The table of a map as a picture, an SVG: a band for each stretch that an entry decides, and a gap
+-- for each other one.
+use Rattle.std.specs.Prelude.{ℕ, ◌+◌, ◌-◌, ◌/◌, ◌^◌, nat_lt, if◌then◌else◌, List, [], ◌∷◌, ◌++◌}
+use Rattle.std.specs.Prelude.{Option, Some, None, codes, decimal, drop, length, take}
 use Rattle.pmp_encoding.specs.declared.extent.Extent.{Extent}
 use Rattle.pmp_encoding.specs.declared.perm.Perm.{Perm}
 use Rattle.pmp_encoding.specs.Perms.{perm_word}
@@ -10,7 +12,8 @@ use Rattle.map_table.specs.Rows.{number_text, overridden_from}
 
 -- how high the band of so many bytes is: higher from 64 KiB, 16 MiB and 4 GiB on
 abbrev pub band_height : ℕ → ℕ
-band_height size = if nat_lt size (2 ^ 16) then 40 else if nat_lt size (2 ^ 24) then 48 else if nat_lt size (2 ^ 32) then 56 else 64
+band_height size = if nat_lt size (2 ^ 16) then 40 else if nat_lt size (2 ^ 24) then 48
+    else if nat_lt size (2 ^ 32) then 56 else 64
 
 -- how high a stretch is drawn: a gap always the same
 abbrev pub row_height : Stretch → Option ℕ → ℕ
@@ -25,15 +28,18 @@ rows_height (s ∷ stretches) = row_height s s.entry + rows_height stretches
 -- a rectangle in the colour of a permission
 abbrev pub rect_text : Perm → ℕ → ℕ → List ℕ
 rect_text perm y height =
-    codes "<rect class=\"" ++ perm_word perm ++ codes "\" x=\"170\" y=\"" ++ decimal y ++ codes "\" width=\"220\" height=\"" ++ decimal height ++ codes "\"/>\n"
+    codes "<rect class=\"" ++ perm_word perm ++ codes "\" x=\"170\" y=\"" ++ decimal y
+    ++ codes "\" width=\"220\" height=\"" ++ decimal height ++ codes "\"/>\n"
 
 -- an address beside it
 abbrev pub place_text : ℕ → ℕ → List ℕ
-place_text y address = codes "<text class=\"at\" x=\"160\" y=\"" ++ decimal y ++ codes "\">0x" ++ hex 16 address ++ codes "</text>\n"
+place_text y address = codes "<text class=\"at\" x=\"160\" y=\"" ++ decimal y ++ codes "\">0x"
+    ++ hex 16 address ++ codes "</text>\n"
 
 -- the letters of a permission and a size in it
 abbrev pub band_text : Perm → ℕ → ℕ → List ℕ
-band_text perm size y = codes "<text class=\"in\" x=\"280\" y=\"" ++ decimal y ++ codes "\">" ++ letters_of perm ++ codes ", " ++ size_text size ++ codes "</text>\n"
+band_text perm size y = codes "<text class=\"in\" x=\"280\" y=\"" ++ decimal y ++ codes "\">"
+    ++ letters_of perm ++ codes ", " ++ size_text size ++ codes "</text>\n"
 
 -- the mark of a gap
 abbrev pub mark_text : ℕ → List ℕ
@@ -41,7 +47,8 @@ mark_text y = codes "<use href=\"#gap\" x=\"170\" y=\"" ++ decimal y ++ codes "\
 
 -- and its size
 abbrev pub gap_text : ℕ → ℕ → List ℕ
-gap_text size y = codes "<text class=\"in\" x=\"280\" y=\"" ++ decimal y ++ codes "\">no entry, " ++ size_text size ++ codes "</text>\n"
+gap_text size y = codes "<text class=\"in\" x=\"280\" y=\"" ++ decimal y ++ codes "\">no entry, "
+    ++ size_text size ++ codes "</text>\n"
 
 -- what stands before the entry beside a band
 abbrev pub beside_text : ℕ → List ℕ
@@ -51,7 +58,8 @@ beside_text y = codes "<text x=\"404\" y=\"" ++ decimal y ++ codes "\">entry "
 abbrev pub gap_shape : Stretch → ℕ → List ℕ
 gap_shape s y = mark_text y ++ gap_text (s.end - s.first) (y + 21)
 
--- its band: the rectangle, the first and the last address beside it, the permission and the size in it
+-- its band: the rectangle, the first and the last address beside it, the permission and the size in
+-- it
 abbrev pub band_shape : Stretch → ℕ → List ℕ
 band_shape s y =
     rect_text s.wanted y (row_height s s.entry)
@@ -61,21 +69,25 @@ band_shape s y =
 
 -- the entry that decides it, and those that this one overrides there
 abbrev pub beside_shape : List Extent → ℕ → Stretch → ℕ → List ℕ
-beside_shape extents i s y = beside_text y ++ (number_text i (overridden_from (i + 1) (drop (i + 1) extents) s) ++ codes "</text>\n")
+beside_shape extents i s y = beside_text y
+    ++ (number_text i (overridden_from (i + 1) (drop (i + 1) extents) s) ++ codes "</text>\n")
 
 -- what is drawn of a stretch
 abbrev pub picture_row : List Extent → ℕ → Stretch → Option ℕ → List ℕ
 picture_row extents y s None = gap_shape s y
-picture_row extents y s (Some i) = band_shape s y ++ beside_shape extents i s (y + row_height s s.entry / 2 + 4)
+picture_row extents y s (Some i) = band_shape s y
+    ++ beside_shape extents i s (y + row_height s s.entry / 2 + 4)
 
 -- stretches, one below the other
 abbrev pub picture_rows : List Extent → ℕ → List Stretch → List ℕ
 picture_rows extents y [] = []
-picture_rows extents y (s ∷ stretches) = picture_row extents y s s.entry ++ picture_rows extents (y + row_height s s.entry) stretches
+picture_rows extents y (s ∷ stretches) = picture_row extents y s s.entry
+    ++ picture_rows extents (y + row_height s s.entry) stretches
 
 -- the size of the picture
 abbrev pub viewed_text : ℕ → List ℕ
-viewed_text height = codes "\" height=\"" ++ decimal height ++ codes "\" viewBox=\"0 0 680 " ++ decimal height ++ codes "\">\n"
+viewed_text height = codes "\" height=\"" ++ decimal height ++ codes "\" viewBox=\"0 0 680 "
+    ++ decimal height ++ codes "\">\n"
 
 -- the title, the colours of the permissions, the mark of a gap, and the ground
 abbrev pub style_text : List ℕ
@@ -104,11 +116,13 @@ style_text =
 -- what stands before the rows of a picture of that height: last the line of the number of entries
 abbrev pub picture_head : ℕ → List ℕ → List ℕ
 picture_head height count =
-    codes "<svg xmlns=\"http://www.w3.org/2000/svg\" width=\"680" ++ (viewed_text height ++ (style_text ++ (count ++ codes "</text>\n")))
+    codes "<svg xmlns=\"http://www.w3.org/2000/svg\" width=\"680"
+    ++ (viewed_text height ++ (style_text ++ (count ++ codes "</text>\n")))
 
 -- how many stretches are left out
 abbrev pub left_text : ℕ → ℕ → List ℕ
-left_text n y = codes "<text class=\"in\" x=\"280\" y=\"" ++ decimal y ++ codes "\">stretches that are left out: " ++ decimal n ++ codes "</text>\n"
+left_text n y = codes "<text class=\"in\" x=\"280\" y=\"" ++ decimal y
+    ++ codes "\">stretches that are left out: " ++ decimal n ++ codes "</text>\n"
 
 -- the same, where there are more than 1024
 abbrev pub left_out : ℕ → ℕ → List ℕ
@@ -134,7 +148,8 @@ key_text =
 abbrev pub picture_foot : ℕ → ℕ → List ℕ
 picture_foot n y = left_out n (y + 16) ++ (key_begin (y + 24) ++ key_text)
 
--- the picture of stretches, of which the first 1024 are drawn, with the line of the number of entries
+-- the picture of stretches, of which the first 1024 are drawn, with the line of the number of
+-- entries
 abbrev pub picture_text : List Extent → List Stretch → List ℕ → List ℕ
 picture_text extents stretches count =
     picture_head (40 + rows_height (take 1024 stretches) + 50) count

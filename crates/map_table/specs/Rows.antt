@@ -1,5 +1,7 @@
 -- The rows of a table.
-use Rattle.std.specs.Prelude.{ℕ, ◌+◌, ◌-◌, ◌<◌, ◌==◌, ◌&&◌, nat_le, nat_lt, Bool, true, false, if◌then◌else◌, List, [], ◌∷◌, ◌++◌, codes, decimal, drop, length, Option, None, Some, IfSome}
+use Rattle.std.specs.Prelude.{ℕ, ◌+◌, ◌-◌, ◌<◌, ◌==◌, ◌&&◌, nat_le, nat_lt, Bool, true, false}
+use Rattle.std.specs.Prelude.{if◌then◌else◌, List, [], ◌∷◌, ◌++◌, codes, decimal, drop, length}
+use Rattle.std.specs.Prelude.{Option, None, Some, IfSome}
 use Rattle.pmp_encoding.specs.declared.limit.Limit.{Limit}
 use Rattle.pmp_encoding.specs.declared.extent.Extent.{Extent}
 use Rattle.pmp_encoding.specs.Limits.{limit_number}
@@ -16,23 +18,27 @@ pub record IsRow (extents : List Extent) (s : Stretch) : Type 0 where
 -- `0xFIRST 0xLAST SIZE  PERM  `
 abbrev pub range_text : Stretch → List ℕ
 range_text s =
-    codes "0x" ++ hex 16 s.first ++ codes " 0x" ++ hex 16 (s.end - 1) ++ codes " " ++ column (column_size (s.end - s.first)) ++ codes "  " ++ letters_of s.wanted ++ codes "  "
+    codes "0x" ++ hex 16 s.first ++ codes " 0x" ++ hex 16 (s.end - 1) ++ codes " "
+    ++ column (column_size (s.end - s.first)) ++ codes "  " ++ letters_of s.wanted ++ codes "  "
 
 -- whether the extent has some byte of the stretch
 abbrev pub meets : Extent → Stretch → Bool
 meets x s = nat_lt x.base s.end && nat_lt s.first x.end
 
--- the numbers of the extents that have some byte of the stretch, where the first of the list has the number n
+-- the numbers of the extents that have some byte of the stretch, where the first of the list has
+-- the number n
 abbrev pub overridden_from : ℕ → List Extent → Stretch → List ℕ
 overridden_from n [] s = []
-overridden_from n (x ∷ extents) s = if meets x s then n ∷ overridden_from (n + 1) extents s else overridden_from (n + 1) extents s
+overridden_from n (x ∷ extents) s = if meets x s then n ∷ overridden_from (n + 1) extents s
+    else overridden_from (n + 1) extents s
 
 -- the first two of the entries that are overridden, and two points for the others
 abbrev pub before_text : List ℕ → List ℕ
 before_text [] = []
 before_text (a ∷ []) = codes " (before " ++ decimal a ++ codes ")"
 before_text (a ∷ b ∷ []) = codes " (before " ++ decimal a ++ codes ", " ++ decimal b ++ codes ")"
-before_text (a ∷ b ∷ c ∷ others) = codes " (before " ++ decimal a ++ codes ", " ++ decimal b ++ codes ", ..)"
+before_text (a ∷ b ∷ c ∷ others) = codes " (before " ++ decimal a ++ codes ", " ++ decimal b
+    ++ codes ", ..)"
 
 -- `NUMBER (before NUMBERS)`, the deciding entry and those that it overrides
 abbrev pub number_text : ℕ → List ℕ → List ℕ
@@ -41,7 +47,8 @@ number_text i overridden = decimal i ++ before_text overridden ++ codes "\n"
 -- the row of a stretch that an entry decides; another has none
 abbrev pub row_by : List Extent → Stretch → Option ℕ → List ℕ
 row_by extents s None = []
-row_by extents s (Some i) = range_text s ++ number_text i (overridden_from (i + 1) (drop (i + 1) extents) s)
+row_by extents s (Some i) = range_text s
+    ++ number_text i (overridden_from (i + 1) (drop (i + 1) extents) s)
 
 abbrev pub rows_text : List Extent → List Stretch → List ℕ
 rows_text extents [] = []
@@ -49,7 +56,13 @@ rows_text extents (s ∷ stretches) = row_by extents s s.entry ++ rows_text exte
 
 -- a stretch with the permission that its extent gives it, in place of a map's
 abbrev pub as_given : Stretch → Stretch
-as_given s = record { first = s.first; end = s.end; wanted = s.given; given = s.given; entry = s.entry }
+as_given s = record {
+  first = s.first;
+  end = s.end;
+  wanted = s.given;
+  given = s.given;
+  entry = s.entry;
+}
 
 -- whether no entry decides some stretch
 abbrev pub is_rest : Option ℕ → Bool
@@ -68,14 +81,17 @@ abbrev pub rest_of : List Stretch → List ℕ
 rest_of stretches = if has_rest stretches then rest_text else []
 
 abbrev pub named_text : ℕ → List ℕ
-named_text n = if n == 1 then codes " entry: fewest possible; " else codes " entries: fewest possible; "
+named_text n = if n == 1 then codes " entry: fewest possible; "
+    else codes " entries: fewest possible; "
 
 abbrev pub fitting_text : ℕ → Limit → List ℕ
-fitting_text n limit = if nat_le n (limit_number limit) then codes "fits " else codes "does not fit "
+fitting_text n limit = if nat_le n (limit_number limit) then codes "fits "
+    else codes "does not fit "
 
 -- `N entries: fewest possible; fits LIMIT`
 abbrev pub count_text : ℕ → Limit → List ℕ
-count_text n limit = decimal n ++ named_text n ++ fitting_text n limit ++ decimal (limit_number limit) ++ codes "\n"
+count_text n limit = decimal n ++ named_text n ++ fitting_text n limit
+    ++ decimal (limit_number limit) ++ codes "\n"
 
 abbrev pub on_named : ℕ → List ℕ
 on_named n = if n == 1 then codes " entry is not OFF\n" else codes " entries are not OFF\n"

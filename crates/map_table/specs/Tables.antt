@@ -14,15 +14,19 @@ use Rattle.map_table.specs.Rows.{as_given, count_text, on_text, rest_of, rows_te
 abbrev pub head_text : List ℕ
 head_text = codes "from               to                 size    perm by\n"
 
--- the head, a row for each stretch that an entry decides, one for all others, and the number of entries
-pub record IsTable (view : View) (entries : List Entry) (limit : Limit) (text : List ℕ) : Type 0 where
+-- the head, a row for each stretch that an entry decides, one for all others, and the number of
+-- entries
+pub record IsTable (view : View) (entries : List Entry) (limit : Limit) (text : List ℕ) :
+    Type 0 where
   pub stretches : List Stretch
   pub are_stretches : AreStretches view (matched_by entries) 0 stretches (2 ^ 56)
-  pub lines : text ≡ head_text ++ rows_text (matched_by entries) stretches ++ rest_of stretches ++ count_text (length entries) limit
+  pub lines : text ≡ head_text ++ rows_text (matched_by entries) stretches ++ rest_of stretches
+      ++ count_text (length entries) limit
 
--- the table of what extents give by themselves, so many of them of entries that are not OFF: the same rows of their stretches over
--- the map of no pages, with the permission that each extent gives
+-- the table of what extents give by themselves, so many of them of entries that are not OFF: the
+-- same rows of their stretches over the map of no pages, with the permission that each extent gives
 pub record IsExtentTable (extents : List Extent) (on : ℕ) (text : List ℕ) : Type 0 where
   pub stretches : List Stretch
   pub are_stretches : AreStretches (view_of_runs []) extents 0 stretches (2 ^ 56)
-  pub lines : text ≡ head_text ++ rows_text extents (map as_given stretches) ++ rest_of (map as_given stretches) ++ on_text on
+  pub lines : text ≡ head_text ++ rows_text extents (map as_given stretches)
+      ++ rest_of (map as_given stretches) ++ on_text on

@@ -8,10 +8,9 @@ use crate::shapes::{
     band_line, beside_line, gap_line, key_line, left_line, mark_line, place_line, rect_line,
     row_height, size_line,
 };
-use crate::number_line;
+use crate::{ExtentTree, Stretch, number_line};
 use permission_map::Memory;
 use std::alloc::Global;
-use crate::{ExtentTree, Stretch};
 use text_lines::Line;
 
 /// How many stretches are drawn at most.

@@ -5,10 +5,10 @@ ghost use Rattle.map_table.specs.Rows.{IsRow};
 ghost use Rattle.map_table.specs.JsonTables.{json_decider, json_entry, json_fits, json_head, json_more, json_row, json_rows, json_stretch, numbers_more, numbers_text};
 
 use crate::overridden_entries::all_overridden;
+use crate::{ExtentTree, Stretch};
 use permission_map::Memory;
 use pmp_encoding::Limit;
 use std::alloc::Global;
-use crate::{ExtentTree, Stretch};
 use text_lines::{Line, push_decimal, push_hex, push_text};
 
 /// What stands after the last row.

@@ -52,8 +52,8 @@ mod stretch;
 mod table;
 mod tables;
 
-pub use rows::{count_line, number_line};
-pub use table::{extent_table, table_of};
 pub use extent_tree::ExtentTree;
+pub use rows::{count_line, number_line};
 pub use stretch::{Stretch, extents_of, stretches, stretches_by_entries};
+pub use table::{extent_table, table_of};
 pub use tables::{json_table, picture};

@@ -3,8 +3,8 @@
 ghost use Rattle.std.specs.Prelude.{◌≡◌, ◌+◌, ◌<◌, drop, length, take};
 ghost use Rattle.map_table.specs.Rows.{overridden_from};
 
-use arrayvec::ArrayVec;
 use crate::{ExtentTree, Stretch};
+use arrayvec::ArrayVec;
 
 /// The first extents after number i that have a byte of the stretch, at most three, by their numbers.
 pub(crate) fn overridden(extents: &ExtentTree, i: usize, stretch: &Stretch) -> ArrayVec<usize, 3>

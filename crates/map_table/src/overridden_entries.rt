@@ -3,9 +3,9 @@
 ghost use Rattle.std.specs.Prelude.{◌≡◌, ◌+◌, ◌<◌, IfOk, drop, length};
 ghost use Rattle.map_table.specs.Rows.{overridden_from};
 
+use crate::{ExtentTree, Stretch};
 use permission_map::Memory;
 use std::alloc::Global;
-use crate::{ExtentTree, Stretch};
 
 /// The extents after number i that have a byte of the stretch, by their numbers. The only error is out of memory.
 pub(crate) fn all_overridden(

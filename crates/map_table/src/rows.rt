@@ -5,10 +5,10 @@ ghost use Rattle.map_table.specs.Rows.{IsRow, before_text, count_text, fitting_t
 
 use crate::fields::push_column;
 use crate::overridden::overridden;
+use crate::{ExtentTree, Stretch};
 use permission_map::Memory;
 use pmp_encoding::Limit;
 use printed_lines::letters;
-use crate::{ExtentTree, Stretch};
 use text_lines::{Line, push_decimal, push_hex, push_text};
 
 const REST: &[u8] = b"all else                                       ---  no entry\n";

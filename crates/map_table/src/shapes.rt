@@ -3,9 +3,9 @@
 ghost use Rattle.std.specs.Prelude.{◌≡◌, ◌<◌, ◌≤◌};
 ghost use Rattle.map_table.specs.Pictures.{band_height, band_text, beside_text, gap_text, key_begin, left_text, mark_text, place_text, rect_text, row_height, viewed_text};
 
+use crate::Stretch;
 use pmp_encoding::Perm;
 use printed_lines::{letters, push_size};
-use crate::Stretch;
 use text_lines::{Line, push_decimal, push_hex, push_text};
 
 /// How high the band of so many bytes is.

@@ -4,9 +4,8 @@ ghost use Rattle.std.specs.Prelude.{◌≡◌, ◌≢◌, ℕ, ◌+◌, ◌^◌,
 ghost use Rattle.pmp_encoding.specs.declared.perm.Perm.TheVariants.{NoAccess};
 ghost use Rattle.permission_map.specs.Runs.{view_of_runs};
 
-use pmp_encoding::SPACE_PAGES;
 use permission_map::PermissionMap;
-use pmp_encoding::Perm;
+use pmp_encoding::{Perm, SPACE_PAGES};
 
 /// The permission of each page from some page to before `end`.
 #[derive(Clone, Copy)]

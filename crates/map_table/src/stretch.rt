@@ -9,9 +9,8 @@ ghost use Rattle.map_table.specs.Stretches.{AreStretches, IsStretch};
 use crate::covering::covering_from;
 use crate::extent_tree::ExtentTree;
 use crate::standing::standing_from;
-use pmp_encoding::PAGE_SIZE;
 use permission_map::{Memory, PermissionMap};
-use pmp_encoding::{Entry, Perm, SPACE_SIZE};
+use pmp_encoding::{Entry, PAGE_SIZE, Perm, SPACE_SIZE};
 use pmp_match::{Extent, extent_of};
 use std::alloc::Global;
 

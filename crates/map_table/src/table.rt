@@ -7,11 +7,11 @@ ghost use Rattle.map_table.specs.Rows.{as_given};
 ghost use Rattle.map_table.specs.Tables.{IsExtentTable, IsTable};
 
 use crate::rows::{count_line, on_line, push_rest, push_rows};
+use crate::{ExtentTree, Stretch, extents_of, stretches, stretches_by_entries};
 use permission_map::{Memory, PermissionMap};
 use pmp_encoding::{Entry, Limit};
 use pmp_match::Extent;
 use std::alloc::Global;
-use crate::{ExtentTree, Stretch, extents_of, stretches, stretches_by_entries};
 
 const HEAD: &[u8] = b"from               to                 size    perm by\n";
 

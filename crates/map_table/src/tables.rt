@@ -6,11 +6,10 @@ ghost use Rattle.map_table.specs.FormattedTables.{IsJsonTable, IsPicture};
 
 use crate::drawing::picture_of;
 use crate::json::{END, head, push_rows};
-use crate::count_line;
+use crate::{ExtentTree, count_line, extents_of, stretches_by_entries};
 use permission_map::{Memory, PermissionMap};
 use pmp_encoding::{Entry, Limit};
 use std::alloc::Global;
-use crate::{ExtentTree, extents_of, stretches_by_entries};
 
 /// The table of a map and a list of entries as one JSON object. The only error is out of memory.
 pub fn json_table(

@@ -1,10 +1,10 @@
 //! A map and its fewest entries, cut by hand; and a list that begins and ends inside a page.
 
 use crate::plans::map_of;
+use map_table::{ExtentTree, Stretch, extents_of, stretches_by_entries};
 use pmp_encoding::{Entry, Perm, Region, SPACE_SIZE};
 use std::alloc::Global;
 use std::process::Abort;
-use map_table::{ExtentTree, Stretch, extents_of, stretches_by_entries};
 
 /// The entry of that block.
 fn entry(rt: &impl Abort, base: u64, log2: u32, perm: Perm) -> Entry {

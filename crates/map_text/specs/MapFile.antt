@@ -1,5 +1,6 @@
 -- What a map file says.
-use Rattle.std.specs.Prelude.{◌≡◌, ℕ, ◌+◌, ◌/◌, ◌%◌, ◌^◌, ◌<◌, ◌≤◌, ◌==◌, nat_le, if◌then◌else◌, List, [], ◌∷◌, ◌++◌, length, Option, Some, None, option_map}
+use Rattle.std.specs.Prelude.{◌≡◌, ℕ, ◌+◌, ◌/◌, ◌%◌, ◌^◌, ◌<◌, ◌≤◌, ◌==◌, nat_le, if◌then◌else◌}
+use Rattle.std.specs.Prelude.{List, [], ◌∷◌, ◌++◌, length, Option, Some, None, option_map}
 use Rattle.std.specs.Option.{option_and_then}
 use Rattle.pmp_encoding.specs.declared.perm.Perm.{Perm}
 use Rattle.permission_map.specs.declared.runs.Run.{Run}
@@ -19,12 +20,15 @@ pages_in word = option_and_then pages_of (number_of word)
 
 -- a permission on pages of the space
 abbrev pub setting_on : ℕ → ℕ → Perm → Option Run
-setting_on first count perm = if nat_le (first + count) (2 ^ 44) then Some (record { first = first; count = count; perm = perm }) else None
+setting_on first count perm = if nat_le (first + count) (2 ^ 44)
+    then Some (record { first = first; count = count; perm = perm }) else None
 
 -- what words set: a base and a size in bytes, and a permission
 abbrev pub setting_of : List (List ℕ) → Option Run
 setting_of (base ∷ size ∷ perm ∷ []) =
-    option_and_then (λ first. option_and_then (λ count. option_and_then (setting_on first count) (permission_of perm)) (pages_in size)) (pages_in base)
+    option_and_then (λ first. option_and_then
+    (λ count. option_and_then (setting_on first count) (permission_of perm)) (pages_in size))
+    (pages_in base)
 setting_of _ = None
 
 -- what words say: nothing where there are none
@@ -54,7 +58,9 @@ Leads (Some (Some setting)) before after = Sets before setting after
 -- lines lead from a map to a map, one after another, and each of them is understood
 pub data LeadTo : List Run → List (List ℕ) → List Run → Type 0 where
   start : {map : List Run} → LeadTo map [] map
-  line : {first before after : List Run} {lines : List (List ℕ)} → (raw : List ℕ) → LeadTo first lines before → Leads (raw_says raw) before after → LeadTo first (lines ++ raw ∷ []) after
+  line : {first before after : List Run} {lines : List (List ℕ)} → (raw : List ℕ)
+      → LeadTo first lines before → Leads (raw_says raw) before after
+      → LeadTo first (lines ++ raw ∷ []) after
 
 -- one setting would lead from a map to more than 4096 ranges
 pub record SetsTooMany (before : List Run) (setting : Run) : Type 0 where
@@ -69,7 +75,8 @@ pub record Makes (bytes : List ℕ) (map : List Run) : Type 0 where
   pub made : LeadTo [] lines map
 
 -- line n of a file, the first at fault, with the map that the lines before it make
-pub record FaultAt (bytes : List ℕ) (n : ℕ) (fault : List Run → Option (Option Run) → Type 0) : Type 0 where
+pub record FaultAt (bytes : List ℕ) (n : ℕ) (fault : List Run → Option (Option Run)
+    → Type 0) : Type 0 where
   pub before : List (List ℕ)
   pub raw : List ℕ
   pub rest : List (List ℕ)
@@ -87,7 +94,8 @@ IsUnknown map says = says ≡ None
 abbrev pub MakesTooMany : List Run → Option (Option Run) → Type 0
 MakesTooMany map says = (setting : Run) × (says ≡ Some (Some setting)) × SetsTooMany map setting
 
--- one setting would lead from a map of no range to one of some, at most 4096: memory can be refused for it
+-- one setting would lead from a map of no range to one of some, at most 4096: memory can be refused
+-- for it
 pub record SetsFirst (before : List Run) (setting : Run) : Type 0 where
   pub none : before ≡ []
   pub runs : List Run

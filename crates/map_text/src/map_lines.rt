@@ -4,9 +4,8 @@ ghost use Rattle.std.specs.Prelude.{◌≡◌, ◌+◌, ◌^◌, ◌≤◌, [], 
 ghost use Rattle.std.specs.Result.{result_ok};
 ghost use Rattle.map_text.specs.MapFile.{line_says, pages_in, pages_of, raw_says, setting_of, setting_on};
 
-use pmp_encoding::{PAGE_SIZE, SPACE_PAGES};
 use permission_map::Run;
-use pmp_encoding::Perm;
+use pmp_encoding::{PAGE_SIZE, Perm, SPACE_PAGES};
 use text_lines::{
     LONGEST, NotUnderstood, Words, behind_mark, behind_space, leading_numeral, number,
     without_return,

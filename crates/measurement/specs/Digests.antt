@@ -16,10 +16,21 @@ blank_page = replicate 4096 0
 -- what is measured beside them
 abbrev pub layout_of : Create → Layout
 layout_of parts =
-    record { text_pages = parts.text_pages; data_pages = parts.data_pages; shared_count = parts.shared_count; entry_offset = parts.entry_offset }
+    record {
+      text_pages = parts.text_pages;
+      data_pages = parts.data_pages;
+      shared_count = parts.shared_count;
+      entry_offset = parts.entry_offset;
+    }
 
--- the digest of an enclave with these parts, over its private pages as they are. The base is not measured
+-- the digest of an enclave with these parts, over its private pages as they are. The base is not
+-- measured
 abbrev pub measured : (ℕ → List ℕ) → Create → List ℕ
 measured pages parts =
-    digest_of (record { text_pages = parts.text_pages; data_pages = parts.data_pages; shared_count = parts.shared_count; entry_offset = parts.entry_offset })
+    digest_of (record {
+      text_pages = parts.text_pages;
+      data_pages = parts.data_pages;
+      shared_count = parts.shared_count;
+      entry_offset = parts.entry_offset;
+    })
     (pages_from pages (parts.base / 4096) (parts.text_pages + parts.data_pages))

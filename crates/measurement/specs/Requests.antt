@@ -1,5 +1,6 @@
 -- What is asked for when an enclave is created: its pages, and when its numbers are right.
-use Rattle.std.specs.Prelude.{◌≡◌, ℕ, ◌+◌, ◌/◌, ◌≤◌, Bool, true, ◌||◌, ◌==◌, cond, ◌*◌, ◌%◌, ◌^◌, ◌<◌}
+use Rattle.std.specs.Prelude.{◌≡◌, ℕ, ◌+◌, ◌/◌, ◌≤◌, Bool, true, ◌||◌, ◌==◌, cond, ◌*◌, ◌%◌, ◌^◌}
+use Rattle.std.specs.Prelude.{◌<◌}
 use Rattle.pmp_encoding.specs.Views.{in_range}
 use Rattle.measurement.specs.declared.request.Create.{Create}
 
@@ -31,8 +32,10 @@ pub record HasCounts (parts : Create) : Type 0 where
 
 -- pages of both kinds begin at a multiple of 4096, and end at 2 ^ 56 at most
 pub record HasPlaces (parts : Create) : Type 0 where
-  pub private : (parts.base % 4096 ≡ 0) × (parts.base + (parts.text_pages + parts.data_pages) * 4096 ≤ 2 ^ 56)
-  pub shared : (parts.shared_base % 4096 ≡ 0) × (parts.shared_base + parts.shared_count * 4096 ≤ 2 ^ 56)
+  pub private : (parts.base % 4096 ≡ 0)
+      × (parts.base + (parts.text_pages + parts.data_pages) * 4096 ≤ 2 ^ 56)
+  pub shared : (parts.shared_base % 4096 ≡ 0)
+      × (parts.shared_base + parts.shared_count * 4096 ≤ 2 ^ 56)
 
 -- the entry is even, and in the text
 pub record HasEntry (parts : Create) : Type 0 where

@@ -32,7 +32,7 @@ mod measure;
 mod measured;
 mod request;
 
+pub use digest::{BlankDigest, Pages, enclave_digest};
 pub use measure::{Measure, word};
 pub use measured::Layout;
-pub use digest::{BlankDigest, Pages, enclave_digest};
 pub use request::Create;

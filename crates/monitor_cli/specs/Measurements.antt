@@ -16,14 +16,17 @@ pub record IsDigest (table : EnclaveTable) (id : ℕ) (digest : List ℕ) : Type
   pub second_is : AnswersWord table id 1 second
   pub third_is : AnswersWord table id 2 third
   pub fourth_is : AnswersWord table id 3 fourth
-  pub bytes : digest ≡ little_bytes 8 first ++ (little_bytes 8 second ++ (little_bytes 8 third ++ little_bytes 8 fourth))
+  pub bytes : digest ≡ little_bytes 8 first
+      ++ (little_bytes 8 second ++ (little_bytes 8 third ++ little_bytes 8 fourth))
 
 -- what is printed of an id: the line of its digest, and nothing where no enclave is live under it
 pub data IsMeasureText (table : EnclaveTable) (id : ℕ) : List ℕ → Type 0 where
-  live : (digest : List ℕ) → IsDigest table id digest → IsMeasureText table id (measure_text id digest)
+  live : (digest : List ℕ) → IsDigest table id digest
+      → IsMeasureText table id (measure_text id digest)
   absent : ((enclave : Enclave) → ¬ Live table id enclave) → IsMeasureText table id []
 
 -- what is printed of the ids from 1 to n
 pub data AreMeasures (table : EnclaveTable) : ℕ → List ℕ → Type 0 where
   none : AreMeasures table 0 []
-  more : (n : ℕ) (text last : List ℕ) → AreMeasures table n text → IsMeasureText table (n + 1) last → AreMeasures table (n + 1) (text ++ last)
+  more : (n : ℕ) (text last : List ℕ) → AreMeasures table n text → IsMeasureText table (n + 1) last
+      → AreMeasures table (n + 1) (text ++ last)

@@ -24,35 +24,54 @@ use Rattle.commands.specs.Show.{ShowsAs}
 use Rattle.monitor_cli.specs.Runs.{Runs}
 use Rattle.commands.specs.Traces.{LintsTrace}
 
--- `lint`, by what the file should be; the width is that of the registers of a listing, and the platform is that of a trace
-abbrev pub LintsAs : {R W : Type 0} → LintKind → Xlen → Bor (List ℕ) → Option (Bor (List ℕ)) → Reading R → Reading R → Writing W → Result ℕ Trouble → Type 0
-LintsAs kinds.ByName xlen file platform first second out done = Lints file first out done × IsUnread second
-LintsAs kinds.Registers xlen file platform first second out done = LintsListing file xlen first out done × IsUnread second
-LintsAs kinds.Trace xlen file platform first second out done = LintsTrace file platform first second out done
+-- `lint`, by what the file should be; the width is that of the registers of a listing, and the
+-- platform is that of a trace
+abbrev pub LintsAs : {R W : Type 0} → LintKind → Xlen → Bor (List ℕ) → Option (Bor (List ℕ))
+    → Reading R → Reading R → Writing W → Result ℕ Trouble → Type 0
+LintsAs kinds.ByName xlen file platform first second out done = Lints file first out done
+    × IsUnread second
+LintsAs kinds.Registers xlen file platform first second out done =
+    LintsListing file xlen first out done × IsUnread second
+LintsAs kinds.Trace xlen file platform first second out done =
+    LintsTrace file platform first second out done
 
 -- what a task comes to with its options: what its command does not use stays as it was
-abbrev pub Performs : {R C W : Type 0} → Task → Options → Reading R → Reading R → Placing C → Writing W → Result ℕ Trouble → Type 0
-Performs (tasks.Run platform trace measure) options first second cert out done = Runs options.answers platform trace measure first second out done × IsUntouched cert
+abbrev pub Performs : {R C W : Type 0} → Task → Options → Reading R → Reading R → Placing C
+    → Writing W → Result ℕ Trouble → Type 0
+Performs (tasks.Run platform trace measure) options first second cert out done =
+    Runs options.answers platform trace measure first second out done × IsUntouched cert
 Performs (tasks.Plan map file limit) options first second cert out done =
-    Plans map file options.xlen limit options.at_most options.format (option_map (λ s. s.now) options.name) options.first first cert out done × IsUnread second
+    Plans map file options.xlen limit options.at_most options.format
+    (option_map (λ s. s.now) options.name) options.first first cert out done × IsUnread second
 Performs (tasks.Judge file trace limit) options first second cert out done =
-    JudgesAs options.registers options.answers file trace options.xlen limit first second out done × IsUntouched cert
-Performs (tasks.Check map file) options first second cert out done = Checks map file first second out done × IsUntouched cert
-Performs (tasks.Audit map registers) options first second cert out done = Audits map registers options.xlen options.all first second out done × IsUntouched cert
-Performs (tasks.Map registers) options first second cert out done = Maps registers options.xlen first out done × IsUnread second × IsUntouched cert
-Performs (tasks.Lint file platform) options first second cert out done = LintsAs options.kind options.xlen file platform first second out done × IsUntouched cert
+    JudgesAs options.registers options.answers file trace options.xlen limit first second out done
+    × IsUntouched cert
+Performs (tasks.Check map file) options first second cert out done =
+    Checks map file first second out done × IsUntouched cert
+Performs (tasks.Audit map registers) options first second cert out done =
+    Audits map registers options.xlen options.all first second out done × IsUntouched cert
+Performs (tasks.Map registers) options first second cert out done =
+    Maps registers options.xlen first out done × IsUnread second × IsUntouched cert
+Performs (tasks.Lint file platform) options first second cert out done =
+    LintsAs options.kind options.xlen file platform first second out done × IsUntouched cert
 Performs (tasks.Show map limit) options first second cert out done =
-    ShowsAs options.registers map options.xlen limit options.at_most options.table options.costs first out done × IsUnread second × IsUntouched cert
+    ShowsAs options.registers map options.xlen limit options.at_most options.table options.costs
+    first out done × IsUnread second × IsUntouched cert
 
--- what standard error is told: nothing where there is no trouble, otherwise its line, which breaks off only where the device does
+-- what standard error is told: nothing where there is no trouble, otherwise its line, which breaks
+-- off only where the device does
 pub data Tells {E : Type 0} (err : Writing E) : Result ℕ Trouble → Type 0 where
   quiet : (status : ℕ) → IsUnwritten err → Tells err (Ok status)
-  told : (trouble : Trouble) → Appends err.before err.after (trouble_text trouble) → Tells err (Err trouble)
+  told : (trouble : Trouble) → Appends err.before err.after (trouble_text trouble)
+      → Tells err (Err trouble)
   cut : (trouble : Trouble) → Breaks (trouble_text trouble) err → Tells err (Err trouble)
 
--- a task was done or came to trouble, which standard error is told of. The status is 0 where it was done, 1 where the checker,
--- `audit` or `lint` refused, or registers have no table, mean no map or judge nothing, 2 for bad input, 3 for a device, 4 for memory, and it does not depend on standard error
-pub record Ends {R C W E : Type 0} (request : Request) (first second : Reading R) (cert : Placing C) (out : Writing W) (err : Writing E) (status : ℕ) : Type 0 where
+-- a task was done or came to trouble, which standard error is told of. The status is 0 where it was
+-- done, 1 where the checker, `audit` or `lint` refused, or registers have no table, mean no map or
+-- judge nothing, 2 for bad input, 3 for a device, 4 for memory, and it does not depend on standard
+-- error
+pub record Ends {R C W E : Type 0} (request : Request) (first second : Reading R) (cert : Placing C)
+    (out : Writing W) (err : Writing E) (status : ℕ) : Type 0 where
   pub done : Result ℕ Trouble
   pub performed : Performs request.task request.options first second cert out done
   pub told : Tells err done

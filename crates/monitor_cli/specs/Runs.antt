@@ -1,4 +1,5 @@
--- What `run` comes to, on the files and streams that are lent for it: a rule for each way in which it ends.
+-- What `run` comes to, on the files and streams that are lent for it: a rule for each way in which
+-- it ends.
 use Rattle.std.specs.Prelude.{◌≡◌, ℕ, ◌≤◌, Bool, true, false, List, Option, Some, Result, Ok, Err}
 use Rattle.std.specs.Borrow.{Bor}
 use Rattle.std.specs.Io.KnownBytes.{Appends}
@@ -14,7 +15,8 @@ use Rattle.hart_sim.specs.After.{IsBooted}
 use Rattle.hart_sim.specs.Machines.{kept_of, state_of}
 use Rattle.hart_sim.specs.Reports.{DoesLine, RefusesLine, StarvesLine}
 use Rattle.trace_answers.specs.Comparisons.{ComparesAll}
-use Rattle.explained_runs.specs.Accounts.{Account, ExplainsLine, RefusesAccount, StarvesAccount, opened}
+use Rattle.explained_runs.specs.Accounts.{Account, ExplainsLine, RefusesAccount, StarvesAccount}
+use Rattle.explained_runs.specs.Accounts.{opened}
 use Rattle.explained_runs.specs.Summaries.{summary_text}
 use Rattle.program_tasks.specs.declared.options.Answers.{Answers}
 use Rattle.program_tasks.specs.declared.options.Answers.TheVariants as answers
@@ -27,81 +29,129 @@ use Rattle.commands.specs.Expected.{IsTold}
 use Rattle.commands.specs.Stops.{Stops}
 use Rattle.monitor_cli.specs.Measurements.{AreMeasures}
 
--- the measurements of a machine's live enclaves were written where they are asked for, and otherwise nothing more
+-- the measurements of a machine's live enclaves were written where they are asked for, and
+-- otherwise nothing more
 abbrev pub IsMeasured : Bool → Machine → Option (List ℕ) → Option (List ℕ) → Type 0
 IsMeasured false machine before after = after ≡ before
-IsMeasured true machine before after = (text : List ℕ) × AreMeasures (kept_of machine).table 64 text × Appends before after text
+IsMeasured true machine before after = (text : List ℕ) × AreMeasures (kept_of machine).table 64 text
+    × Appends before after text
 
--- a trace happens to a machine line by line, to its end or until it stops, and the measurements come last
-pub data RunsTrace {R W : Type 0} (does : Meaning Machine) (booted : Machine) (trace : Bor (List ℕ)) (measure : Bool) (second : Reading R) (out : Writing W) : Result ℕ Trouble → Type 0 where
+-- a trace happens to a machine line by line, to its end or until it stops, and the measurements
+-- come last
+pub data RunsTrace {R W : Type 0} (does : Meaning Machine) (booted : Machine) (trace : Bor (List ℕ))
+    (measure : Bool) (second : Reading R) (out : Writing W) : Result ℕ Trouble → Type 0 where
   to_its_end :
-      (ended : Machine) (report : Option (List ℕ)) → DoesAll does booted ended second.before second.after out.before report → IsMeasured measure ended report out.after
-      → second.failed ≡ second.failures → IsWell out → RunsTrace does booted trace measure second out (Ok 0)
+      (ended : Machine) (report : Option (List ℕ))
+      → DoesAll does booted ended second.before second.after out.before report
+      → IsMeasured measure ended report out.after
+      → second.failed ≡ second.failures → IsWell out
+      → RunsTrace does booted trace measure second out (Ok 0)
   until :
-      (ended : Machine) (fault : RunFault) → Stops does RefusesLine StarvesLine booted ended second.before second.after out.before out.after fault
-      → CountsReads (Err fault) second.failures second.failed → CountsWrites (Err fault) out.failures out.failed out.stalls out.stalled
+      (ended : Machine) (fault : RunFault)
+      → Stops does RefusesLine StarvesLine booted ended second.before second.after out.before
+      out.after fault
+      → CountsReads (Err fault) second.failures second.failed
+      → CountsWrites (Err fault) out.failures out.failed out.stalls out.stalled
       → RunsTrace does booted trace measure second out (Err (run_trouble trace fault))
   not_measured :
       (ended : Machine) (report : Option (List ℕ)) (n : ℕ) (text : List ℕ) → measure ≡ true
-      → DoesAll does booted ended second.before second.after out.before report → n ≤ 64 → AreMeasures (kept_of ended).table n text → TakesPart text report out.after
-      → second.failed ≡ second.failures → WriteFails out.failures out.failed out.stalls out.stalled → RunsTrace does booted trace measure second out (Err Output)
+      → DoesAll does booted ended second.before second.after out.before report → n ≤ 64
+      → AreMeasures (kept_of ended).table n text → TakesPart text report out.after
+      → second.failed ≡ second.failures → WriteFails out.failures out.failed out.stalls out.stalled
+      → RunsTrace does booted trace measure second out (Err Output)
 
 -- the summary of what happened to a machine, and of the machine after it
 abbrev pub summary_of : Account → List ℕ
 summary_of ended = summary_text ended.happened (state_of ended.machine)
 
--- a trace happens so and a comment behind each answer says what happened: behind the report stand the measurements, and last the summary
-pub data RunsExplaining {R W : Type 0} (booted : Machine) (trace : Bor (List ℕ)) (measure : Bool) (second : Reading R) (out : Writing W) : Result ℕ Trouble → Type 0 where
+-- a trace happens so and a comment behind each answer says what happened: behind the report stand
+-- the measurements, and last the summary
+pub data RunsExplaining {R W : Type 0} (booted : Machine) (trace : Bor (List ℕ)) (measure : Bool)
+    (second : Reading R) (out : Writing W) : Result ℕ Trouble → Type 0 where
   explained :
-      (ended : Account) (report measured : Option (List ℕ)) → DoesAll ExplainsLine (opened booted) ended second.before second.after out.before report
-      → IsMeasured measure ended.machine report measured → Appends measured out.after (summary_of ended) → second.failed ≡ second.failures → IsWell out
+      (ended : Account) (report measured : Option (List ℕ))
+      → DoesAll ExplainsLine (opened booted) ended second.before second.after out.before report
+      → IsMeasured measure ended.machine report measured
+      → Appends measured out.after (summary_of ended) → second.failed ≡ second.failures
+      → IsWell out
       → RunsExplaining booted trace measure second out (Ok 0)
   stopped :
-      (ended : Account) (fault : RunFault) → Stops ExplainsLine RefusesAccount StarvesAccount (opened booted) ended second.before second.after out.before out.after fault
-      → CountsReads (Err fault) second.failures second.failed → CountsWrites (Err fault) out.failures out.failed out.stalls out.stalled
+      (ended : Account) (fault : RunFault)
+      → Stops ExplainsLine RefusesAccount StarvesAccount (opened booted) ended second.before
+      second.after out.before out.after fault
+      → CountsReads (Err fault) second.failures second.failed
+      → CountsWrites (Err fault) out.failures out.failed out.stalls out.stalled
       → RunsExplaining booted trace measure second out (Err (run_trouble trace fault))
   not_all_measured :
       (ended : Account) (report : Option (List ℕ)) (n : ℕ) (text : List ℕ) → measure ≡ true
-      → DoesAll ExplainsLine (opened booted) ended second.before second.after out.before report → n ≤ 64 → AreMeasures (kept_of ended.machine).table n text → TakesPart text report out.after
-      → second.failed ≡ second.failures → WriteFails out.failures out.failed out.stalls out.stalled → RunsExplaining booted trace measure second out (Err Output)
+      → DoesAll ExplainsLine (opened booted) ended second.before second.after out.before report
+      → n ≤ 64 → AreMeasures (kept_of ended.machine).table n text
+      → TakesPart text report out.after
+      → second.failed ≡ second.failures → WriteFails out.failures out.failed out.stalls out.stalled
+      → RunsExplaining booted trace measure second out (Err Output)
   not_summed_up :
-      (ended : Account) (report measured : Option (List ℕ)) → DoesAll ExplainsLine (opened booted) ended second.before second.after out.before report
-      → IsMeasured measure ended.machine report measured → TakesPart (summary_of ended) measured out.after
-      → second.failed ≡ second.failures → WriteFails out.failures out.failed out.stalls out.stalled → RunsExplaining booted trace measure second out (Err Output)
+      (ended : Account) (report measured : Option (List ℕ))
+      → DoesAll ExplainsLine (opened booted) ended second.before second.after out.before report
+      → IsMeasured measure ended.machine report measured
+      → TakesPart (summary_of ended) measured out.after
+      → second.failed ≡ second.failures → WriteFails out.failures out.failed out.stalls out.stalled
+      → RunsExplaining booted trace measure second out (Err Output)
 
--- a trace happens so and its answers are compared with those that its comments say: where one differs, the first that does is told behind
--- the report and the measurements, and the status is 1
-pub data RunsExpecting {R W : Type 0} (does : Meaning Machine) (booted : Machine) (trace : Bor (List ℕ)) (measure : Bool) (second : Reading R) (out : Writing W) : Result ℕ Trouble → Type 0 where
+-- a trace happens so and its answers are compared with those that its comments say: where one
+-- differs, the first that does is told behind the report and the measurements, and the status is 1
+pub data RunsExpecting {R W : Type 0} (does : Meaning Machine) (booted : Machine)
+    (trace : Bor (List ℕ)) (measure : Bool) (second : Reading R) (out : Writing W) : Result ℕ
+    Trouble → Type 0 where
   compared :
-      (ended : Machine) (report measured difference : Option (List ℕ)) (status : ℕ) → ComparesAll does booted ended second.before second.after out.before report difference
-      → IsMeasured measure ended report measured → IsTold difference measured out.after status → second.failed ≡ second.failures → IsWell out
+      (ended : Machine) (report measured difference : Option (List ℕ)) (status : ℕ)
+      → ComparesAll does booted ended second.before second.after out.before report difference
+      → IsMeasured measure ended report measured → IsTold difference measured out.after status
+      → second.failed ≡ second.failures → IsWell out
       → RunsExpecting does booted trace measure second out (Ok status)
   unfinished :
-      (ended : Machine) (fault : RunFault) → Stops does RefusesLine StarvesLine booted ended second.before second.after out.before out.after fault
-      → CountsReads (Err fault) second.failures second.failed → CountsWrites (Err fault) out.failures out.failed out.stalls out.stalled
+      (ended : Machine) (fault : RunFault)
+      → Stops does RefusesLine StarvesLine booted ended second.before second.after out.before
+      out.after fault
+      → CountsReads (Err fault) second.failures second.failed
+      → CountsWrites (Err fault) out.failures out.failed out.stalls out.stalled
       → RunsExpecting does booted trace measure second out (Err (run_trouble trace fault))
   unmeasured :
-      (ended : Machine) (report difference : Option (List ℕ)) (n : ℕ) (text : List ℕ) → measure ≡ true
-      → ComparesAll does booted ended second.before second.after out.before report difference → n ≤ 64 → AreMeasures (kept_of ended).table n text → TakesPart text report out.after
-      → second.failed ≡ second.failures → WriteFails out.failures out.failed out.stalls out.stalled → RunsExpecting does booted trace measure second out (Err Output)
+      (ended : Machine) (report difference : Option (List ℕ)) (n : ℕ) (text : List ℕ)
+      → measure ≡ true
+      → ComparesAll does booted ended second.before second.after out.before report difference
+      → n ≤ 64 → AreMeasures (kept_of ended).table n text → TakesPart text report out.after
+      → second.failed ≡ second.failures → WriteFails out.failures out.failed out.stalls out.stalled
+      → RunsExpecting does booted trace measure second out (Err Output)
   not_told :
-      (ended : Machine) (report measured : Option (List ℕ)) (text : List ℕ) → ComparesAll does booted ended second.before second.after out.before report (Some text)
-      → IsMeasured measure ended report measured → TakesPart text measured out.after → second.failed ≡ second.failures → WriteFails out.failures out.failed out.stalls out.stalled
+      (ended : Machine) (report measured : Option (List ℕ)) (text : List ℕ)
+      → ComparesAll does booted ended second.before second.after out.before report (Some text)
+      → IsMeasured measure ended report measured → TakesPart text measured out.after
+      → second.failed ≡ second.failures
+      → WriteFails out.failures out.failed out.stalls out.stalled
       → RunsExpecting does booted trace measure second out (Err Output)
 
--- a trace happens to a machine; with `--explain` a comment behind each answer says what happened, and the summary comes last; with
--- `--expect` the answers are compared
-abbrev pub RunsTraceAs : {R W : Type 0} → Answers → Machine → Bor (List ℕ) → Bool → Reading R → Writing W → Result ℕ Trouble → Type 0
-RunsTraceAs answers.Plain booted trace measure second out done = RunsTrace DoesLine booted trace measure second out done
-RunsTraceAs answers.Explained booted trace measure second out done = RunsExplaining booted trace measure second out done
-RunsTraceAs answers.Compared booted trace measure second out done = RunsExpecting DoesLine booted trace measure second out done
+-- a trace happens to a machine; with `--explain` a comment behind each answer says what happened,
+-- and the summary comes last; with `--expect` the answers are compared
+abbrev pub RunsTraceAs : {R W : Type 0} → Answers → Machine → Bor (List ℕ) → Bool → Reading R
+    → Writing W → Result ℕ Trouble → Type 0
+RunsTraceAs answers.Plain booted trace measure second out done =
+    RunsTrace DoesLine booted trace measure second out done
+RunsTraceAs answers.Explained booted trace measure second out done =
+    RunsExplaining booted trace measure second out done
+RunsTraceAs answers.Compared booted trace measure second out done =
+    RunsExpecting DoesLine booted trace measure second out done
 
 -- `run`: the platform is read and booted, and then the trace happens to its machine
-pub data Runs {R W : Type 0} (answers : Answers) (file trace : Bor (List ℕ)) (measure : Bool) (first second : Reading R) (out : Writing W) : Result ℕ Trouble → Type 0 where
+pub data Runs {R W : Type 0} (answers : Answers) (file trace : Bor (List ℕ)) (measure : Bool)
+    (first second : Reading R) (out : Writing W) : Result ℕ Trouble → Type 0 where
   ran :
-      (platform : PlatformLayout) (booted : Machine) (result : Result ℕ Trouble) → HasPlatform first platform → IsBooted platform booted → RunsTraceAs answers booted trace measure second out result
+      (platform : PlatformLayout) (booted : Machine) (result : Result ℕ Trouble)
+      → HasPlatform first platform → IsBooted platform booted
+      → RunsTraceAs answers booted trace measure second out result
       → Runs answers file trace measure first second out result
-  no_platform : (trouble : Trouble) → HasNoPlatform file first trouble → IsUnread second → IsUnwritten out → Runs answers file trace measure first second out (Err trouble)
+  no_platform : (trouble : Trouble) → HasNoPlatform file first trouble → IsUnread second
+      → IsUnwritten out → Runs answers file trace measure first second out (Err trouble)
   not_booted :
-      (platform : PlatformLayout) (fault : BootFault) → HasPlatform first platform → IsBootFault platform fault → IsUnread second → IsUnwritten out
+      (platform : PlatformLayout) (fault : BootFault) → HasPlatform first platform
+      → IsBootFault platform fault → IsUnread second → IsUnwritten out
       → Runs answers file trace measure first second out (Err (boot_trouble fault))

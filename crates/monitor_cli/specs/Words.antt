@@ -6,7 +6,8 @@ use Rattle.program_tasks.specs.declared.options.Options.{Options}
 use Rattle.program_tasks.specs.declared.task.Task.{Task}
 use Rattle.program_tasks.specs.Tasks.{IsSound}
 
--- the task is the subcommand that was entered, with the values of its rows, and with some options it is sound
+-- the task is the subcommand that was entered, with the values of its rows, and with some options
+-- it is sound
 pub record IsTask (found : Option (Text × List Row)) (task : Task) : Type 0 where
   pub options : Options
   pub request : IsRequest found (record { task = task; options = options })

@@ -9,12 +9,12 @@ ghost use Rattle.monitor_cli.specs.Hints.{hints_in, kind_of, AreHints, HasHints,
 
 use crate::sizes::{FileKind, Had, bytes_or_hint};
 use byte_streams::{Counted, Sink, Source};
-use commands::{lint_as_platform, lint_as_trace, lint_listing, lint_map};
-use lint_texts::split_line;
 use command_inputs::Trouble;
+use commands::{lint_as_platform, lint_as_trace, lint_listing, lint_map};
+use file_lints::Taker;
+use lint_texts::split_line;
 use pmp_encoding::Xlen;
 use std::alloc::{AllocError, Global};
-use file_lints::Taker;
 
 /// What an input should be.
 #[derive(Clone, Copy)]

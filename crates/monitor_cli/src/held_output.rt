@@ -12,9 +12,9 @@ ghost use Rattle.command_inputs.specs.declared.trouble.Trouble.TheVariants.{Outp
 
 use crate::program::perform_request;
 use byte_streams::{HeldSink, Sink, Source};
+use command_inputs::Trouble;
 use program_files::WholeSink;
 use program_tasks::Request;
-use command_inputs::Trouble;
 use std::alloc::Global;
 use std::io::Write;
 
@@ -49,7 +49,8 @@ pub fn perform_and_close<R: Source, C: WholeSink, T: Write + Drop, E: Sink>(
         (held : HeldSink T) × (told : E) × (ended : ℕ)
         × Ends request.now (source first.old first.new) (source second.old second.new)
         (placing C.contents C.failures C.stalls C.stands C.is_apart cert.old cert.new)
-        (writing (contents_of T.contents) failed_writes stalled_writes out held) (telling err.old told) ended
+        (writing (contents_of T.contents) failed_writes stalled_writes out held)
+        (telling err.old told) ended
         × IsClosed (held_in held) (T.contents (writer_of held)) (T.contents result.1)
         (err.new ≡ told)
         (Tells (telling told err.new) (Err Output)) ended result.0 }

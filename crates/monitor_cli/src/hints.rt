@@ -12,16 +12,14 @@ use crate::forms::{Form, hints_for, hints_in_order, hints_of};
 use crate::needs::{Bounds, bank_bounds, boot_hint, need_hint, plan_bounds, table_bounds};
 use crate::sizes::{FileKind, Had, bytes_or_hint, size_hints};
 use byte_streams::{Sink, Source, write_whole};
-use command_inputs::platform_in;
-use hart_sim::Machine;
-use commands::names_platform;
-use commands::needed_by;
-use platforms::{BootFault, Platform};
-use program_tasks::{LintKind, Request, Task};
-use command_inputs::Trouble;
-use pmp_encoding::Xlen;
-use std::alloc::{AllocError, Global};
+use command_inputs::{Trouble, platform_in};
+use commands::{names_platform, needed_by};
 use file_lints::Taker;
+use hart_sim::Machine;
+use platforms::{BootFault, Platform};
+use pmp_encoding::Xlen;
+use program_tasks::{LintKind, Request, Task};
+use std::alloc::{AllocError, Global};
 
 /// The hint of a platform that does not boot, and none where it does.
 fn hint_of_boot(

@@ -45,13 +45,13 @@ mod run;
 mod sizes;
 mod words;
 
+pub use hart_trace::judge_trace;
 pub use held_output::{closed, perform_and_close};
+pub use hints::tell_hints;
 pub use on_files::{Lent, perform_on_files};
 pub use platform_file::{TextFault, platform_of};
 pub use printed_lines::digest_text;
 pub use program::{perform, perform_request};
 pub use program_tasks::{Options, Request, Task};
-pub use hart_trace::judge_trace;
-pub use words::command_of;
 pub use run::do_run_as;
-pub use hints::tell_hints;
+pub use words::command_of;

@@ -16,11 +16,11 @@ ghost use Rattle.monitor_cli.specs.Measurements.{AreMeasures, IsDigest, IsMeasur
 
 use byte_streams::{DeviceFault, Sink, write_whole};
 use byteorder::{ByteOrder, LittleEndian};
+use command_inputs::Trouble;
 use enclave_table::Table;
 use hart_sim::Machine;
 use platforms::Platform;
 use printed_lines::measure_line;
-use command_inputs::Trouble;
 use std::alloc::Global;
 
 /// The most enclaves that are live, and their largest id.

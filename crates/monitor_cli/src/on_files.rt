@@ -7,15 +7,16 @@ ghost use Rattle.program_tasks.specs.Hints.{are_told};
 ghost use Rattle.monitor_cli.specs.OnFiles.{failure_of, input_over, EndsOnFiles, Follows, HintsOnFiles, SaysWhy};
 
 use crate::held_output::perform_and_close;
-use byte_streams::{HeldSink, Sink};
 use crate::tell_hints;
-use program_files::{CertificateFile, Explained, Reason, RetryInterrupted};
-use program_tasks::{Request, Task};
+use byte_streams::{HeldSink, Sink};
 use command_inputs::print_reason;
+use program_files::{CertificateFile, Explained, Reason, RetryInterrupted};
+use program_tasks::{
+    NO_FILE, Request, ShownNames, Task, cert_of, inputs, inputs_again, may_be_hinted, with_names,
+};
 use std::alloc::{AllocError, Global};
 use std::io::{Read, Write};
 use std::rt::Files;
-use program_tasks::{NO_FILE, ShownNames, cert_of, inputs, inputs_again, may_be_hinted, with_names};
 
 /// The status of a task that ended since a device failed.
 const DEVICE_FAILED: u8 = 3;
@@ -78,7 +79,8 @@ fn follow<'a, R: Files, S: Read + Copy, E: Sink>(
 )
     ensures { let telling = writing E.contents E.failures E.stalls err.old err.new in
         Follows hints task.now status (err.new ≡ err.old)
-        (HintsOnFiles R R.Dir lent.now.stdin (input_over R.File.remaining S.remaining) task.now shown.now
+        (HintsOnFiles R R.Dir lent.now.stdin (input_over R.File.remaining S.remaining) task.now
+        shown.now
         telling)
         (SaysWhy telling why.entry) }
 {

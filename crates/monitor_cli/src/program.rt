@@ -8,16 +8,15 @@ ghost use Rattle.monitor_cli.specs.Programs.{Ends, LintsAs, Performs, Tells};
 ghost use Rattle.program_tasks.specs.Requests.{alone};
 ghost use Rattle.command_inputs.specs.Troubles.{status_of};
 
+use crate::do_run_as;
 use byte_streams::{Sink, Source};
-use commands::{do_lint, do_lint_listing, do_lint_trace};
+use command_inputs::Trouble;
 use commands::{
-    Asked, CertificateSink, Straight, Table, Whole, do_audit, do_check, do_judge_as, do_map,
-    do_plan, do_show_as,
+    Asked, CertificateSink, Straight, Table, Whole, do_audit, do_check, do_judge_as, do_lint,
+    do_lint_listing, do_lint_trace, do_map, do_plan, do_show_as,
 };
 use program_files::WholeSink;
 use program_tasks::{LintKind, Options, Request, Task};
-use command_inputs::Trouble;
-use crate::do_run_as;
 use std::alloc::Global;
 
 /// Reports the trouble of a task on standard error, and answers its status.

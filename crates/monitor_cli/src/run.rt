@@ -9,14 +9,13 @@ ghost use Rattle.monitor_cli.specs.Runs.{Runs, RunsExpecting, RunsExplaining, Ru
 
 use crate::measurements::{booted, measure_where};
 use byte_streams::{DeviceFault, Sink, Source};
-use command_inputs::read_platform;
-use trace_answers::{Compared, compare_lines};
+use command_inputs::{Trouble, read_platform};
+use commands::tell_first;
 use explained_runs::{Ran, explain_run, print_summary};
 use hart_sim::{Machine, run};
-use commands::tell_first;
 use program_tasks::Answers;
-use command_inputs::Trouble;
 use std::alloc::Global;
+use trace_answers::{Compared, compare_lines};
 
 /// Runs a trace on a machine, and prints the measurements where they are asked for.
 #[inline(never)]

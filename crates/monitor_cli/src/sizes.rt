@@ -7,10 +7,11 @@ ghost use Rattle.monitor_cli.specs.Sizes.{IsHad, most_bytes, size_hint, size_tex
 
 use crate::needs::need_of;
 use byte_streams::Source;
-use command_inputs::{CERTIFICATE_BYTES, MAP_BYTES, PLATFORM_BYTES, REGISTER_BYTES, bytes_in};
+use command_inputs::{
+    CERTIFICATE_BYTES, MAP_BYTES, PLATFORM_BYTES, REGISTER_BYTES, Trouble, bytes_in,
+};
 use commands::TRACE_BYTES;
 use program_files::has_more;
-use command_inputs::Trouble;
 use std::alloc::{AllocError, Global};
 
 /// What a file is.

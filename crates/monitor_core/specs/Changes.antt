@@ -1,5 +1,6 @@
 -- Changes of a state: what is not named stays.
-use Rattle.std.specs.Prelude.{ℕ, ◌+◌, ◌%◌, ◌^◌, Bool, true, false, ◌&&◌, ◌||◌, ◌==◌, nat_lt, if◌then◌else◌}
+use Rattle.std.specs.Prelude.{ℕ, ◌+◌, ◌%◌, ◌^◌, Bool, true, false, ◌&&◌, ◌||◌, ◌==◌, nat_lt}
+use Rattle.std.specs.Prelude.{if◌then◌else◌}
 use Rattle.sbi_decode.specs.declared.world.World.{World}
 use Rattle.sbi_decode.specs.declared.world.World.TheVariants.{Host, Enclave as InEnclave}
 pub use Rattle.sbi_decode.specs.Registers.{with_x}
@@ -12,7 +13,8 @@ use Rattle.monitor_core.specs.States.{MonitorState, running_registers}
 abbrev pub past_call : RegisterFile → RegisterFile
 past_call file = record file { pc = (file.pc + 4) % 2 ^ 64 }
 
--- the registers of a first entry: zero, but for the pc, which is the entry point, and a0, which is the id
+-- the registers of a first entry: zero, but for the pc, which is the entry point, and a0, which is
+-- the id
 abbrev pub first_registers : ℕ → Create → RegisterFile
 first_registers id parts = with_x (record zeros { pc = parts.base + parts.entry_offset }) 10 id
 
@@ -31,21 +33,29 @@ abbrev pub in_world : MonitorState → ℕ → World → MonitorState
 in_world s hart world = record s { worlds = λ h. if h == hart then world else s.worlds h }
 
 abbrev pub with_registers : MonitorState → Runner → RegisterFile → MonitorState
-with_registers s who file = record s { registers = λ other. if is_same other who then file else s.registers other }
+with_registers s who file = record s {
+  registers = λ other. if is_same other who then file
+      else s.registers other;
+}
 
 -- the hart's registers changed, and an answer put into its a0 and a1
 abbrev pub with_running : MonitorState → ℕ → RegisterFile → MonitorState
 with_running s hart file = with_registers s (runner_of hart (s.worlds hart)) file
 
 abbrev pub answering : MonitorState → ℕ → ℕ → ℕ → MonitorState
-answering s hart first second = with_running s hart (with_x (with_x (running_registers s hart) 10 first) 11 second)
+answering s hart first second = with_running s hart
+    (with_x (with_x (running_registers s hart) 10 first) 11 second)
 
--- the mark of a hart taken away; every other hart of the platform that is in the host's world marked
+-- the mark of a hart taken away; every other hart of the platform that is in the host's world
+-- marked
 abbrev pub without_mark : MonitorState → ℕ → MonitorState
 without_mark s hart = record s { marked = λ h. if h == hart then false else s.marked h }
 
 abbrev pub marking_others : MonitorState → ℕ → MonitorState
-marking_others s hart = record s { marked = λ h. if h == hart then s.marked h else (nat_lt h s.table.layout.harts && is_host (s.worlds h) || s.marked h) }
+marking_others s hart = record s {
+  marked = λ h. if h == hart then s.marked h
+      else (nat_lt h s.table.layout.harts && is_host (s.worlds h) || s.marked h);
+}
 
 -- the host goes on on a hart, with two words in its a0 and a1
 abbrev pub back_to_host : MonitorState → ℕ → ℕ → ℕ → MonitorState

@@ -14,24 +14,29 @@ pub record IsOn (parts : Parts) (hart : ℕ) : Type 0 where
   pub known : hart < parts.table.table.layout.harts
   pub whole : HoldsTogether parts.table parts.worlds parts.marked
 
--- the parts still belong together, the platform stays, and where the table stays, so does every list that is kept
+-- the parts still belong together, the platform stays, and where the table stays, so does every
+-- list that is kept
 pub record KeepsFrame (old new : Parts) : Type 0 where
   pub whole : HoldsTogether new.table new.worlds new.marked
   pub layout : new.table.table.layout ≡ old.table.table.layout
   pub lists : new.table.table ≡ old.table.table → new.table ≡ old.table
 
--- the entries of a hart are to be loaded anew exactly where the table changed, or the world on the hart
+-- the entries of a hart are to be loaded anew exactly where the table changed, or the world on the
+-- hart
 abbrev pub LoadsAnew : Bool → MonitorState → MonitorState → ℕ → Type 0
 LoadsAnew false old new hart = (new.table ≡ old.table) × (new.worlds hart ≡ old.worlds hart)
 LoadsAnew true old new hart = new.table ≡ old.table → new.worlds hart ≡ old.worlds hart → ⊥
 
--- every other hart that is not marked then was not marked before, and its view is the same: what is loaded there is right still
+-- every other hart that is not marked then was not marked before, and its view is the same: what is
+-- loaded there is right still
 pub record KeepsOthers (s new : MonitorState) (hart : ℕ) : Type 0 where
   pub awake : (i : ℕ) → i ≢ hart → new.marked i ≡ false → s.marked i ≡ false
-  pub views : (i : ℕ) → i ≢ hart → i < s.table.layout.harts → new.marked i ≡ false → SameView (current_view s.table (s.worlds i)) (current_view new.table (new.worlds i))
+  pub views : (i : ℕ) → i ≢ hart → i < s.table.layout.harts → new.marked i ≡ false
+      → SameView (current_view s.table (s.worlds i)) (current_view new.table (new.worlds i))
 
 -- the pages of a range are memory, and none is the monitor's
 pub record ClearsMemory (layout : PlatformLayout) (range : PageRange) : Type 0 where
   pub inside : range.first + range.count ≤ 2 ^ 44
   pub in_ram : (page : ℕ) → in_range range.first range.count page ≡ true → is_ram layout page ≡ true
-  pub not_monitor : (page : ℕ) → in_range range.first range.count page ≡ true → has_page layout.monitor page ≡ false
+  pub not_monitor : (page : ℕ) → in_range range.first range.count page ≡ true
+      → has_page layout.monitor page ≡ false

@@ -8,7 +8,8 @@ use Rattle.monitor_core.specs.declared.monitor.Monitor.{Monitor}
 use Rattle.monitor_core.specs.Parts.{state_in}
 use Rattle.monitor_core.specs.States.{MonitorState}
 
--- the state of the monitor. What it is, its observers show: its table, the world and the registers on each hart, and the marks
+-- the state of the monitor. What it is, its observers show: its table, the world and the registers
+-- on each hart, and the marks
 unfoldable pub state_by : Monitor → MonitorState
 state_by monitor = state_in monitor.parts
 

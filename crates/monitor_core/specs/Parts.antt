@@ -1,5 +1,6 @@
 -- The parts of the monitor: the state that they show, and what is true of them together.
-use Rattle.std.specs.Prelude.{◌≡◌, ℕ, zero, suc, ◌≤◌, Bool, true, false, ◌||◌, ◌==◌, List, Option, None, Some, slice_index_or}
+use Rattle.std.specs.Prelude.{◌≡◌, ℕ, zero, suc, ◌≤◌, Bool, true, false, ◌||◌, ◌==◌, List, Option}
+use Rattle.std.specs.Prelude.{None, Some, slice_index_or}
 use Rattle.enclave_table.specs.Tables.{Kept}
 use Rattle.enclave_table.specs.Enclaves.{EnclaveTable, Live, enclave_at}
 use Rattle.enclave_table.specs.declared.enclave.Enclave.{Enclave}
@@ -51,12 +52,15 @@ abbrev pub is_held : (ℕ → World) → ℕ → ℕ → Bool
 is_held worlds zero id = false
 is_held worlds (suc hart) id = is_of (worlds hart) id || is_held worlds hart id
 
--- at most four harts, each in the host's world or in that of an enclave that is Running; no enclave runs on two, and each that is
--- Running runs on one; a hart that there is not, or that is marked, is in the host's world
+-- at most four harts, each in the host's world or in that of an enclave that is Running; no enclave
+-- runs on two, and each that is Running runs on one; a hart that there is not, or that is marked,
+-- is in the host's world
 pub record HoldsTogether (kept : Kept) (worlds : List World) (marked : List Bool) : Type 0 where
   pub few : kept.table.layout.harts ≤ 4
   pub current : (hart : ℕ) → is_current kept.table (world_in worlds hart) ≡ true
-  pub alone : (hart other id : ℕ) → world_in worlds hart ≡ InEnclave id → world_in worlds other ≡ InEnclave id → hart ≡ other
-  pub held : (id : ℕ) (e : Enclave) → Live kept.table id e → e.state ≡ Running → is_held (world_in worlds) kept.table.layout.harts id ≡ true
+  pub alone : (hart other id : ℕ) → world_in worlds hart ≡ InEnclave id
+      → world_in worlds other ≡ InEnclave id → hart ≡ other
+  pub held : (id : ℕ) (e : Enclave) → Live kept.table id e → e.state ≡ Running
+      → is_held (world_in worlds) kept.table.layout.harts id ≡ true
   pub idle : (hart : ℕ) → kept.table.layout.harts ≤ hart → is_host (world_in worlds hart) ≡ true
   pub hosted : (hart : ℕ) → mark_in marked hart ≡ true → is_host (world_in worlds hart) ≡ true

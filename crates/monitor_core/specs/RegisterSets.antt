@@ -4,7 +4,8 @@ use Rattle.sbi_decode.specs.Registers.{RegisterFile, zeros}
 use Rattle.sbi_decode.specs.Runners.{Runner, HostOf, EnclaveOf}
 use Rattle.monitor_core.specs.declared.register_sets.RegisterSets.{RegisterSets}
 
--- the one that is a host's or an enclave's, of lists of both; enclaves are numbered from 1. One that has no set has zeros
+-- the one that is a host's or an enclave's, of lists of both; enclaves are numbered from 1. One
+-- that has no set has zeros
 abbrev pub set_of : List RegisterFile → List RegisterFile → Runner → RegisterFile
 set_of hosts enclaves (HostOf hart) = slice_index_or hosts hart zeros
 set_of hosts enclaves (EnclaveOf zero) = zeros

@@ -10,16 +10,17 @@ use Rattle.sbi_decode.specs.declared.world.World.TheVariants.{Host}
 use Rattle.sbi_decode.specs.Registers.{RegisterFile, zeros}
 use Rattle.sbi_decode.specs.Runners.{Runner, runner_of}
 
--- the enclaves, the world that runs on each hart, the registers of each host and enclave, and the harts that are marked: each of
--- these is to load the host's entries before it goes on. A hart that there is not stays in the host's world, its registers zero,
--- and is never marked
+-- the enclaves, the world that runs on each hart, the registers of each host and enclave, and the
+-- harts that are marked: each of these is to load the host's entries before it goes on. A hart that
+-- there is not stays in the host's world, its registers zero, and is never marked
 pub record MonitorState : Type 0 where
   pub table : EnclaveTable
   pub worlds : ℕ → World
   pub registers : Runner → RegisterFile
   pub marked : ℕ → Bool
 
--- the opening_monitor state of a platform: no enclave, each hart in the host's world, all registers zero, no hart marked
+-- the opening_monitor state of a platform: no enclave, each hart in the host's world, all registers
+-- zero, no hart marked
 abbrev pub opening_monitor : PlatformLayout → MonitorState
 opening_monitor layout = record {
   table = opening_table layout;

@@ -19,22 +19,31 @@ IsGone old new id = (e : Enclave) × Live old.table id e × (enclave_at new.tabl
 
 -- an enclave has exited, and had not before
 abbrev pub HasExited : MonitorState → MonitorState → ℕ → Type 0
-HasExited old new id = (e now : Enclave) × Live old.table id e × (e.state ≢ Exited) × Live new.table id now × (now.state ≡ Exited)
+HasExited old new id = (e now : Enclave) × Live old.table id e × (e.state ≢ Exited)
+    × Live new.table id now × (now.state ≡ Exited)
 
--- the host goes on with the registers that it had when it was left, but for a0 and a1: 1 and 0 after a stop, 0 and a value after an
--- exit
+-- the host goes on with the registers that it had when it was left, but for a0 and a1: 1 and 0
+-- after a stop, 0 and a value after an exit
 abbrev pub ComesBack : RegisterFile → RegisterFile → Type 0
-ComesBack kept now = (now ≡ with_x (with_x kept 10 1) 11 0) ⊎ ((value : ℕ) × (now ≡ with_x (with_x kept 10 0) 11 value))
+ComesBack kept now = (now ≡ with_x (with_x kept 10 1) 11 0)
+    ⊎ ((value : ℕ) × (now ≡ with_x (with_x kept 10 0) 11 value))
 
 -- an enclave goes on for the first time, or with the registers that it had when it was stopped
 abbrev pub GoesIn : ℕ → Enclave → RegisterFile → RegisterFile → Type 0
-GoesIn id e kept now = ((e.state ≡ Fresh) × (now ≡ first_registers id e.parts)) ⊎ ((e.state ≡ Stopped) × (now ≡ kept))
+GoesIn id e kept now = ((e.state ≡ Fresh) × (now ≡ first_registers id e.parts))
+    ⊎ ((e.state ≡ Stopped) × (now ≡ kept))
 
--- the registers of an enclave that is no more, or has exited, are zero. Those of each other stay that runs on the hart neither before
--- nor after. Where the hart goes to the host, the host comes back; where it goes to an enclave, the enclave goes in
+-- the registers of an enclave that is no more, or has exited, are zero. Those of each other stay
+-- that runs on the hart neither before nor after. Where the hart goes to the host, the host comes
+-- back; where it goes to an enclave, the enclave goes in
 pub record KeepsRegisters (old : MonitorState) (hart : ℕ) (new : MonitorState) : Type 0 where
   pub gone : (id : ℕ) → IsGone old new id → new.registers (EnclaveOf id) ≡ zeros
   pub exited : (id : ℕ) → HasExited old new id → new.registers (EnclaveOf id) ≡ zeros
-  pub others : (who : Runner) → who ≢ runner_on old hart → who ≢ runner_on new hart → ((id : ℕ) → who ≡ EnclaveOf id → IsGone old new id → ⊥) → new.registers who ≡ old.registers who
-  pub host : old.worlds hart ≢ Host → new.worlds hart ≡ Host → ComesBack (old.registers (HostOf hart)) (new.registers (HostOf hart))
-  pub enclave : (id : ℕ) → old.worlds hart ≢ InEnclave id → new.worlds hart ≡ InEnclave id → (e : Enclave) × Live old.table id e × GoesIn id e (old.registers (EnclaveOf id)) (new.registers (EnclaveOf id))
+  pub others : (who : Runner) → who ≢ runner_on old hart → who ≢ runner_on new hart
+      → ((id : ℕ) → who ≡ EnclaveOf id → IsGone old new id → ⊥)
+      → new.registers who ≡ old.registers who
+  pub host : old.worlds hart ≢ Host → new.worlds hart ≡ Host
+      → ComesBack (old.registers (HostOf hart)) (new.registers (HostOf hart))
+  pub enclave : (id : ℕ) → old.worlds hart ≢ InEnclave id → new.worlds hart ≡ InEnclave id
+      → (e : Enclave) × Live old.table id e
+      × GoesIn id e (old.registers (EnclaveOf id)) (new.registers (EnclaveOf id))

@@ -13,18 +13,36 @@ use Rattle.sbi_decode.specs.declared.world.World.{World}
 use Rattle.sbi_decode.specs.declared.calls.Call.{Call}
 use Rattle.sbi_decode.specs.declared.calls.Call.TheVariants as calls
 
--- what creations and destructions ask: that each check passes but for entries and memory; and when a view after it would need more
--- entries than there are: the host's, to which the private pages of a new enclave are closed, or that of the new enclave
+-- what creations and destructions ask: that each check passes but for entries and memory; and when
+-- a view after it would need more entries than there are: the host's, to which the private pages of
+-- a new enclave are closed, or that of the new enclave
 abbrev pub wants_of : Option Call → EnclaveTable → World → Type 0 × Type 0
-wants_of (Some (calls.Create base text_pages data_pages shared_base shared_count entry_offset)) table world =
-    let parts = parts_of (record { base = base; text_pages = text_pages; data_pages = data_pages; shared_base = shared_base; shared_count = shared_count; entry_offset = entry_offset }) in
-    (AllPass (create_checks table world parts), NeedsMore table.layout.limit (λ page. cond (is_private parts page) NoAccess (host_view table page)) ⊎ NeedsMore table.layout.limit (enclave_view parts))
-wants_of (Some (calls.Destroy id)) table world = (AllPass (host_checks MayDestroy table world id), NeedsMore table.layout.limit (host_view (with_enclave table id None)))
+wants_of (Some (calls.Create base text_pages data_pages shared_base shared_count entry_offset))
+    table world =
+    let parts = parts_of (record {
+      base = base;
+      text_pages = text_pages;
+      data_pages = data_pages;
+      shared_base = shared_base;
+      shared_count = shared_count;
+      entry_offset = entry_offset;
+    }) in (
+      AllPass (create_checks table world parts),
+      NeedsMore table.layout.limit (λ page. cond (is_private parts page) NoAccess
+          (host_view table page)) ⊎ NeedsMore table.layout.limit (enclave_view parts),
+    )
+wants_of (Some (calls.Destroy id)) table world = (
+  AllPass (host_checks MayDestroy table world id),
+  NeedsMore table.layout.limit (host_view (with_enclave table id None)),
+)
 wants_of _ table world = (⊥, ⊥)
 
--- a call is refused for want of entries only where it is one of these, and a view after it would need more entries than there are;
--- where one would, it is refused, for want of entries or out of memory. Nothing else is refused so
-pub record IsRefusedByNeed (call : Option Call) (table : EnclaveTable) (world : World) (IsAnswered : Refusal → Type 0) : Type 0 where
+-- a call is refused for want of entries only where it is one of these, and a view after it would
+-- need more entries than there are; where one would, it is refused, for want of entries or out of
+-- memory. Nothing else is refused so
+pub record IsRefusedByNeed (call : Option Call) (table : EnclaveTable) (world : World)
+    (IsAnswered : Refusal → Type 0) : Type 0 where
   pub entries : IsAnswered NoEntries → (wants_of call table world).0 × (wants_of call table world).1
-  pub outgrown : (wants_of call table world).0 → (wants_of call table world).1 → IsAnswered NoEntries ⊎ IsAnswered NoMemory
+  pub outgrown : (wants_of call table world).0 → (wants_of call table world).1
+      → IsAnswered NoEntries ⊎ IsAnswered NoMemory
   pub memory : IsAnswered NoMemory → (wants_of call table world).0

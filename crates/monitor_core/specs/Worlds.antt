@@ -10,12 +10,15 @@ use Rattle.monitor_core.specs.States.{MonitorState}
 
 -- each enclave that is Running runs on a hart of the platform
 abbrev pub AreHeld : EnclaveTable → (ℕ → World) → Type 0
-AreHeld table worlds = (id : ℕ) (e : Enclave) → Live table id e → e.state ≡ Running → (hart : ℕ) × (hart < table.layout.harts) × (worlds hart ≡ InEnclave id)
+AreHeld table worlds = (id : ℕ) (e : Enclave) → Live table id e → e.state ≡ Running → (hart : ℕ)
+    × (hart < table.layout.harts) × (worlds hart ≡ InEnclave id)
 
--- each hart is in the host's world or in that of an enclave that is Running, no enclave runs on two, each that is Running runs on
--- one, and a marked hart is in the host's world
+-- each hart is in the host's world or in that of an enclave that is Running, no enclave runs on
+-- two, each that is Running runs on one, and a marked hart is in the host's world
 pub record ArePlaced (s : MonitorState) : Type 0 where
   pub current : (hart : ℕ) → hart < s.table.layout.harts → IsCurrent s.table (s.worlds hart)
-  pub alone : (hart other id : ℕ) → hart < s.table.layout.harts → other < s.table.layout.harts → s.worlds hart ≡ InEnclave id → s.worlds other ≡ InEnclave id → hart ≡ other
+  pub alone : (hart other id : ℕ) → hart < s.table.layout.harts → other < s.table.layout.harts
+      → s.worlds hart ≡ InEnclave id → s.worlds other ≡ InEnclave id → hart ≡ other
   pub held : AreHeld s.table s.worlds
-  pub marked : (hart : ℕ) → hart < s.table.layout.harts → s.marked hart ≡ true → s.worlds hart ≡ Host
+  pub marked : (hart : ℕ) → hart < s.table.layout.harts → s.marked hart ≡ true
+      → s.worlds hart ≡ Host

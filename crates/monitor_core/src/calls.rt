@@ -3,8 +3,8 @@
 use crate::answer::{Onward, Served};
 use crate::outcome::Outcome;
 use crate::parts::Parts;
-use measurement::{Create, Pages};
 use enclave_table::Entering;
+use measurement::{Create, Pages};
 use sbi_decode::{Call, Registers, decode};
 
 impl Parts {

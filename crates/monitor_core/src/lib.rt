@@ -39,12 +39,11 @@ mod refused;
 mod register_sets;
 
 pub use answer::{Answer, Onward, Served};
-pub use measurement::{Create, Pages};
 pub use enclave_table::{Table, World};
 pub use laws::loading_law;
+pub use measurement::{Create, Pages};
 pub use monitor::Monitor;
 pub use outcome::Outcome;
-pub use pmp_encoding::PageRange;
 pub use platforms::{BootFault, Platform};
-pub use pmp_encoding::Entry;
+pub use pmp_encoding::{Entry, PageRange};
 pub use sbi_decode::Registers;

@@ -3,8 +3,8 @@
 use crate::answer::{Answer, Served};
 use crate::outcome::Outcome;
 use crate::parts::Parts;
-use measurement::Create;
 use enclave_table::Entering;
+use measurement::Create;
 use sbi_decode::{Call, Registers, decode};
 
 impl Parts {

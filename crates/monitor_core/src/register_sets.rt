@@ -4,9 +4,8 @@ ghost use Rattle.std.specs.Prelude.{◌≡◌, IfOk, length, replicate};
 ghost use Rattle.sbi_decode.specs.Registers.{zeros};
 
 use crate::call_registers::{go_past_call, put_answer};
-use sbi_decode::Registers;
+use sbi_decode::{Registers, World};
 use std::alloc::{AllocError, Global};
-use sbi_decode::World;
 
 /// One set for the host of each of four harts, and one for each enclave, by its id from 1 to 64. An enclave's set is the
 /// same for every hart.

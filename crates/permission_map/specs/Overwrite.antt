@@ -1,5 +1,6 @@
 -- Runs with one range overwritten, and the parts from which they are put together.
-use Rattle.std.specs.Prelude.{◌≡◌, ◌≢◌, ℕ, ◌^◌, ◌<◌, ◌≤◌, List, [], ◌∷◌, length, Result, Ok, Err, Option, None, Some}
+use Rattle.std.specs.Prelude.{◌≡◌, ◌≢◌, ℕ, ◌^◌, ◌<◌, ◌≤◌, List, [], ◌∷◌, length, Result, Ok, Err}
+use Rattle.std.specs.Prelude.{Option, None, Some}
 use Rattle.pmp_encoding.specs.declared.perm.Perm.{Perm}
 use Rattle.pmp_encoding.specs.declared.perm.Perm.TheVariants.{NoAccess}
 use Rattle.permission_map.specs.declared.runs.Run.{Run}
@@ -9,11 +10,13 @@ use Rattle.permission_map.specs.Runs.{end_of, AreRunsAfter, AreRuns, view_of_run
 use Rattle.pmp_encoding.specs.Views.{overwritten, SameView}
 
 -- the maximal runs of the view of `old` with the permission in the `count` pages from `first` on
-pub record AreOverwritten (old : List Run) (first count : ℕ) (perm : Perm) (runs : List Run) : Type 0 where
+pub record AreOverwritten (old : List Run) (first count : ℕ) (perm : Perm) (runs : List Run) :
+    Type 0 where
   pub are_runs : AreRuns runs
   pub view_is : SameView (view_of_runs runs) (overwritten (view_of_runs old) first count perm)
 
--- when runs that should become `wanted` may be left as they are: these are too many, or more than there were, so that a growth can have been refused
+-- when runs that should become `wanted` may be left as they are: these are too many, or more than
+-- there were, so that a growth can have been refused
 abbrev pub MayRefuse : List Run → List Run → MapFault → Type 0
 MayRefuse old wanted PastEnd = ⊥
 MayRefuse old wanted TooManyRanges = 4096 < length wanted
@@ -33,8 +36,10 @@ abbrev pub last_perm : Perm → List Run → Perm
 last_perm p [] = p
 last_perm p (run ∷ runs) = last_perm run.perm runs
 
--- these runs stay below a range that begins at `first`, and a new run of the permission, which takes in what it touches, begins at `start`
-pub record IsBelow (runs : List Run) (first : ℕ) (perm : Perm) (below : List Run) (start : ℕ) : Type 0 where
+-- these runs stay below a range that begins at `first`, and a new run of the permission, which
+-- takes in what it touches, begins at `start`
+pub record IsBelow (runs : List Run) (first : ℕ) (perm : Perm) (below : List Run) (start : ℕ) :
+    Type 0 where
   pub are_runs : AreRuns below
   pub rising : last_end 0 below ≤ start
   pub maximal : perm ≢ NoAccess → last_end 0 below ≡ start → perm ≢ last_perm NoAccess below
@@ -42,8 +47,10 @@ pub record IsBelow (runs : List Run) (first : ℕ) (perm : Perm) (below : List R
   pub same_below : (page : ℕ) → page < start → view_of_runs below page ≡ view_of_runs runs page
   pub taken_in : (page : ℕ) → start ≤ page → page < first → view_of_runs runs page ≡ perm
 
--- these runs stay after a range that ends at `end`, and a new run of the permission, which takes in what it touches, ends at `stop`
-pub record IsAbove (runs : List Run) (end : ℕ) (perm : Perm) (above : List Run) (stop : ℕ) : Type 0 where
+-- these runs stay after a range that ends at `end`, and a new run of the permission, which takes in
+-- what it touches, ends at `stop`
+pub record IsAbove (runs : List Run) (end : ℕ) (perm : Perm) (above : List Run) (stop : ℕ) :
+    Type 0 where
   pub are_runs : AreRunsAfter stop perm above
   pub reaches : end ≤ stop
   pub inside : stop ≤ 2 ^ 44
@@ -53,4 +60,5 @@ pub record IsAbove (runs : List Run) (end : ℕ) (perm : Perm) (above : List Run
 -- the new run, or none where it would have no permission
 abbrev pub IsNew : ℕ → ℕ → Perm → Option Run → Type 0
 IsNew start stop perm None = perm ≡ NoAccess
-IsNew start stop perm (Some run) = (perm ≢ NoAccess) × (run.first ≡ start) × (end_of run ≡ stop) × (run.perm ≡ perm)
+IsNew start stop perm (Some run) = (perm ≢ NoAccess) × (run.first ≡ start) × (end_of run ≡ stop)
+    × (run.perm ≡ perm)

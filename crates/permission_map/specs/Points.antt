@@ -1,5 +1,7 @@
 -- A view kept as the points at which it changes.
-use Rattle.std.specs.Prelude.{◌≡◌, ◌≢◌, ℕ, ◌+◌, ◌-◌, ◌*◌, ◌/◌, ◌%◌, ◌^◌, ◌<◌, ◌≤◌, ◌⊎◌, Bool, not, ◌==◌, if◌then◌else◌, List, [], ◌∷◌, ◌++◌, length, take, drop, All, Option, None, Some, option_to_list, ⊤}
+use Rattle.std.specs.Prelude.{◌≡◌, ◌≢◌, ℕ, ◌+◌, ◌-◌, ◌*◌, ◌/◌, ◌%◌, ◌^◌, ◌<◌, ◌≤◌, ◌⊎◌, Bool, not}
+use Rattle.std.specs.Prelude.{◌==◌, if◌then◌else◌, List, [], ◌∷◌, ◌++◌, length, take, drop, All}
+use Rattle.std.specs.Prelude.{Option, None, Some, option_to_list, ⊤}
 use Rattle.pmp_encoding.specs.declared.perm.Perm.{Perm}
 use Rattle.pmp_encoding.specs.declared.perm.Perm.TheVariants.{NoAccess}
 pub use Rattle.pmp_encoding.specs.Perms.{perm_for}
@@ -26,7 +28,8 @@ pub record IsPointAfter (at : ℕ) (before : Perm) (p : Point) : Type 0 where
 -- points by rising page, at each of which the permission changes
 abbrev pub ArePointsAfter : ℕ → Perm → List Point → Type 0
 ArePointsAfter at before [] = ⊤
-ArePointsAfter at before (p ∷ ps) = IsPointAfter at before p × ArePointsAfter (page_of p + 1) (perm_of p) ps
+ArePointsAfter at before (p ∷ ps) = IsPointAfter at before p
+    × ArePointsAfter (page_of p + 1) (perm_of p) ps
 
 abbrev pub ArePoints : List Point → Type 0
 ArePoints ps = ArePointsAfter 0 NoAccess ps
@@ -38,7 +41,11 @@ next_page (p ∷ ps) = page_of p
 
 -- the run from a point up to a page, if it has a permission
 abbrev pub run_to : ℕ → Point → List Run
-run_to end p = if allows p then record { first = page_of p; count = end - page_of p; perm = perm_of p } ∷ [] else []
+run_to end p = if allows p then record {
+  first = page_of p;
+  count = end - page_of p;
+  perm = perm_of p;
+} ∷ [] else []
 
 -- the runs between the points
 abbrev pub runs_of : List Point → List Run
@@ -57,7 +64,8 @@ IsTurn before page perm (Some q) = (perm ≢ before) × (page_of q ≡ page) × 
 
 -- so at the end of a range: none at the end of the space
 abbrev pub IsStop : Perm → ℕ → Perm → Option Point → Type 0
-IsStop before page perm stop = ((page ≡ 2 ^ 44) × (stop ≡ None)) ⊎ ((page < 2 ^ 44) × IsTurn before page perm stop)
+IsStop before page perm stop = ((page ≡ 2 ^ 44) × (stop ≡ None))
+    ⊎ ((page < 2 ^ 44) × IsTurn before page perm stop)
 
 -- points by rising page, from the page `at` on, at which the permission may change or not
 abbrev pub RiseAfter : ℕ → List Point → Type 0
@@ -83,8 +91,8 @@ turns ps = turns_after NoAccess ps
 abbrev pub with_perm : Perm → Point → Point
 with_perm perm p = record { number = page_of p * 8 + bits_of perm }
 
--- what a builder keeps: points, the number of the runs between those at which the permission changes, at most 4096 points more
--- than these, and with the first run room for all
+-- what a builder keeps: points, the number of the runs between those at which the permission
+-- changes, at most 4096 points more than these, and with the first run room for all
 pub record IsBuilt (points : List Point) (runs capacity : ℕ) : Type 0 where
   pub rise : Rise points
   pub count : length (runs_of (turns points)) ≡ runs
@@ -99,7 +107,8 @@ pub record IsCut (ps : List Point) (first end from to : ℕ) : Type 0 where
   pub up_to : All (λ q. page_of q ≤ end) (take to ps)
   pub behind : All (λ q. end < page_of q) (drop to ps)
 
--- the points with a range set between the first `from` and those after the first `to`: of their turns, at most two stand in the place of those between
+-- the points with a range set between the first `from` and those after the first `to`: of their
+-- turns, at most two stand in the place of those between
 pub record IsChanged (old new : List Point) (from to first end : ℕ) (perm : Perm) : Type 0 where
   pub start : Option Point
   pub stop : Option Point
@@ -107,4 +116,5 @@ pub record IsChanged (old new : List Point) (from to first end : ℕ) (perm : Pe
   pub ends : IsStop perm end (standing NoAccess (take to old)) stop
   pub turns_are :
       turns new
-      ≡ turns (take from old) ++ (option_to_list start ++ (option_to_list stop ++ turns_after (standing NoAccess (take to old)) (drop to old)))
+      ≡ turns (take from old) ++ (option_to_list start
+      ++ (option_to_list stop ++ turns_after (standing NoAccess (take to old)) (drop to old)))

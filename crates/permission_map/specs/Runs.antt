@@ -17,10 +17,12 @@ pub record IsRunAfter (at : ℕ) (before : Perm) (run : Run) : Type 0 where
   pub allows : run.perm ≢ NoAccess
   pub inside : end_of run ≤ 2 ^ 44
 
--- runs by rising page, from `at` on, no two of which could be one: each starts after the end of the one before it, or has another permission
+-- runs by rising page, from `at` on, no two of which could be one: each starts after the end of the
+-- one before it, or has another permission
 abbrev pub AreRunsAfter : ℕ → Perm → List Run → Type 0
 AreRunsAfter at before [] = ⊤
-AreRunsAfter at before (run ∷ runs) = IsRunAfter at before run × AreRunsAfter (end_of run) run.perm runs
+AreRunsAfter at before (run ∷ runs) = IsRunAfter at before run
+    × AreRunsAfter (end_of run) run.perm runs
 
 -- the maximal runs of some view of the space's 2 ^ 44 pages, by rising page
 abbrev pub AreRuns : List Run → Type 0
@@ -29,4 +31,5 @@ AreRuns runs = AreRunsAfter 0 NoAccess runs
 -- the permission of each page: that of the run that has it, or none
 abbrev pub view_of_runs : List Run → ℕ → Perm
 view_of_runs [] page = NoAccess
-view_of_runs (run ∷ runs) page = cond (in_range run.first run.count page) run.perm (view_of_runs runs page)
+view_of_runs (run ∷ runs) page = cond (in_range run.first run.count page) run.perm
+    (view_of_runs runs page)

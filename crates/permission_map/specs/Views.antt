@@ -1,2 +1,3 @@
--- Views, with one range overwritten, and when two are the same: passed on to those who look for them here.
+-- Views, with one range overwritten, and when two are the same: passed on to those who look for
+-- them here.
 pub use Rattle.pmp_encoding.specs.Views.{overwritten, SameView}

@@ -12,8 +12,7 @@ use crate::map::{Memory, PermissionMap};
 use crate::overwrite::MOST_RUNS;
 use crate::points::{Point, before, begun_at, begun_between, standing_behind, stop, turn, up_to};
 use crate::runs::Run;
-use pmp_encoding::SPACE_PAGES;
-use pmp_encoding::Perm;
+use pmp_encoding::{Perm, SPACE_PAGES};
 use std::alloc::{AllocError, Global};
 use std::marker::Model;
 
@@ -117,7 +116,8 @@ fn overwrite(
     ensures built { IsBuilt points.new.items runs.new (vec_capacity points.new) }
     ensures wanted { (wanted : List Run) × AreOverwritten
         (runs_of (turns points.old.items)) first count perm wanted
-        × Becomes (runs_of (turns points.old.items)) (runs_of (turns points.new.items)) wanted result }
+        × Becomes (runs_of (turns points.old.items)) (runs_of (turns points.new.items)) wanted
+        result }
     ensures first { result ≡ Err MapFault.Memory → runs.old ≡ 0 }
 {
     if count == 0 {

@@ -5,8 +5,7 @@ ghost use Rattle.pmp_encoding.specs.declared.perm.Perm.TheVariants.{NoAccess};
 ghost use Rattle.permission_map.specs.Points.{IsChanged, IsCut, IsStop, IsTurn, Rise, standing, turns, with_perm};
 
 use crate::points::{Point, standing_behind};
-use pmp_encoding::SPACE_PAGES;
-use pmp_encoding::Perm;
+use pmp_encoding::{Perm, SPACE_PAGES};
 
 /// As many points may be idle: at them the permission does not change.
 pub(crate) const MOST_IDLE: usize = 4096;
@@ -101,7 +100,8 @@ fn repeat(points: &mut Vec<Point>, from: usize, to: usize, perm: Perm)
     requires order { from ≤ to }
     requires inside { to ≤ vec_len points.old }
     ensures items { points.new.items ≡ take from points.old.items ++
-        (map (with_perm perm) (take (to - from) (drop from points.old.items)) ++ drop to points.old.items) }
+        (map (with_perm perm) (take (to - from) (drop from points.old.items))
+        ++ drop to points.old.items) }
     ensures len { vec_len points.new ≡ vec_len points.old }
     ensures room { vec_capacity points.old ≤ vec_capacity points.new }
 {
@@ -125,7 +125,8 @@ fn write_over(
     requires order { from + 2 ≤ to }
     requires inside { to ≤ vec_len points.old }
     ensures items { points.new.items ≡ take from points.old.items ++
-        (start ∷ (map (with_perm perm) (take (to - 1 - (from + 1)) (drop (from + 1) points.old.items))
+        (start ∷ (map (with_perm perm)
+        (take (to - 1 - (from + 1)) (drop (from + 1) points.old.items))
         ++ stop ∷ drop to points.old.items)) }
     ensures len { vec_len points.new ≡ vec_len points.old }
     ensures room { vec_capacity points.old ≤ vec_capacity points.new }

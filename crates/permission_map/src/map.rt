@@ -14,8 +14,7 @@ use crate::fault::MapFault;
 use crate::overwrite::overwrite;
 use crate::runs::Run;
 use crate::search::next;
-use pmp_encoding::{SPACE_PAGES, pages_of};
-use pmp_encoding::Perm;
+use pmp_encoding::{Perm, SPACE_PAGES, pages_of};
 use std::alloc::{AllocError, Global};
 use std::marker::Model;
 

@@ -5,8 +5,7 @@ ghost use Rattle.permission_map.specs.declared.points.Point.{Point};
 ghost use Rattle.pmp_encoding.specs.declared.perm.Perm.TheVariants.{NoAccess};
 ghost use Rattle.permission_map.specs.Points.{IsStop, IsTurn, Rise, allows, page_of, perm_of, standing, turn_at, turns, turns_after, with_perm};
 
-use pmp_encoding::SPACE_PAGES;
-use pmp_encoding::Perm;
+use pmp_encoding::{Perm, SPACE_PAGES};
 
 /// The permission with each three bits. Read from a table, since the compiler makes a jump of a `match` and guesses it wrong.
 static PERMS: [Perm; 8] = [
@@ -237,7 +236,8 @@ pub(crate) fn begun_between(points: &[Point], from: usize, to: usize) -> usize
     requires order { from ≤ to }
     requires inside { to ≤ length points.now }
     ensures { count_by allows (turns (take from points.now)) + (result
-        + count_by allows (turns_after (standing NoAccess (take to points.now)) (drop to points.now)))
+        + count_by allows (turns_after (standing NoAccess (take to points.now))
+        (drop to points.now)))
         ≡ count_by allows (turns points.now) }
 {
     begun_in(&points[from..to], standing_behind(points, from))

@@ -6,17 +6,21 @@ use Rattle.entry_planner.specs.declared.costs.SplitCost.{SplitCost}
 use Rattle.entry_planner.specs.Plans.{cost_in}
 use Rattle.certificate_format.specs.Spelling.{costs_bytes, node_bytes}
 
--- before the node of its smallest block: each split block's tag and costs, and the leaf of a lower half that does not hold the smallest block
+-- before the node of its smallest block: each split block's tag and costs, and the leaf of a lower
+-- half that does not hold the smallest block
 abbrev pub head_bytes : List SplitCost → ℕ → ℕ → ℕ → Perm → List ℕ
 head_bytes costs i zero place before = []
 head_bytes costs i (suc n) place before =
     (1 ∷ costs_bytes (cost_in costs i))
-    ++ cond (ltb place (2 ^ n)) (head_bytes costs (i + 1) n place before) (node_bytes (Leaf before) ++ head_bytes costs (i + 1) n (place - 2 ^ n) before)
+    ++ cond (ltb place (2 ^ n)) (head_bytes costs (i + 1) n place before) (node_bytes (Leaf before)
+    ++ head_bytes costs (i + 1) n (place - 2 ^ n) before)
 
 -- after it: the leaf of each upper half that does not hold it
 abbrev pub tail_bytes : ℕ → ℕ → Perm → List ℕ
 tail_bytes zero place behind = []
-tail_bytes (suc n) place behind = cond (ltb place (2 ^ n)) (node_bytes (Leaf behind) ++ tail_bytes n place behind) (tail_bytes n (place - 2 ^ n) behind)
+tail_bytes (suc n) place behind =
+    cond (ltb place (2 ^ n)) (node_bytes (Leaf behind)
+    ++ tail_bytes n place behind) (tail_bytes n (place - 2 ^ n) behind)
 
 -- so many leaves of one permission
 abbrev pub leaves_bytes : ℕ → Perm → List ℕ

@@ -3,16 +3,19 @@ use Rattle.std.specs.Prelude.{◌≡◌, ℕ, ◌<◌, List, ◌++◌, length, O
 use Rattle.std.specs.Io.KnownBytes.{Appends}
 use Rattle.byte_streams.specs.Streams.{WriteFails}
 
--- what a sink has taken, where that is known, how often it failed, and how often it took none of some bytes
+-- what a sink has taken, where that is known, how often it failed, and how often it took none of
+-- some bytes
 pub record Taken : Type 0 where
   pub contents : Option (List ℕ)
   pub failures : ℕ
   pub stalls : ℕ
 
 abbrev pub taken : {W : Type 0} → (W → Option (List ℕ)) → (W → ℕ) → (W → ℕ) → W → Taken
-taken contents failures stalls sink = record { contents = contents sink; failures = failures sink; stalls = stalls sink }
+taken contents failures stalls sink =
+    record { contents = contents sink; failures = failures sink; stalls = stalls sink }
 
--- bytes were put after those that were held: the sink took some from the front on, without a failure, and the rest is held
+-- bytes were put after those that were held: the sink took some from the front on, without a
+-- failure, and the rest is held
 pub record IsPut (held holds : List ℕ) (old new : Taken) (bytes : List ℕ) : Type 0 where
   pub went : List ℕ
   pub appended : Appends old.contents new.contents went
@@ -20,7 +23,8 @@ pub record IsPut (held holds : List ℕ) (old new : Taken) (bytes : List ℕ) : 
   pub well : new.failures ≡ old.failures
   pub unstalled : new.stalls ≡ old.stalls
 
--- the sink failed, or took none of some bytes, before it had taken all that were held and all after them
+-- the sink failed, or took none of some bytes, before it had taken all that were held and all after
+-- them
 pub record IsCut (held : List ℕ) (old new : Taken) (bytes : List ℕ) : Type 0 where
   pub went : List ℕ
   pub missing : List ℕ

@@ -1,2 +1,5 @@
 -- The spelling of a certificate, where it is written.
-pub use Rattle.certificate_format.specs.Spelling.{u32_bytes, u64_bytes, header_bytes, pair_bytes, costs_bytes, node_bytes, SpellsEntry, SpellsEntries, FitsNode, Spells, AreNoSubPages, HasNoOverflow, IsCertificate}
+pub use Rattle.certificate_format.specs.Spelling.{u32_bytes, u64_bytes, header_bytes, pair_bytes}
+pub use Rattle.certificate_format.specs.Spelling.{costs_bytes, node_bytes, SpellsEntry}
+pub use Rattle.certificate_format.specs.Spelling.{SpellsEntries, FitsNode, Spells, AreNoSubPages}
+pub use Rattle.certificate_format.specs.Spelling.{HasNoOverflow, IsCertificate}

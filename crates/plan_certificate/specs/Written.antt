@@ -23,8 +23,10 @@ entry_bytes e = pair_bytes (cfg_of e, address_of e)
 -- the header, the entries in their order, and the root
 abbrev pub certificate_bytes : Version → List Entry → BoundTree → List ℕ
 certificate_bytes version entries tree =
-    header_bytes (record { version = version; count = length entries }) ++ (flat_map entry_bytes entries ++ node_bytes tree)
+    header_bytes (record { version = version; count = length entries })
+    ++ (flat_map entry_bytes entries ++ node_bytes tree)
 
 -- the certificate of a plan of a tree, for a hart of that limit
 abbrev pub certificate_for : Limit → Planned → PermTree → List ℕ
-certificate_for limit plan tree = certificate_bytes (version_for limit) plan.entries (costed plan.costs 0 tree)
+certificate_for limit plan tree =
+    certificate_bytes (version_for limit) plan.entries (costed plan.costs 0 tree)

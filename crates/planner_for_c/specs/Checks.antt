@@ -19,11 +19,17 @@ abbrev pub check_code : Result ℕ CheckRefusal → ℤ
 check_code (Ok n) = pos n
 check_code (Err refusal) = certificate_code refusal
 
--- the bytes hold so many entries that mean the settings' map and are fewest; or are refused for what stands in them; or the settings make no map; or memory was refused
-pub data IsChecked (settings : List Setting) (bytes : List ℕ) (old_place new_place : ℕ) : ℤ → Type 0 where
-  accepted : (runs : List Run) (n : ℕ) → LeadTo [] settings runs → HoldsFewest (view_of_runs runs) bytes n → new_place ≡ old_place → IsChecked settings bytes old_place new_place (pos n)
+-- the bytes hold so many entries that mean the settings' map and are fewest; or are refused for
+-- what stands in them; or the settings make no map; or memory was refused
+pub data IsChecked (settings : List Setting) (bytes : List ℕ) (old_place new_place : ℕ) : ℤ
+    → Type 0 where
+  accepted : (runs : List Run) (n : ℕ) → LeadTo [] settings runs
+      → HoldsFewest (view_of_runs runs) bytes n → new_place ≡ old_place
+      → IsChecked settings bytes old_place new_place (pos n)
   rejected :
-      (runs : List Run) (refusal : CheckRefusal) → LeadTo [] settings runs → RefusalStands (view_of_runs runs) bytes refusal → new_place ≡ old_place
+      (runs : List Run) (refusal : CheckRefusal) → LeadTo [] settings runs
+      → RefusalStands (view_of_runs runs) bytes refusal → new_place ≡ old_place
       → IsChecked settings bytes old_place new_place (certificate_code refusal)
-  no_map : (fault : SettingFault) → FaultIn [] settings new_place fault → IsChecked settings bytes old_place new_place (fault_code fault)
+  no_map : (fault : SettingFault) → FaultIn [] settings new_place fault
+      → IsChecked settings bytes old_place new_place (fault_code fault)
   no_room : new_place ≡ old_place → IsChecked settings bytes old_place new_place no_memory

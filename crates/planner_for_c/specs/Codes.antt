@@ -1,11 +1,16 @@
 -- The numbers that C gets: of refusals, and of the outcome of an access.
 use Rattle.std.specs.Prelude.{ℕ, ℤ, negsuc, pos, Result, Ok, Err}
 use Rattle.pmp_encoding.specs.declared.fault.EncodingFault.{EncodingFault}
-use Rattle.pmp_encoding.specs.declared.fault.EncodingFault.TheVariants.{ReservedPerm, Tor, Locked, ReservedBits, AddressBits, NoSuchCsr}
+use Rattle.pmp_encoding.specs.declared.fault.EncodingFault.TheVariants.{ReservedPerm, Tor, Locked}
+use Rattle.pmp_encoding.specs.declared.fault.EncodingFault.TheVariants.{ReservedBits, AddressBits}
+use Rattle.pmp_encoding.specs.declared.fault.EncodingFault.TheVariants.{NoSuchCsr}
 use Rattle.pmp_match.specs.declared.cause.Cause.{Cause}
 use Rattle.pmp_match.specs.Causes.{cause_number}
 use Rattle.planner_for_c.specs.declared.settings.SettingFault.{SettingFault}
-use Rattle.planner_for_c.specs.declared.settings.SettingFault.TheVariants.{UnalignedBase, UnalignedSize, UnknownPerm, PastEnd, TooManyRanges}
+use Rattle.planner_for_c.specs.declared.settings.SettingFault.TheVariants.{UnalignedBase}
+use Rattle.planner_for_c.specs.declared.settings.SettingFault.TheVariants.{UnalignedSize}
+use Rattle.planner_for_c.specs.declared.settings.SettingFault.TheVariants.{UnknownPerm, PastEnd}
+use Rattle.planner_for_c.specs.declared.settings.SettingFault.TheVariants.{TooManyRanges}
 use Rattle.planner_for_c.specs.declared.settings.Refusal.{Refusal}
 use Rattle.planner_for_c.specs.declared.settings.Refusal.TheVariants.{Setting, Memory}
 

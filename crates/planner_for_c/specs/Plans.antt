@@ -17,19 +17,28 @@ pub record IsPlanOf (settings : List Setting) (entries : List Entry) : Type 0 wh
   pub made : LeadTo [] settings runs
   pub fewest : IsFewest (view_of_runs runs) entries
 
--- the number of fewest entries; or the code of the fault of the first setting that is refused, with its place; or that memory was refused
+-- the number of fewest entries; or the code of the fault of the first setting that is refused, with
+-- its place; or that memory was refused
 pub data IsNumberOf (settings : List Setting) (old_place new_place : ℕ) : ℤ → Type 0 where
-  number : (entries : List Entry) → IsPlanOf settings entries → new_place ≡ old_place → IsNumberOf settings old_place new_place (pos (length entries))
-  no_number : (fault : SettingFault) → FaultIn [] settings new_place fault → IsNumberOf settings old_place new_place (fault_code fault)
+  number : (entries : List Entry) → IsPlanOf settings entries → new_place ≡ old_place
+      → IsNumberOf settings old_place new_place (pos (length entries))
+  no_number : (fault : SettingFault) → FaultIn [] settings new_place fault
+      → IsNumberOf settings old_place new_place (fault_code fault)
   number_without_memory : new_place ≡ old_place → IsNumberOf settings old_place new_place no_memory
 
--- as the number, with registers that hold the fewest entries where there is room for them; in each other case the registers stay as they were
-pub data IsPlanned (settings : List Setting) (room : ℕ) (old new : Registers) (old_place new_place : ℕ) : ℤ → Type 0 where
+-- as the number, with registers that hold the fewest entries where there is room for them; in each
+-- other case the registers stay as they were
+pub data IsPlanned (settings : List Setting) (room : ℕ) (old new : Registers)
+    (old_place new_place : ℕ) : ℤ → Type 0 where
   fits :
-      (entries : List Entry) → IsPlanOf settings entries → length entries ≤ min room 64 → HoldsList new entries → new_place ≡ old_place
+      (entries : List Entry) → IsPlanOf settings entries → length entries ≤ min room 64
+      → HoldsList new entries → new_place ≡ old_place
       → IsPlanned settings room old new old_place new_place (pos (length entries))
   too_many :
-      (entries : List Entry) → IsPlanOf settings entries → min room 64 < length entries → new ≡ old → new_place ≡ old_place
+      (entries : List Entry) → IsPlanOf settings entries → min room 64 < length entries → new ≡ old
+      → new_place ≡ old_place
       → IsPlanned settings room old new old_place new_place (pos (length entries))
-  refused : (fault : SettingFault) → FaultIn [] settings new_place fault → new ≡ old → IsPlanned settings room old new old_place new_place (fault_code fault)
-  memory : new ≡ old → new_place ≡ old_place → IsPlanned settings room old new old_place new_place no_memory
+  refused : (fault : SettingFault) → FaultIn [] settings new_place fault → new ≡ old
+      → IsPlanned settings room old new old_place new_place (fault_code fault)
+  memory : new ≡ old → new_place ≡ old_place
+      → IsPlanned settings room old new old_place new_place no_memory

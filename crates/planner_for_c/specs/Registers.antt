@@ -12,15 +12,21 @@ use Rattle.planner_for_c.specs.declared.registers.Registers.{Registers}
 abbrev pub pairs_to : Registers → ℕ → List (ℕ × ℕ)
 pairs_to registers count = pairs_from registers.cfg registers.addr 0 count
 
--- the registers hold the entries from entry 0 on, in their canonical pairs, and zero past them: each hart that has room for them has that list
+-- the registers hold the entries from entry 0 on, in their canonical pairs, and zero past them:
+-- each hart that has room for them has that list
 pub record HoldsList (registers : Registers) (entries : List Entry) : Type 0 where
-  pub list : (count : ℕ) → length entries ≤ count → count ≤ 64 → MeansList (pairs_to registers count) entries
-  pub canonical : (i : ℕ) (e : Entry) → slice_get entries i ≡ Some e → (cfg_byte registers.cfg i ≡ cfg_of e) × (slice_index registers.addr i ≡ address_of e)
-  pub off : (i : ℕ) → length entries ≤ i → i < 64 → (cfg_byte registers.cfg i ≡ 0) × (slice_index registers.addr i ≡ 0)
+  pub list : (count : ℕ) → length entries ≤ count → count ≤ 64
+      → MeansList (pairs_to registers count) entries
+  pub canonical : (i : ℕ) (e : Entry) → slice_get entries i ≡ Some e
+      → (cfg_byte registers.cfg i ≡ cfg_of e) × (slice_index registers.addr i ≡ address_of e)
+  pub off : (i : ℕ) → length entries ≤ i → i < 64 → (cfg_byte registers.cfg i ≡ 0)
+      × (slice_index registers.addr i ≡ 0)
 
 -- of the first `count` pairs one has a fault: this is the least fault of the first of them
 pub record HasFault (registers : Registers) (count : ℕ) (fault : EncodingFault) : Type 0 where
   pub place : ℕ
   pub inside : place < count
-  pub fault_is : IsLeastFault (cfg_byte registers.cfg place) (slice_index registers.addr place) fault
-  pub below : (i : ℕ) → i < place → IsFaultless (cfg_byte registers.cfg i) (slice_index registers.addr i)
+  pub fault_is : IsLeastFault (cfg_byte registers.cfg place) (slice_index registers.addr place)
+      fault
+  pub below : (i : ℕ) → i < place → IsFaultless (cfg_byte registers.cfg i)
+      (slice_index registers.addr i)

@@ -1,4 +1,5 @@
--- What settings say: each gives pages a permission, and one after another they make a map, or one of them is at fault.
+-- What settings say: each gives pages a permission, and one after another they make a map, or one
+-- of them is at fault.
 use Rattle.std.specs.Prelude.{◌≡◌, ◌≢◌, ℕ, suc, ◌+◌, ◌/◌, ◌%◌, ◌^◌, ◌<◌, ◌≤◌, List, [], ◌∷◌, length}
 use Rattle.pmp_encoding.specs.declared.perm.Perm.{Perm}
 use Rattle.pmp_encoding.specs.Perms.{bits_of}
@@ -6,7 +7,10 @@ use Rattle.permission_map.specs.declared.runs.Run.{Run}
 use Rattle.permission_map.specs.Overwrite.{AreOverwritten}
 use Rattle.planner_for_c.specs.declared.settings.Setting.{Setting}
 use Rattle.planner_for_c.specs.declared.settings.SettingFault.{SettingFault}
-use Rattle.planner_for_c.specs.declared.settings.SettingFault.TheVariants.{UnalignedBase, UnalignedSize, UnknownPerm, PastEnd, TooManyRanges}
+use Rattle.planner_for_c.specs.declared.settings.SettingFault.TheVariants.{UnalignedBase}
+use Rattle.planner_for_c.specs.declared.settings.SettingFault.TheVariants.{UnalignedSize}
+use Rattle.planner_for_c.specs.declared.settings.SettingFault.TheVariants.{UnknownPerm, PastEnd}
+use Rattle.planner_for_c.specs.declared.settings.SettingFault.TheVariants.{TooManyRanges}
 
 -- the setting has whole pages
 abbrev pub IsOnPages : Setting → Type 0
@@ -22,7 +26,8 @@ Names setting perm = bits_of perm ≡ setting.perm
 
 -- the runs of a map with the permission on the setting's pages
 abbrev pub AreSet : List Run → Setting → Perm → List Run → Type 0
-AreSet before setting perm after = AreOverwritten before (setting.base / 4096) (setting.size / 4096) perm after
+AreSet before setting perm after =
+    AreOverwritten before (setting.base / 4096) (setting.size / 4096) perm after
 
 -- a setting leads from a map to a map of at most 4096 ranges
 pub record Sets (before : List Run) (setting : Setting) (after : List Run) : Type 0 where
@@ -37,7 +42,8 @@ pub record Sets (before : List Run) (setting : Setting) (after : List Run) : Typ
 pub data LeadTo : List Run → List Setting → List Run → Type 0 where
   done : {map : List Run} → LeadTo map [] map
   next :
-      {before middle after : List Run} {setting : Setting} {settings : List Setting} → Sets before setting middle → LeadTo middle settings after
+      {before middle after : List Run} {setting : Setting} {settings : List Setting}
+      → Sets before setting middle → LeadTo middle settings after
       → LeadTo before (setting ∷ settings) after
 
 -- the setting would make a map of more than 4096 ranges
@@ -53,12 +59,16 @@ abbrev pub IsRefusedFor : SettingFault → List Run → Setting → Type 0
 IsRefusedFor UnalignedBase before setting = setting.base % 4096 ≢ 0
 IsRefusedFor UnalignedSize before setting = (setting.base % 4096 ≡ 0) × (setting.size % 4096 ≢ 0)
 IsRefusedFor UnknownPerm before setting = IsOnPages setting × ((perm : Perm) → ¬ Names setting perm)
-IsRefusedFor PastEnd before setting = IsOnPages setting × ((perm : Perm) × Names setting perm) × (2 ^ 56 < setting.base + setting.size)
-IsRefusedFor TooManyRanges before setting = IsOnPages setting × IsInside setting × SetsTooMany before setting
+IsRefusedFor PastEnd before setting = IsOnPages setting × ((perm : Perm) × Names setting perm)
+    × (2 ^ 56 < setting.base + setting.size)
+IsRefusedFor TooManyRanges before setting = IsOnPages setting × IsInside setting
+    × SetsTooMany before setting
 
 -- the first of the settings that is refused has this number, from 0, and is refused for this
 pub data FaultIn : List Run → List Setting → ℕ → SettingFault → Type 0 where
-  here : {before : List Run} {setting : Setting} {settings : List Setting} {fault : SettingFault} → IsRefusedFor fault before setting → FaultIn before (setting ∷ settings) 0 fault
+  here : {before : List Run} {setting : Setting} {settings : List Setting} {fault : SettingFault}
+      → IsRefusedFor fault before setting → FaultIn before (setting ∷ settings) 0 fault
   later :
-      {before middle : List Run} {setting : Setting} {settings : List Setting} {i : ℕ} {fault : SettingFault} → Sets before setting middle
+      {before middle : List Run} {setting : Setting} {settings : List Setting} {i : ℕ}
+      {fault : SettingFault} → Sets before setting middle
       → FaultIn middle settings i fault → FaultIn before (setting ∷ settings) (suc i) fault

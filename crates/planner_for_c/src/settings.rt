@@ -8,9 +8,8 @@ ghost use Rattle.planner_for_c.specs.declared.settings.SettingFault.{SettingFaul
 ghost use Rattle.planner_for_c.specs.Settings.{FaultIn, IsRefusedFor, LeadTo, Sets};
 ghost use Rattle.planner_for_c.specs.Codes.{fault_code, place_of, refusal_code};
 
-use pmp_encoding::PAGE_SIZE;
 use permission_map::{MapFault, PermissionMap};
-use pmp_encoding::Perm;
+use pmp_encoding::{PAGE_SIZE, Perm};
 use std::alloc::Global;
 
 /// A permission of supervisor and user on whole pages. A later setting overrides an earlier one.

@@ -1,7 +1,10 @@
 -- What a platform file says: the numbers of its document, and the platform that they are.
-use Rattle.std.specs.Prelude.{◌≡◌, ℕ, ◌<◌, ◌≤◌, ℤ, pos, negsuc, Bool, true, false, ◌&&◌, ◌||◌, bytes_eq, if◌then◌else◌, List, [], ◌∷◌, Option, Some, None, option_map, option_and_then, codes}
+use Rattle.std.specs.Prelude.{◌≡◌, ℕ, ◌<◌, ◌≤◌, ℤ, pos, negsuc, Bool, true, false, ◌&&◌, ◌||◌}
+use Rattle.std.specs.Prelude.{bytes_eq, if◌then◌else◌, List, [], ◌∷◌, Option, Some, None}
+use Rattle.std.specs.Prelude.{option_map, option_and_then, codes}
 use Rattle.std.specs.Str.{IsUtf8}
-use Rattle.toml.specs.Data.{Data, Items, no_items, item, Members, no_members, member, get_member, as_str, as_integer, as_array, as_table}
+use Rattle.toml.specs.Data.{Data, Items, no_items, item, Members, no_members, member, get_member}
+use Rattle.toml.specs.Data.{as_str, as_integer, as_array, as_table}
 use Rattle.toml.specs.Parse.{parse_document}
 use Rattle.pmp_encoding.specs.declared.perm.Perm.{Perm}
 use Rattle.pmp_encoding.specs.Limits.{limit_number}
@@ -32,7 +35,8 @@ number_at key table = option_and_then number (get_member key table)
 
 -- a base and a size, in bytes
 abbrev pub range_in : Members → Option (ℕ × ℕ)
-range_in table = option_and_then (λ base. option_map (λ size. (base, size)) (number_at (codes "size") table)) (number_at (codes "base") table)
+range_in table = option_and_then (λ base. option_map (λ size. (base, size))
+    (number_at (codes "size") table)) (number_at (codes "base") table)
 
 -- a table of a base and a size alone
 abbrev pub range_of : Members → Option (ℕ × ℕ)
@@ -47,22 +51,26 @@ perm_at table = option_and_then perm_of (get_member (codes "perm") table)
 
 -- a table of a base, a size and a permission alone
 abbrev pub device_in : Members → Option (ℕ × ℕ × Perm)
-device_in table = option_and_then (λ range. option_map (λ perm. (range.0, range.1, perm)) (perm_at table)) (range_in table)
+device_in table = option_and_then
+    (λ range. option_map (λ perm. (range.0, range.1, perm)) (perm_at table)) (range_in table)
 
 abbrev pub device_of : Members → Option (ℕ × ℕ × Perm)
-device_of table = if has_only (codes "base" ∷ codes "size" ∷ codes "perm" ∷ []) table then device_in table else None
+device_of table = if has_only (codes "base" ∷ codes "size" ∷ codes "perm" ∷ []) table
+    then device_in table else None
 
 -- each item of an array is a table, of which `f` makes something
 abbrev pub each : {X : Type 0} → (Members → Option X) → Items → Option (List X)
 each f no_items = Some []
-each f (item value rest) = option_and_then (λ x. option_map (λ xs. x ∷ xs) (each f rest)) (option_and_then f (as_table value))
+each f (item value rest) = option_and_then (λ x. option_map (λ xs. x ∷ xs) (each f rest))
+    (option_and_then f (as_table value))
 
 -- the array of tables at a key
 abbrev pub all_of : {X : Type 0} → (Members → Option X) → Data → Option (List X)
 all_of f value = option_and_then (each f) (as_array value)
 
 abbrev pub monitor_at : Members → Option (ℕ × ℕ)
-monitor_at document = option_and_then range_of (option_and_then as_table (get_member (codes "monitor") document))
+monitor_at document = option_and_then range_of
+    (option_and_then as_table (get_member (codes "monitor") document))
 
 abbrev pub ram_at : Members → Option (List (ℕ × ℕ))
 ram_at document = option_and_then (all_of range_of) (get_member (codes "ram") document)
@@ -88,14 +96,22 @@ abbrev pub known : List (List ℕ)
 known = codes "monitor" ∷ codes "ram" ∷ codes "device" ∷ codes "harts" ∷ codes "entries" ∷ []
 
 -- the platform of these ranges and numbers: no rule on platforms is broken
-pub record Builds (monitor : ℕ × ℕ) (ram : List (ℕ × ℕ)) (devices : List (ℕ × ℕ × Perm)) (harts entries : ℕ) (platform : PlatformLayout) : Type 0 where
+pub record Builds (monitor : ℕ × ℕ) (ram : List (ℕ × ℕ)) (devices : List (ℕ × ℕ × Perm))
+    (harts entries : ℕ) (platform : PlatformLayout) : Type 0 where
   pub rules : AllPass (platform_rules monitor ram devices)
   pub some_hart : 0 < harts
   pub four_harts : harts ≤ 4
   pub entries_are : limit_number platform.limit ≡ entries
-  pub is : platform ≡ record { monitor = monitor; ram = ram; devices = devices; harts = harts; limit = platform.limit }
+  pub is : platform ≡ record {
+    monitor = monitor;
+    ram = ram;
+    devices = devices;
+    harts = harts;
+    limit = platform.limit;
+  }
 
--- a document of those keys alone tells a platform: one hart where no `harts` is told, and sixteen entries
+-- a document of those keys alone tells a platform: one hart where no `harts` is told, and sixteen
+-- entries
 pub record Tells (document : Members) (platform : PlatformLayout) : Type 0 where
   pub keys : has_only known document ≡ true
   pub monitor : ℕ × ℕ

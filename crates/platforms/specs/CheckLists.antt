@@ -1,7 +1,8 @@
 -- Lists of checks, in the order in which they are looked at.
 use Rattle.std.specs.Prelude.{◌≡◌, List, [], ◌∷◌, ⊤, ◌⊎◌}
 
--- each check of a list passes. A check is what it asks, and before it the refusal or the fault where that does not hold
+-- each check of a list passes. A check is what it asks, and before it the refusal or the fault
+-- where that does not hold
 abbrev pub AllPass : {F : Type 0} → List (F × Type 0) → Type 0
 AllPass [] = ⊤
 AllPass (check ∷ checks) = check.1 × AllPass checks
@@ -9,4 +10,5 @@ AllPass (check ∷ checks) = check.1 × AllPass checks
 -- the first check of the list that does not pass has this refusal or fault
 abbrev pub FailsFirst : {F : Type 0} → List (F × Type 0) → F → Type 0
 FailsFirst [] refusal = ⊥
-FailsFirst (check ∷ checks) refusal = ((refusal ≡ check.0) × (check.1 → ⊥)) ⊎ (check.1 × FailsFirst checks refusal)
+FailsFirst (check ∷ checks) refusal = ((refusal ≡ check.0) × (check.1 → ⊥))
+    ⊎ (check.1 × FailsFirst checks refusal)

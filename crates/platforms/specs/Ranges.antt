@@ -30,4 +30,5 @@ EachApart (range ∷ ranges) = All (AreRangesApart range) ranges × EachApart ra
 
 -- each of the `count` pages from `first` on is in one of the ranges
 abbrev pub AreAmong : List (ℕ × ℕ) → ℕ → ℕ → Type 0
-AreAmong ranges first count = (page : ℕ) → in_range first count page ≡ true → list_any (λ range. has_page range page) ranges ≡ true
+AreAmong ranges first count = (page : ℕ) → in_range first count page ≡ true
+    → list_any (λ range. has_page range page) ranges ≡ true

@@ -9,9 +9,8 @@ ghost use Rattle.platforms.specs.Platform.{device_perm, platform_perm};
 ghost use Rattle.platforms.specs.Ranges.{IsRange, has_page, device_range};
 
 use crate::platform::Platform;
-use pmp_encoding::PageRange;
 use permission_map::{MapFault, Memory, PermissionMap};
-use pmp_encoding::Perm;
+use pmp_encoding::{PageRange, Perm};
 use std::alloc::{AllocError, Global};
 
 /// Sets the permission of some pages of a map that is far from having too many ranges, so that only a lack of memory can

@@ -10,8 +10,7 @@ ghost use Rattle.platforms.specs.Ranges.{AreAmong, IsRange, device_range};
 
 use crate::ranges::{all_ranges, are_among, devices_on_ranges, each_apart, is_range};
 use arrayvec::ArrayVec;
-use pmp_encoding::{PAGE_SIZE, PageRange};
-use pmp_encoding::{Limit, Perm};
+use pmp_encoding::{Limit, PAGE_SIZE, PageRange, Perm};
 use std::marker::Model;
 
 /// The most ranges of memory, and the most devices.

@@ -4,8 +4,7 @@ ghost use Rattle.std.specs.Prelude.{◌≡◌, ◌+◌, ◌^◌, ◌<◌, ◌≤
 ghost use Rattle.std.specs.List.{All, list_any};
 ghost use Rattle.platforms.specs.Ranges.{IsRange, AreRangesApart, EachApart, AreAmong, has_page, device_range};
 
-use pmp_encoding::{PAGE_SIZE, PageRange, SPACE_SIZE};
-use pmp_encoding::Perm;
+use pmp_encoding::{PAGE_SIZE, PageRange, Perm, SPACE_SIZE};
 
 /// Whether the range is of whole pages, at least one, below 2^56. A range is its base and its size, in bytes.
 pub(crate) fn is_range(range: (u64, u64)) -> bool

@@ -8,7 +8,8 @@ use Rattle.pmp_encoding.specs.Limits.{limit_number}
 use Rattle.pmp_encoding.specs.Registers.{byte_of}
 use Rattle.pmp_encoding.specs.Banks.{word_at, address_at}
 
--- pmpcfg(k) is CSR 0x3A0 + k. There is one for an even k, whose eight entries from 4 * k on are below the limit
+-- pmpcfg(k) is CSR 0x3A0 + k. There is one for an even k, whose eight entries from 4 * k on are
+-- below the limit
 abbrev pub IsCfgCsr : Limit → ℕ → ℕ → Type 0
 IsCfgCsr limit number k = (number ≡ 0x3A0 + k) × (k % 2 ≡ 0) × (4 * k < limit_number limit)
 

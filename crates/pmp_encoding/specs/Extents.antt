@@ -7,9 +7,16 @@ use Rattle.pmp_encoding.specs.Registers.{pairs_from}
 
 -- the addresses of an entry's region, and its permission
 abbrev pub extent_of : Entry → Extent
-extent_of e = record { base = e.region.base; end = e.region.base + 2 ^ e.region.log2; perm = e.perm }
+extent_of e = record {
+  base = e.region.base;
+  end = e.region.base + 2 ^ e.region.log2;
+  perm = e.perm;
+}
 
--- the first `used` of the extents are those of the entries that the pairs below `count` mean, in order
-pub record AreExtents (words addresses : List ℕ) (count : ℕ) (extents : List Extent) (used : ℕ) : Type 0 where
+-- the first `used` of the extents are those of the entries that the pairs below `count` mean, in
+-- order
+pub record AreExtents (words addresses : List ℕ) (count : ℕ) (extents : List Extent) (used : ℕ) :
+    Type 0 where
   pub room : used ≤ length extents
-  pub in_order : (entries : List Entry) → MeansList (pairs_from words addresses 0 count) entries → take used extents ≡ map extent_of entries
+  pub in_order : (entries : List Entry) → MeansList (pairs_from words addresses 0 count) entries
+      → take used extents ≡ map extent_of entries

@@ -1,7 +1,9 @@
 -- Which pairs mean nothing, and the fault that is named where several stand in one pair.
 use Rattle.std.specs.Prelude.{◌≡◌, ◌≢◌, ℕ, ◌/◌, ◌%◌, ◌^◌, ◌<◌, ◌≤◌}
 use Rattle.pmp_encoding.specs.declared.fault.EncodingFault.{EncodingFault}
-use Rattle.pmp_encoding.specs.declared.fault.EncodingFault.TheVariants.{ReservedPerm, Tor, Locked, ReservedBits, AddressBits, NoSuchCsr}
+use Rattle.pmp_encoding.specs.declared.fault.EncodingFault.TheVariants.{ReservedPerm, Tor, Locked}
+use Rattle.pmp_encoding.specs.declared.fault.EncodingFault.TheVariants.{ReservedBits, AddressBits}
+use Rattle.pmp_encoding.specs.declared.fault.EncodingFault.TheVariants.{NoSuchCsr}
 
 abbrev pub fault_number : EncodingFault → ℕ
 fault_number ReservedPerm = 1
@@ -11,8 +13,8 @@ fault_number ReservedBits = 4
 fault_number AddressBits = 5
 fault_number NoSuchCsr = 6
 
--- the pair has the fault: W (bit 1) without R (bit 0); mode 1, TOR, in bits 4:3; L, bit 7; a bit of 6:5;
--- an address register with a bit above 53. That a CSR is not there is no fault of a pair
+-- the pair has the fault: W (bit 1) without R (bit 0); mode 1, TOR, in bits 4:3; L, bit 7; a bit of
+-- 6:5; an address register with a bit above 53. That a CSR is not there is no fault of a pair
 abbrev pub HasFault : EncodingFault → ℕ → ℕ → Type 0
 HasFault ReservedPerm cfg address = (cfg / 2 % 2 ≡ 1) × (cfg % 2 ≡ 0)
 HasFault Tor cfg address = cfg / 8 % 4 ≡ 1
@@ -29,4 +31,5 @@ pub record IsFaultless (cfg address : ℕ) : Type 0 where
 -- the pair has the fault, and none of a lesser number
 pub record IsLeastFault (cfg address : ℕ) (fault : EncodingFault) : Type 0 where
   pub has : HasFault fault cfg address
-  pub least : (other : EncodingFault) → HasFault other cfg address → fault_number fault ≤ fault_number other
+  pub least : (other : EncodingFault) → HasFault other cfg address
+      → fault_number fault ≤ fault_number other

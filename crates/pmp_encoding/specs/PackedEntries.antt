@@ -1,4 +1,5 @@
--- An entry as one number: three bits of its permission, six of its size, and a quarter of its lowest address.
+-- An entry as one number: three bits of its permission, six of its size, and a quarter of its
+-- lowest address.
 use Rattle.std.specs.Prelude.{◌≡◌, ℕ, ◌*◌, ◌/◌, ◌%◌}
 use Rattle.pmp_encoding.specs.declared.region.Entry.{Entry}
 use Rattle.pmp_encoding.specs.Block.{IsBlock}
@@ -20,4 +21,7 @@ HasBits n = bits_of (perm_for (n % 8)) ≡ n % 8
 
 -- the entry
 abbrev pub entry_in : (n : ℕ) → HasBlock n → Entry
-entry_in n block = record { region = record { base = base_in n; log2 = log2_in n; block = block }; perm = perm_for (n % 8) }
+entry_in n block = record {
+  region = record { base = base_in n; log2 = log2_in n; block = block };
+  perm = perm_for (n % 8);
+}

@@ -5,4 +5,5 @@ use Rattle.pmp_encoding.specs.Views.{in_range}
 
 -- two ranges have no page in common
 abbrev pub AreApart : PageRange → PageRange → Type 0
-AreApart range other = (page : ℕ) → in_range range.first range.count page ≡ true → in_range other.first other.count page ≡ true → ⊥
+AreApart range other = (page : ℕ) → in_range range.first range.count page ≡ true
+    → in_range other.first other.count page ≡ true → ⊥

@@ -1,5 +1,6 @@
 -- The registers of a bank, entry by entry.
-use Rattle.std.specs.Prelude.{◌≡◌, ℕ, zero, suc, ◌*◌, ◌/◌, ◌%◌, ◌^◌, ◌<◌, ◌≤◌, List, [], ◌∷◌, slice_index}
+use Rattle.std.specs.Prelude.{◌≡◌, ℕ, zero, suc, ◌*◌, ◌/◌, ◌%◌, ◌^◌, ◌<◌, ◌≤◌, List, [], ◌∷◌}
+use Rattle.std.specs.Prelude.{slice_index}
 use Rattle.pmp_encoding.specs.declared.limit.Limit.{Limit}
 use Rattle.pmp_encoding.specs.Limits.{limit_number}
 use Rattle.pmp_encoding.specs.Faults.{IsFaultless}
@@ -15,9 +16,11 @@ cfg_byte words i = byte_of (slice_index words (i / 8)) (i % 8)
 -- the pairs of the entries from `first` on, `count` of them
 abbrev pub pairs_from : List ℕ → List ℕ → ℕ → ℕ → List (ℕ × ℕ)
 pairs_from words addresses first zero = []
-pairs_from words addresses first (suc count) = (cfg_byte words first, slice_index addresses first) ∷ pairs_from words addresses (suc first) count
+pairs_from words addresses first (suc count) = (cfg_byte words first, slice_index addresses first)
+    ∷ pairs_from words addresses (suc first) count
 
 -- what a bank may hold: no pair has a fault, and from the limit on all is zero
 pub record AreRegisters (limit : Limit) (words addresses : List ℕ) : Type 0 where
   pub faultless : (i : ℕ) → i < 64 → IsFaultless (cfg_byte words i) (slice_index addresses i)
-  pub unused : (i : ℕ) → limit_number limit ≤ i → i < 64 → (cfg_byte words i ≡ 0) × (slice_index addresses i ≡ 0)
+  pub unused : (i : ℕ) → limit_number limit ≤ i → i < 64 → (cfg_byte words i ≡ 0)
+      × (slice_index addresses i ≡ 0)

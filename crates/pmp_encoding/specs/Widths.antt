@@ -16,13 +16,14 @@ xlen_bits Rv64 = 64
 abbrev pub fits : Xlen → ℕ → Bool
 fits xlen value = nat_lt value (2 ^ xlen_bits xlen)
 
--- how many bits of an address register a hart keeps: all 32 on RV32, and bits 53:0 on RV64, where bits 63:54 are zero,
--- whatever was written
+-- how many bits of an address register a hart keeps: all 32 on RV32, and bits 53:0 on RV64, where
+-- bits 63:54 are zero, whatever was written
 abbrev pub address_bits : Xlen → ℕ
 address_bits Rv32 = 32
 address_bits Rv64 = 54
 
--- where the space of physical addresses ends: each number of an address register stands for four bytes
+-- where the space of physical addresses ends: each number of an address register stands for four
+-- bytes
 abbrev pub space_end : Xlen → ℕ
 space_end xlen = 4 * 2 ^ address_bits xlen
 
@@ -50,7 +51,8 @@ whole_word xlen first = (first + (word_entries xlen - 1)) / word_entries xlen
 abbrev pub is_near : Entry → Bool
 is_near e = nat_le (e.region.base + 2 ^ e.region.log2) (2 ^ 34)
 
--- the address registers of a hart reach the regions of all these entries: those of 64 bits reach all there are
+-- the address registers of a hart reach the regions of all these entries: those of 64 bits reach
+-- all there are
 abbrev pub AreReached : Xlen → List Entry → Type 0
 AreReached Rv32 entries = list_all is_near entries ≡ true
 AreReached Rv64 entries = Unit {0}

@@ -3,7 +3,9 @@ use Rattle.std.specs.Prelude.{ℕ}
 use Rattle.pmp_match.specs.declared.access.Kind.{Kind}
 use Rattle.pmp_match.specs.declared.access.Kind.TheVariants.{Fetch, Load, Store}
 use Rattle.pmp_match.specs.declared.cause.Cause.{Cause}
-use Rattle.pmp_match.specs.declared.cause.Cause.TheVariants.{FetchMisaligned, FetchFault, LoadMisaligned, LoadFault, StoreMisaligned, StoreFault}
+use Rattle.pmp_match.specs.declared.cause.Cause.TheVariants.{FetchMisaligned, FetchFault}
+use Rattle.pmp_match.specs.declared.cause.Cause.TheVariants.{LoadMisaligned, LoadFault}
+use Rattle.pmp_match.specs.declared.cause.Cause.TheVariants.{StoreMisaligned, StoreFault}
 
 -- the exception code
 abbrev pub cause_number : Cause → ℕ

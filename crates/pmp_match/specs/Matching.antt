@@ -11,9 +11,11 @@ touches x a = nat_lt x.base (a.address + a.size) && nat_lt a.address x.end
 
 -- the extent has each byte of the access, and outside machine mode its permission holds the kind
 abbrev pub grants : Extent → Access → Bool
-grants x a = (nat_le x.base a.address && nat_le (a.address + a.size) x.end) && (is_machine a.mode || holds x.perm a.kind)
+grants x a = (nat_le x.base a.address && nat_le (a.address + a.size) x.end)
+    && (is_machine a.mode || holds x.perm a.kind)
 
--- what the first extent that has a byte of the access says, and machine mode alone where there is none
+-- what the first extent that has a byte of the access says, and machine mode alone where there is
+-- none
 abbrev pub lets_through : List Extent → Access → Bool
 lets_through [] a = is_machine a.mode
 lets_through (x ∷ extents) a = if touches x a then grants x a else lets_through extents a

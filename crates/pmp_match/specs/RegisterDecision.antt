@@ -1,5 +1,5 @@
--- What supervisor and user mode may do under the extents of entries, of any multiples of four bytes.
--- (RISC-V Privileged Architecture, Physical Memory Protection, Priority and Matching Logic)
+-- What supervisor and user mode may do under the extents of entries, of any multiples of four
+-- bytes. (RISC-V Privileged Architecture, Physical Memory Protection, Priority and Matching Logic)
 use Rattle.std.specs.Prelude.{◌≡◌, ◌≢◌, ℕ, ◌/◌, ◌%◌, ◌^◌, ◌<◌, ◌≤◌, ◌⊎◌, ◌↔◌, true}
 use Rattle.std.specs.Prelude.{All, List, ◌∷◌, ◌++◌}
 use Rattle.pmp_encoding.specs.declared.extent.Extent.{Extent}
@@ -35,15 +35,16 @@ pub record IsFirstMatch (extents : List Extent) (a : Access) (x : Extent) : Type
   pub missed : NoneMeets before a
   pub met : Meets x a
 
--- supervisor and user mode may make the access: the first extent that has a byte of it has each, and
--- its permission holds the kind
+-- supervisor and user mode may make the access: the first extent that has a byte of it has each,
+-- and its permission holds the kind
 pub record Permits (extents : List Extent) (a : Access) : Type 0 where
   pub extent : Extent
   pub first : IsFirstMatch extents a extent
   pub whole : ContainsAll extent a
   pub may : holds extent.perm a.kind ≡ true
 
--- supervisor and user mode may make each aligned access in the space exactly where the view lets them
+-- supervisor and user mode may make each aligned access in the space exactly where the view lets
+-- them
 abbrev pub ExtentsMean : List Extent → View → Type 0
 ExtentsMean extents view =
     (a : Access) → IsAligned a → a.address < 2 ^ 56 → a.mode ≢ Machine
@@ -62,8 +63,8 @@ pub record RegistersMean (registers : Registers) (view : View) : Type 0 where
   pub are_extents : AreExtents registers extents
   pub means : ExtentsMean extents view
 
--- what an entry can match: one or several words of four bytes of the space, one after another, or no
--- address
+-- what an entry can match: one or several words of four bytes of the space, one after another, or
+-- no address
 pub record IsWords (x : Extent) : Type 0 where
   pub base : x.base % 4 ≡ 0
   pub end : x.end % 4 ≡ 0

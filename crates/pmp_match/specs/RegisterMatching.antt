@@ -1,6 +1,6 @@
--- Which addresses the entries of a hart's registers match. The mode is A, bits 4:3 of the configuration
--- byte: 0 is OFF, 1 TOR, 2 NA4 and 3 NAPOT. (RISC-V Privileged Architecture, Physical Memory Protection,
--- Address Matching)
+-- Which addresses the entries of a hart's registers match. The mode is A, bits 4:3 of the
+-- configuration byte: 0 is OFF, 1 TOR, 2 NA4 and 3 NAPOT. (RISC-V Privileged Architecture, Physical
+-- Memory Protection, Address Matching)
 use Rattle.std.specs.Prelude.{◌≡◌, ℕ, ◌+◌, ◌-◌, ◌*◌, ◌%◌, ◌^◌, ◌==◌, ⊤, min, if◌then◌else◌}
 use Rattle.std.specs.Prelude.{List, [], ◌∷◌, length}
 use Rattle.pmp_encoding.specs.declared.extent.Extent.{Extent}
@@ -19,23 +19,25 @@ pub use Rattle.pmp_match.specs.Tor.{nowhere, tor_extent}
 abbrev pub unlocked : ℕ → ℕ
 unlocked cfg = cfg % 2 ^ 7
 
--- what a hart of that width keeps of an address register: bits 31:0 on RV32, and on RV64 bits 53:0, where bits 63:54 are zero,
--- whatever was written
+-- what a hart of that width keeps of an address register: bits 31:0 on RV32, and on RV64 bits 53:0,
+-- where bits 63:54 are zero, whatever was written
 abbrev pub kept : Xlen → ℕ → ℕ
 kept xlen address = address % 2 ^ address_bits xlen
 
--- the bottom of a range: the address register of the entry before, whatever that entry's own mode is,
--- and 0 for entry 0
+-- the bottom of a range: the address register of the entry before, whatever that entry's own mode
+-- is, and 0 for entry 0
 abbrev pub bottom_of : Registers → ℕ → ℕ
-bottom_of registers place = if place == 0 then 0 else kept registers.xlen (address_at registers (place - 1))
+bottom_of registers place = if place == 0 then 0
+    else kept registers.xlen (address_at registers (place - 1))
 
--- of an extent the addresses that a hart of that width has. A block of RV32 may be named that ends beyond them: an address
--- register of ones alone names 2^35 bytes, and matches all that there are
+-- of an extent the addresses that a hart of that width has. A block of RV32 may be named that ends
+-- beyond them: an address register of ones alone names 2^35 bytes, and matches all that there are
 abbrev pub within : Xlen → Extent → Extent
 within xlen x = record { base = x.base; end = min x.end (space_end xlen); perm = x.perm }
 
--- the addresses that the entry of a place matches, and its permission: none where it is OFF; with TOR
--- those below the top and not below the bottom; with NA4 and NAPOT those of the block of the pair
+-- the addresses that the entry of a place matches, and its permission: none where it is OFF; with
+-- TOR those below the top and not below the bottom; with NA4 and NAPOT those of the block of the
+-- pair
 pub data IsExtentAt (registers : Registers) (place : ℕ) : Extent → Type 0 where
   off :
       IsOff (unlocked (cfg_at registers place)) (kept registers.xlen (address_at registers place))
@@ -43,9 +45,11 @@ pub data IsExtentAt (registers : Registers) (place : ℕ) : Extent → Type 0 wh
   tor :
       (perm : Perm) → unlocked (cfg_at registers place) ≡ 1 * 8 + bits_of perm
       → IsExtentAt registers place
-      (tor_extent (bottom_of registers place) (kept registers.xlen (address_at registers place)) perm)
+      (tor_extent (bottom_of registers place) (kept registers.xlen (address_at registers place))
+      perm)
   block :
-      (e : Entry) → MeansEntry (unlocked (cfg_at registers place)) (kept registers.xlen (address_at registers place)) e
+      (e : Entry) → MeansEntry (unlocked (cfg_at registers place))
+      (kept registers.xlen (address_at registers place)) e
       → IsExtentAt registers place (within registers.xlen (extent_of e))
 
 -- the extents of the entries from a place on, one after another

@@ -17,9 +17,13 @@ IsWithin base end a = (base ≤ a.address) × (a.address + a.size ≤ end)
 
 -- of each access within, the extents say what the permission says
 abbrev pub Decides : List Extent → ℕ → ℕ → Perm → Type 0
-Decides extents base end perm = (a : Access) → IsWithin base end a → lets_through extents a ≡ (is_machine a.mode || holds perm a.kind)
+Decides extents base end perm = (a : Access) → IsWithin base end a
+    → lets_through extents a ≡ (is_machine a.mode || holds perm a.kind)
 
--- the segment is in the space, and of each access within it the bank's list says what its permission says
+-- the segment is in the space, and of each access within it the bank's list says what its
+-- permission says
 pub record IsSegmentOf (bank : Bank) (segment : Segment) : Type 0 where
   pub inside : segment.end ≤ 2 ^ 56
-  pub decides : (entries : List Entry) → HasList bank entries → (a : Access) → IsWithin segment.base segment.end a → allows entries a ≡ (is_machine a.mode || holds segment.perm a.kind)
+  pub decides : (entries : List Entry) → HasList bank entries → (a : Access)
+      → IsWithin segment.base segment.end a
+      → allows entries a ≡ (is_machine a.mode || holds segment.perm a.kind)

@@ -9,8 +9,7 @@ ghost use Rattle.pmp_match.specs.Tor.{nowhere, tor_extent};
 
 use crate::registers::Registers;
 use crate::reserved::{Reserved, ReservedAt};
-use pmp_encoding::{Entry, Extent, Perm, decode};
-use pmp_encoding::Xlen;
+use pmp_encoding::{Entry, Extent, Perm, Xlen, decode};
 
 /// The extent that has no address.
 fn no_extent() -> Extent

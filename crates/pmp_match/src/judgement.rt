@@ -12,8 +12,7 @@ ghost use Rattle.pmp_match.specs.Judgement.{Judges, judgement, access_fault, mis
 
 use crate::access::{Access, Kind, Mode};
 use crate::cause::Cause;
-use pmp_encoding::SPACE_SIZE;
-use pmp_encoding::{Bank, Extent, Perm};
+use pmp_encoding::{Bank, Extent, Perm, SPACE_SIZE};
 
 /// The bit of the right that a kind wants.
 #[inline(always)]

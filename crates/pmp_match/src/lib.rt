@@ -48,11 +48,11 @@ mod segments;
 
 pub use access::{Access, Kind, Mode};
 pub use cause::Cause;
+pub use extents::{extent_of, extents_of};
 pub use judgement::{access_fault, holds, is_aligned, is_machine, judge, misaligned, touches};
 pub use laws::{byte_law, decision_law, judgement_law, least_law, needs_law, page_law};
-pub use segments::Segments;
-pub use extents::{extent_of, extents_of};
-pub use register_laws::{registers_byte_law, extents_law, instance_law};
 pub use pmp_encoding::Extent;
+pub use register_laws::{extents_law, instance_law, registers_byte_law};
 pub use registers::Registers;
 pub use reserved::{Reserved, ReservedAt};
+pub use segments::Segments;

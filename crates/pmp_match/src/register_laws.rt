@@ -41,10 +41,12 @@ pub fn instance_law()
         → ExtentsMean (matched_by entries) view ↔ Means entries view }
     ensures registers_decision { (registers : Registers) (xs : List Extent) (entries : List Entry)
         → AreExtents registers xs → MeansList (pairs_of registers) entries
-        → AreReached registers.xlen entries → (a : Access) → a.mode ≢ Machine → Permits xs a ↔ Allows entries a }
+        → AreReached registers.xlen entries → (a : Access) → a.mode ≢ Machine → Permits xs a
+        ↔ Allows entries a }
     ensures registers_meaning { (registers : Registers) (xs : List Extent) (entries : List Entry)
         → AreExtents registers xs → MeansList (pairs_of registers) entries
-        → AreReached registers.xlen entries → (view : View) → ExtentsMean xs view ↔ Means entries view }
+        → AreReached registers.xlen entries → (view : View) → ExtentsMean xs view
+        ↔ Means entries view }
 {}
 
 /// Extents mean a view exactly where they give each byte the view's permission of its page, and cut

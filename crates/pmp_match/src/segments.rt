@@ -13,8 +13,7 @@ ghost use Rattle.pmp_match.specs.Segments.{IsWithin, Decides, IsSegmentOf};
 use crate::access::Access;
 use crate::cause::Cause;
 use crate::judgement::{holds, is_aligned, is_machine, judge};
-use pmp_encoding::SPACE_SIZE;
-use pmp_encoding::{Bank, Extent, Perm};
+use pmp_encoding::{Bank, Extent, Perm, SPACE_SIZE};
 
 /// How many segments are kept. The edges of sixty-four extents may leave one more, whose accesses the list itself decides.
 const SEGMENTS: usize = 128;

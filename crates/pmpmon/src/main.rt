@@ -1,13 +1,12 @@
 //! The program: the words of its command line, done on real files.
 #![tactic(auto)]
 
-use monitor_cli::{Lent, perform_on_files};
 use command_line::{ended, names_of, request_in, standard_error, texts_in, words_in};
-use program_tasks::Request;
+use monitor_cli::{Lent, perform_on_files};
+use program_tasks::{Request, ShownNames};
 use std::alloc::AllocError;
 use std::io::IsTerminal;
 use std::process::ExitCode;
-use program_tasks::ShownNames;
 
 /// Does what is asked for on the task's files and on the program's streams, and answers its status.
 fn done(rt: &HostRuntime, request: &Request<'_>, names: &ShownNames) -> Result<u8, AllocError> {

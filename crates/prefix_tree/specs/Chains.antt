@@ -1,16 +1,20 @@
--- Blocks one inside the other: each but the smallest splits into a half that holds the next and one of one permission.
-use Rattle.std.specs.Prelude.{◌≡◌, ◌≢◌, ℕ, zero, suc, ◌+◌, ◌-◌, ◌*◌, ◌^◌, ◌<◌, ◌≤◌, Bool, cond, ltb, nat_le}
+-- Blocks one inside the other: each but the smallest splits into a half that holds the next and one
+-- of one permission.
+use Rattle.std.specs.Prelude.{◌≡◌, ◌≢◌, ℕ, zero, suc, ◌+◌, ◌-◌, ◌*◌, ◌^◌, ◌<◌, ◌≤◌, Bool, cond, ltb}
+use Rattle.std.specs.Prelude.{nat_le}
 use Rattle.pmp_encoding.specs.declared.perm.Perm.{Perm}
 use Rattle.prefix_tree.specs.declared.chains.Chain.{Chain}
 use Rattle.prefix_tree.specs.declared.chains.Edges.{Edges}
 use Rattle.prefix_tree.specs.declared.chains.Part.{Part}
 use Rattle.prefix_tree.specs.Trees.{PermTree, Uniform, Split}
 
--- a block 2 ^ n times as large as one that lies in it after so many of its size, with one permission before that and one after it
+-- a block 2 ^ n times as large as one that lies in it after so many of its size, with one
+-- permission before that and one after it
 abbrev pub nested : ℕ → ℕ → Perm → Perm → PermTree → PermTree
 nested zero place before behind tree = tree
 nested (suc n) place before behind tree =
-    cond (ltb place (2 ^ n)) (Split (nested n place before behind tree) (Uniform behind)) (Split (Uniform before) (nested n (place - 2 ^ n) before behind tree))
+    cond (ltb place (2 ^ n)) (Split (nested n place before behind tree) (Uniform behind))
+    (Split (Uniform before) (nested n (place - 2 ^ n) before behind tree))
 
 -- the largest block of a chain, by its smallest
 abbrev pub chained : Chain → PermTree → PermTree
@@ -35,7 +39,8 @@ smaller chain = record {
   behind = chain.behind;
 }
 
--- from the page `first` on and before the page `end`, the view has one permission before its edges and one after them
+-- from the page `first` on and before the page `end`, the view has one permission before its edges
+-- and one after them
 pub record AreEdges (view : ℕ → Perm) (first end : ℕ) (edges : Edges) : Type 0 where
   pub low : first < edges.low
   pub rising : edges.low ≤ edges.high
@@ -44,7 +49,8 @@ pub record AreEdges (view : ℕ → Perm) (first end : ℕ) (edges : Edges) : Ty
   pub before : (page : ℕ) → first ≤ page → page < edges.low → view page ≡ edges.before
   pub behind : (page : ℕ) → edges.high ≤ page → page < end → view page ≡ edges.behind
 
--- the part of the 2 ^ height pages from `first` on that is left where they are halved so often has all the edges inside
+-- the part of the 2 ^ height pages from `first` on that is left where they are halved so often has
+-- all the edges inside
 pub record IsPartAround (first height low high levels place start : ℕ) : Type 0 where
   pub within : levels ≤ height
   pub placed : place < 2 ^ levels
@@ -54,4 +60,5 @@ pub record IsPartAround (first height low high levels place start : ℕ) : Type 
   pub reaches : high < start + 2 ^ (height - levels)
 
 abbrev pub HasEdges : ℕ → ℕ → Edges → Part → Type 0
-HasEdges first height edges part = IsPartAround first height edges.low edges.high part.levels part.place part.first
+HasEdges first height edges part =
+    IsPartAround first height edges.low edges.high part.levels part.place part.first

@@ -3,7 +3,8 @@ use Rattle.std.specs.Prelude.{◌≡◌, ℕ, zero, suc, List, [], ◌∷◌, re
 use Rattle.std.proofs.Common.{◌∙◌, ap}
 use Rattle.std.specs.Coded.{Coded, code_by, coded_list, coded_ℕ}
 use Rattle.pmp_encoding.specs.declared.perm.Perm.{Perm}
-use Rattle.pmp_encoding.specs.declared.perm.Perm.TheVariants.{NoAccess, Read, ReadWrite, Execute, ReadExecute, ReadWriteExecute}
+use Rattle.pmp_encoding.specs.declared.perm.Perm.TheVariants.{NoAccess, Read, ReadWrite, Execute}
+use Rattle.pmp_encoding.specs.declared.perm.Perm.TheVariants.{ReadExecute, ReadWriteExecute}
 use Rattle.pmp_encoding.specs.Perms.{index_of}
 use Rattle.prefix_tree.specs.Trees.{PermTree, Uniform, Split}
 
@@ -35,7 +36,8 @@ abbrev pub top_of : List PermTree → PermTree
 top_of [] = Uniform NoAccess
 top_of (tree ∷ before) = tree
 
-pub read-written : (tree : PermTree) (rest : List ℕ) (before : List PermTree) → read (written tree rest) before ≡ read rest (tree ∷ before)
+pub read-written : (tree : PermTree) (rest : List ℕ) (before : List PermTree)
+    → read (written tree rest) before ≡ read rest (tree ∷ before)
 read-written (Uniform NoAccess) rest before = refl
 read-written (Uniform Read) rest before = refl
 read-written (Uniform ReadWrite) rest before = refl
@@ -43,10 +45,12 @@ read-written (Uniform Execute) rest before = refl
 read-written (Uniform ReadExecute) rest before = refl
 read-written (Uniform ReadWriteExecute) rest before = refl
 read-written (Split lower upper) rest before =
-    read-written lower (written upper (0 ∷ rest)) before ∙ read-written upper (0 ∷ rest) (lower ∷ before)
+    read-written lower (written upper (0 ∷ rest)) before
+    ∙ read-written upper (0 ∷ rest) (lower ∷ before)
 
 pub top-read : (tree : PermTree) → top_of (read (written tree []) []) ≡ tree
 top-read tree = ap top_of (read-written tree [] [])
 
 abbrev pub tree_code : Coded PermTree
-tree_code = code_by (List ℕ) (coded_list coded_ℕ) (λ tree. written tree []) (λ numbers. top_of (read numbers [])) top-read
+tree_code = code_by (List ℕ) (coded_list coded_ℕ) (λ tree. written tree [])
+    (λ numbers. top_of (read numbers [])) top-read

@@ -31,7 +31,8 @@ starts p q = if perm_eq q NoAccess || perm_eq q p then 0 else 1
 -- how many runs start at a page of the block that is not its first
 abbrev pub starts_inside : PermTree → ℕ
 starts_inside (Uniform q) = 0
-starts_inside (Split lower upper) = starts_inside lower + (starts (last_perm lower) (first_perm upper) + starts_inside upper)
+starts_inside (Split lower upper) =
+    starts_inside lower + (starts (last_perm lower) (first_perm upper) + starts_inside upper)
 
 -- how many runs the whole space has
 abbrev pub runs_in : PermTree → ℕ

@@ -18,9 +18,11 @@ pub record Sums (summary : Summary) (tree : PermTree) : Type 0 where
 
 abbrev pub IsSummed : Block → Type 0
 IsSummed (Leaf q) = Unit {0}
-IsSummed (Branch' p lower upper summary) = Sums summary (Split (shape_of lower) (shape_of upper)) × IsSummed lower × IsSummed upper
+IsSummed (Branch' p lower upper summary) = Sums summary (Split (shape_of lower) (shape_of upper))
+    × IsSummed lower × IsSummed upper
 
--- what a tree's root keeps: the blocks are of the space, no block of one permission is split, and the runs are as many as a map may have
+-- what a tree's root keeps: the blocks are of the space, no block of one permission is split, and
+-- the runs are as many as a map may have
 pub record IsRoot (root : Block) : Type 0 where
   pub fits : Fits 44 (shape_of root)
   pub canonical : IsCanonical (shape_of root)

@@ -13,9 +13,11 @@ pub record MeetsBehind (at low high : ℕ) (run : Run) : Type 0 where
 -- runs by rising page, from `at` on, each of which has a page from `low` on and before `high`
 abbrev pub MeetBehind : ℕ → ℕ → ℕ → List Run → Type 0
 MeetBehind at low high [] = ⊤
-MeetBehind at low high (run ∷ runs) = MeetsBehind at low high run × MeetBehind (end_of run) low high runs
+MeetBehind at low high (run ∷ runs) = MeetsBehind at low high run
+    × MeetBehind (end_of run) low high runs
 
--- the maximal runs that have a page in the block of the 2 ^ height pages from `first` on, which lies in the space
+-- the maximal runs that have a page in the block of the 2 ^ height pages from `first` on, which
+-- lies in the space
 pub record AreBlockRuns (runs : List Run) (first height : ℕ) : Type 0 where
   pub low : height ≤ 44
   pub inside : first + 2 ^ height ≤ 2 ^ 44

@@ -4,7 +4,8 @@ use Rattle.pmp_encoding.specs.declared.perm.Perm.{Perm}
 use Rattle.prefix_tree.specs.Trees.{PermTree, Uniform}
 use Rattle.prefix_tree.specs.Joined.{joined}
 
--- that of the 2 ^ k pages from `first` on: one page has its permission, and a larger block is joined of its two halves
+-- that of the 2 ^ k pages from `first` on: one page has its permission, and a larger block is
+-- joined of its two halves
 unfoldable pub tree_at : (ℕ → Perm) → ℕ → ℕ → PermTree
 tree_at view zero first = Uniform (view first)
 tree_at view (suc k) first = joined (tree_at view k first) (tree_at view k (first + 2 ^ k))

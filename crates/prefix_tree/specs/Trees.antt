@@ -12,17 +12,20 @@ pub data PermTree : Type 0 where
 abbrev pub TreeMeansAt : (ℕ → Perm) → ℕ → ℕ → PermTree → Type 0
 TreeMeansAt view k first (Uniform q) = IsUniform view k first q
 TreeMeansAt view zero first (Split lower upper) = ⊥
-TreeMeansAt view (suc k) first (Split lower upper) = TreeMeansAt view k first lower × TreeMeansAt view k (first + 2 ^ k) upper
+TreeMeansAt view (suc k) first (Split lower upper) = TreeMeansAt view k first lower
+    × TreeMeansAt view k (first + 2 ^ k) upper
 
 -- the tree gives every page of the space the view's permission
 abbrev pub TreeMeans : (ℕ → Perm) → PermTree → Type 0
 TreeMeans view tree = TreeMeansAt view 44 0 tree
 
--- the permission of a page of a block of 2 ^ k pages, by its place in the block; a tree that fits is not split below a page
+-- the permission of a page of a block of 2 ^ k pages, by its place in the block; a tree that fits
+-- is not split below a page
 abbrev pub perm_in : PermTree → ℕ → ℕ → Perm
 perm_in (Uniform q) k i = q
 perm_in (Split lower upper) zero i = perm_in lower zero i
-perm_in (Split lower upper) (suc k) i = cond (ltb i (2 ^ k)) (perm_in lower k i) (perm_in upper k (i - 2 ^ k))
+perm_in (Split lower upper) (suc k) i =
+    cond (ltb i (2 ^ k)) (perm_in lower k i) (perm_in upper k (i - 2 ^ k))
 
 -- the view of the tree of the whole space
 abbrev pub view_of_tree : PermTree → ℕ → Perm
@@ -37,7 +40,8 @@ Fits (suc k) (Split lower upper) = Fits k lower × Fits k upper
 -- no split block has one permission
 abbrev pub IsCanonical : PermTree → Type 0
 IsCanonical (Uniform q) = Unit {0}
-IsCanonical (Split lower upper) = ((q : Perm) → lower ≡ Uniform q → upper ≡ Uniform q → ⊥) × IsCanonical lower × IsCanonical upper
+IsCanonical (Split lower upper) = ((q : Perm) → lower ≡ Uniform q → upper ≡ Uniform q → ⊥)
+    × IsCanonical lower × IsCanonical upper
 
 -- each split block has pages of two permissions
 abbrev pub SplitsOnlyMixedAt : (ℕ → Perm) → ℕ → ℕ → PermTree → Type 0

@@ -7,9 +7,8 @@ ghost use Rattle.prefix_tree.specs.Joined.{one_perm};
 ghost use Rattle.prefix_tree.specs.Slices.{AreBlockRuns};
 ghost use Rattle.prefix_tree.specs.TreeOf.{tree_at};
 
-use pmp_encoding::pages_of;
 use permission_map::Run;
-use pmp_encoding::Perm;
+use pmp_encoding::{Perm, pages_of};
 
 /// Blocks one inside the other: each but the smallest splits into a half that holds the next and one of one permission.
 #[derive(Clone, Copy)]

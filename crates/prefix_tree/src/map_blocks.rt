@@ -10,9 +10,8 @@ ghost use Rattle.prefix_tree.specs.TreeOf.{tree_at, tree_of};
 
 use crate::chains::{Chain, edges_of, part_around};
 use crate::halving::Halving;
-use pmp_encoding::pages_of;
 use permission_map::{PermissionMap, Run};
-use pmp_encoding::Perm;
+use pmp_encoding::{Perm, pages_of};
 use std::marker::Model;
 
 /// A block of the pages of a map, with the runs that have a page in it. It is seen as the canonical tree of its view.

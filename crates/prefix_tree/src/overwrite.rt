@@ -10,8 +10,8 @@ ghost use Rattle.prefix_tree.specs.Shapes.{shape_of, IsSummed};
 
 use crate::blocks::Block;
 use crate::join::join;
-use pmp_encoding::pages_of;
 use permission_map::Run;
+use pmp_encoding::pages_of;
 use std::alloc::{AllocError, Global};
 
 /// How a block lies to a run of pages.

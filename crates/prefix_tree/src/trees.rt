@@ -16,9 +16,8 @@ use crate::join::run_count;
 use crate::map_blocks::MapBlock;
 use crate::map_tree::build_block;
 use crate::overwrite::overwritten_block;
-use pmp_encoding::SPACE_PAGES;
 use permission_map::{MapFault, Memory, PermissionMap, Run};
-use pmp_encoding::Perm;
+use pmp_encoding::{Perm, SPACE_PAGES};
 use std::alloc::Global;
 use std::marker::Model;
 

@@ -1,5 +1,6 @@
 -- Entries that stand on a hart from one of its entries on.
-use Rattle.std.specs.Prelude.{ℕ, ◌+◌, ◌-◌, ◌*◌, nat_lt, if◌then◌else◌, List, [], ◌∷◌, map, Option, Some, None, slice_get}
+use Rattle.std.specs.Prelude.{ℕ, ◌+◌, ◌-◌, ◌*◌, nat_lt, if◌then◌else◌, List, [], ◌∷◌, map, Option}
+use Rattle.std.specs.Prelude.{Some, None, slice_get}
 use Rattle.std.specs.Int.{Width, from_le_bytes, w32, w64}
 use Rattle.pmp_encoding.specs.declared.region.Entry.{Entry}
 use Rattle.pmp_encoding.specs.Encoding.{cfg_of}
@@ -32,4 +33,5 @@ places_in_word Rv64 = 0 ∷ 1 ∷ 2 ∷ 3 ∷ 4 ∷ 5 ∷ 6 ∷ 7 ∷ []
 
 -- the i-th configuration word: the bytes of its entries, the lowest first
 abbrev pub word_from : Xlen → ℕ → List Entry → ℕ → ℕ
-word_from xlen first entries i = from_le_bytes (width_of xlen) (map (λ j. cfg_from first entries (word_entries xlen * i + j)) (places_in_word xlen))
+word_from xlen first entries i = from_le_bytes (width_of xlen)
+    (map (λ j. cfg_from first entries (word_entries xlen * i + j)) (places_in_word xlen))

@@ -15,11 +15,13 @@ register_text xlen value = hex (register_digits xlen) value
 
 -- `I 0xCC 0xAAAAAAAAAAAAAAAA`, and with 32 bits `I 0xCC 0xAAAAAAAA`
 abbrev pub entry_text : Xlen → ℕ → ℕ → ℕ → List ℕ
-entry_text xlen i cfg addr = decimal i ++ codes " 0x" ++ hex 2 cfg ++ codes " 0x" ++ register_text xlen addr ++ codes "\n"
+entry_text xlen i cfg addr = decimal i ++ codes " 0x" ++ hex 2 cfg ++ codes " 0x"
+    ++ register_text xlen addr ++ codes "\n"
 
 -- `pmpcfgK 0xWWWWWWWWWWWWWWWW`, and with 32 bits `pmpcfgK 0xWWWWWWWW`
 abbrev pub word_text : Xlen → ℕ → ℕ → List ℕ
-word_text xlen k word = codes "pmpcfg" ++ decimal k ++ codes " 0x" ++ register_text xlen word ++ codes "\n"
+word_text xlen k word = codes "pmpcfg" ++ decimal k ++ codes " 0x" ++ register_text xlen word
+    ++ codes "\n"
 
 -- `accepted N`
 abbrev pub accepted_text : ℕ → List ℕ
@@ -27,7 +29,8 @@ accepted_text n = codes "accepted " ++ decimal n ++ codes "\n"
 
 -- `accepted N of L`
 abbrev pub accepted_of_text : ℕ → ℕ → List ℕ
-accepted_of_text n limit = codes "accepted " ++ decimal n ++ codes " of " ++ decimal limit ++ codes "\n"
+accepted_of_text n limit = codes "accepted " ++ decimal n ++ codes " of " ++ decimal limit
+    ++ codes "\n"
 
 -- `refused CODE NAME`
 abbrev pub refused_text : ℕ → List ℕ → List ℕ
@@ -35,4 +38,5 @@ refused_text code name = codes "refused " ++ decimal code ++ codes " " ++ name +
 
 -- `measure ID DIGEST`, the digest in lower-case hexadecimal
 abbrev pub measure_text : ℕ → List ℕ → List ℕ
-measure_text id digest = codes "measure " ++ decimal id ++ codes " " ++ encode_lower digest ++ codes "\n"
+measure_text id digest = codes "measure " ++ decimal id ++ codes " " ++ encode_lower digest
+    ++ codes "\n"

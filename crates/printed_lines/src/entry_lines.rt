@@ -7,8 +7,7 @@ ghost use Rattle.text_lines.specs.Written.{hex};
 ghost use Rattle.printed_lines.specs.Plans.{entries_text};
 ghost use Rattle.printed_lines.specs.Texts.{entry_text, register_text};
 
-use pmp_encoding::PackedEntry;
-use pmp_encoding::Xlen;
+use pmp_encoding::{PackedEntry, Xlen};
 use text_lines::{Counter, hex_digit, hex_digits};
 
 /// The most bytes that are put for an entry: what stands behind a short number is put too, and written over.

@@ -5,8 +5,7 @@ ghost use Rattle.std.specs.Int.{from_le_bytes, w32, w64};
 ghost use Rattle.pmp_encoding.specs.Limits.{limit_number};
 ghost use Rattle.printed_lines.specs.Placed.{cfg_from, entry_from, places_in_word, word_from};
 
-use pmp_encoding::{Entry, Limit, PackedEntry};
-use pmp_encoding::Xlen;
+use pmp_encoding::{Entry, Limit, PackedEntry, Xlen};
 
 /// What stands at entry i of the hart.
 pub fn entry_from(entries: &[PackedEntry], first: u8, i: usize) -> Option<Entry>

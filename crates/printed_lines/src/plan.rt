@@ -9,8 +9,7 @@ use crate::entry_lines::{MOST, put_entries};
 use crate::placed::{room_from, word_from};
 use crate::texts::{count_line, word_line};
 use byte_streams::{DeviceFault, Sink, write_whole};
-use pmp_encoding::{Limit, PackedEntry};
-use pmp_encoding::Xlen;
+use pmp_encoding::{Limit, PackedEntry, Xlen};
 
 /// How many entries' lines are put together before they go to the sink: more bytes than a `HeldSink` holds, which then
 /// hands them on without a copy.

@@ -12,4 +12,5 @@ short_part_name place = path_with_file_name place (codes "pmpmon.part")
 
 -- a name with one digit after it
 abbrev pub IsNumbered : List ℕ → List ℕ → Type 0
-IsNumbered name numbered = (digit : ℕ) × (digit < 10) × (numbered ≡ name ++ encode_utf8 (48 + digit))
+IsNumbered name numbered = (digit : ℕ) × (digit < 10)
+    × (numbered ≡ name ++ encode_utf8 (48 + digit))

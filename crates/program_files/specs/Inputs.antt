@@ -20,6 +20,7 @@ IsOpen (File file) = file.file ≢ None
 IsOpen (Standard input) = ⊤
 
 -- what the open file or the stream tells of its bytes
-abbrev pub remaining_of : {R S F D : Type 0} → (F → Option (List ℕ)) → (S → Option (List ℕ)) → InputToRead R S F D → Option (List ℕ)
+abbrev pub remaining_of : {R S F D : Type 0} → (F → Option (List ℕ)) → (S → Option (List ℕ))
+    → InputToRead R S F D → Option (List ℕ)
 remaining_of file_remaining stream_remaining (File file) = option_and_then file_remaining file.file
 remaining_of file_remaining stream_remaining (Standard input) = stream_remaining input.inner

@@ -22,7 +22,8 @@ pub trait WholeSink: Sink {
 
     /// Lends what takes the bytes, and not the place.
     fn inner(&mut self) -> &mut Self::Inner
-        ensures* lends { sem 𝓛 (Lends Self.row Self.Inner.row self.entry result (with_inner self.old)) }
+        ensures* lends { sem 𝓛 (Lends Self.row Self.Inner.row self.entry result
+            (with_inner self.old)) }
         ensures contents { Self.Inner.contents result.now ≡ Self.contents self.old }
         ensures failures { Self.Inner.failures result.now ≡ Self.failures self.old }
         ensures stalls { Self.Inner.stalls result.now ≡ Self.stalls self.old };

@@ -1,5 +1,6 @@
 -- The faults of a subcommand with values that names no task.
-use Rattle.std.specs.Prelude.{List, [], ◌∷◌, ℕ, ◌<◌, Option, Some, None, ◌++◌, ◌≡◌, ◌≢◌, ◌⊎◌, codes, true}
+use Rattle.std.specs.Prelude.{List, [], ◌∷◌, ℕ, ◌<◌, Option, Some, None, ◌++◌, ◌≡◌, ◌≢◌, ◌⊎◌, codes}
+use Rattle.std.specs.Prelude.{true}
 use Rattle.pmp_encoding.specs.declared.limit.Limit.{Limit}
 use Rattle.pmp_encoding.specs.Limits.{limit_number}
 use Rattle.pmp_encoding.specs.declared.xlen.Xlen.{Xlen}
@@ -12,7 +13,8 @@ use Rattle.program_tasks.specs.declared.subcommand.Subcommand.{Subcommand}
 use Rattle.program_tasks.specs.declared.subcommand.Subcommand.TheVariants as subcommands
 use Rattle.program_tasks.specs.Hints.{hints_word}
 use Rattle.program_tasks.specs.Subcommands.{Text, subcommand_word}
-use Rattle.program_tasks.specs.Tasks.{BeginsAt, Counts, IsGiven, format_word, table_format_word, input_word, is_identifier, limit_word, width_word}
+use Rattle.program_tasks.specs.Tasks.{BeginsAt, Counts, IsGiven, format_word, table_format_word}
+use Rattle.program_tasks.specs.Tasks.{input_word, is_identifier, limit_word, width_word}
 
 -- what is said of a value that an option does not take
 abbrev pub value_text : List ℕ → List ℕ → List ℕ
@@ -21,21 +23,35 @@ value_text word taken = codes "invalid value '" ++ (word ++ taken)
 -- what is said of a fault
 abbrev pub fault_text : Fault → List ℕ
 fault_text faults.Missing = codes "a required argument is missing"
-fault_text (faults.Entries word) = value_text word.now (codes "' for '--entries <16|64>'\n  [possible values: 16, 64]")
-fault_text (faults.Format word) = value_text word.now (codes "' for '--format <text|c|asm|json>'\n  [possible values: text, c, asm, json]")
-fault_text (faults.TableFormat word) = value_text word.now (codes "' for '--format <text|svg|json>'\n  [possible values: text, svg, json]")
-fault_text (faults.AtMost word) = value_text word.now (codes "' for '--at-most <N>': no number below 2^64")
-fault_text (faults.Name word) = value_text word.now (codes "' for '--name <NAME>': no C identifier of at most 32 bytes")
-fault_text (faults.First word) = value_text word.now (codes "' for '--first <K>': no number below that of --entries")
-fault_text (faults.Xlen word) = value_text word.now (codes "' for '--xlen <32|64>'\n  [possible values: 32, 64]")
-fault_text (faults.Hints word) = value_text word.now (codes "' for '--hints <auto|always|never>'\n  [possible values: auto, always, never]")
+fault_text (faults.Entries word) =
+    value_text word.now (codes "' for '--entries <16|64>'\n  [possible values: 16, 64]")
+fault_text (faults.Format word) =
+    value_text word.now
+    (codes "' for '--format <text|c|asm|json>'\n  [possible values: text, c, asm, json]")
+fault_text (faults.TableFormat word) =
+    value_text word.now
+    (codes "' for '--format <text|svg|json>'\n  [possible values: text, svg, json]")
+fault_text (faults.AtMost word) =
+    value_text word.now (codes "' for '--at-most <N>': no number below 2^64")
+fault_text (faults.Name word) = value_text word.now
+    (codes "' for '--name <NAME>': no C identifier of at most 32 bytes")
+fault_text (faults.First word) = value_text word.now
+    (codes "' for '--first <K>': no number below that of --entries")
+fault_text (faults.Xlen word) = value_text word.now
+    (codes "' for '--xlen <32|64>'\n  [possible values: 32, 64]")
+fault_text (faults.Hints word) = value_text word.now
+    (codes "' for '--hints <auto|always|never>'\n  [possible values: auto, always, never]")
 fault_text faults.InputTwice = codes "standard input, '-', cannot be read twice"
 fault_text faults.TwoKinds = codes "the argument '--registers' cannot be used with '--trace'"
 fault_text faults.TwoAnswers = codes "the argument '--explain' cannot be used with '--expect'"
-fault_text faults.PlatformAlone = codes "the argument '--platform <PLATFORM>' cannot be used without '--trace'"
-fault_text faults.NoPicture = codes "'--format svg' and '--format json' are for a map, and cannot be used with '--registers'"
-fault_text faults.NoCosts = codes "'--costs' is for the text of a map, and cannot be used with '--registers', '--format svg' or '--format json'"
-fault_text (faults.TakesPlace map) = codes "the certificate would take the place of the map '" ++ (map.now ++ codes "'")
+fault_text faults.PlatformAlone =
+    codes "the argument '--platform <PLATFORM>' cannot be used without '--trace'"
+fault_text faults.NoPicture =
+    codes "'--format svg' and '--format json' are for a map, and cannot be used with '--registers'"
+fault_text faults.NoCosts =
+    codes "'--costs' is for the text of a map, and cannot be used with '--registers', '--format svg' or '--format json'"
+fault_text (faults.TakesPlace map) = codes "the certificate would take the place of the map '"
+    ++ (map.now ++ codes "'")
 
 -- what a subcommand asks of the values of its arguments, one thing at a time
 pub data Demand : Type 0 where
@@ -56,29 +72,41 @@ pub data Demand : Type 0 where
   of_map : Demand
   of_text : Demand
 
--- the values lack it: the argument of that name has no value; the word of `--entries` names no limit, that of `--format` no
--- format of a plan or of a table, that of `--xlen` no width, that of `--at-most` no number, that of `--name` is no identifier, that of `--first` names no entry below the limit, that of `--hints` not whether hints are told; the map and that other file are both standard input; the certificate is the map; the file is
--- said to be a listing and a trace; answers are to be explained and to be compared; a platform is named where it is said to be no trace;
--- or of registers another table is asked for than the text, or costs of what is no text of a map
+-- the values lack it: the argument of that name has no value; the word of `--entries` names no
+-- limit, that of `--format` no format of a plan or of a table, that of `--xlen` no width, that of
+-- `--at-most` no number, that of `--name` is no identifier, that of `--first` names no entry below
+-- the limit, that of `--hints` not whether hints are told; the map and that other file are both
+-- standard input; the certificate is the map; the file is said to be a listing and a trace; answers
+-- are to be explained and to be compared; a platform is named where it is said to be no trace; or
+-- of registers another table is asked for than the text, or costs of what is no text of a map
 abbrev pub Lacks : (Text → Option Text) → (Text → Option Text) → Demand → Type 0
 Lacks value flag (has name) = value name ≡ None
 Lacks value flag names_limit = (limit : Limit) → value (codes "entries") ≢ Some (limit_word limit)
-Lacks value flag names_format = (format : Format) → value (codes "format") ≢ Some (format_word format)
-Lacks value flag names_table_format = (format : TableFormat) → value (codes "format") ≢ Some (table_format_word format)
+Lacks value flag names_format = (format : Format)
+    → value (codes "format") ≢ Some (format_word format)
+Lacks value flag names_table_format = (format : TableFormat)
+    → value (codes "format") ≢ Some (table_format_word format)
 Lacks value flag names_width = (xlen : Xlen) → value (codes "xlen") ≢ Some (width_word xlen)
 Lacks value flag counts = (count : Option ℕ) → ¬ Counts (value (codes "at-most")) count
-Lacks value flag identifies = (word : Text) × (value (codes "name") ≡ Some word) × (is_identifier word ≢ true)
-Lacks value flag begins_inside = (first : ℕ) (limit : Limit) → BeginsAt (value (codes "first")) first → value (codes "entries") ≡ Some (limit_word limit) → ¬ (first < limit_number limit)
+Lacks value flag identifies = (word : Text) × (value (codes "name") ≡ Some word)
+    × (is_identifier word ≢ true)
+Lacks value flag begins_inside = (first : ℕ) (limit : Limit)
+    → BeginsAt (value (codes "first")) first → value (codes "entries") ≡ Some (limit_word limit)
+    → ¬ (first < limit_number limit)
 Lacks value flag names_hints = (hints : Hints) → value (codes "hints") ≢ Some (hints_word hints)
-Lacks value flag (reads_once other) = (value (codes "MAP") ≡ Some input_word) × (value other ≡ Some input_word)
+Lacks value flag (reads_once other) = (value (codes "MAP") ≡ Some input_word)
+    × (value other ≡ Some input_word)
 Lacks value flag keeps_map = value (codes "CERT") ≡ value (codes "MAP")
 Lacks value flag one_kind = IsGiven (flag (codes "registers")) × IsGiven (flag (codes "trace"))
 Lacks value flag one_answer = IsGiven (flag (codes "expect")) × IsGiven (flag (codes "explain"))
 Lacks value flag of_trace = (value (codes "platform") ≢ None) × ¬ IsGiven (flag (codes "trace"))
-Lacks value flag of_map = IsGiven (flag (codes "registers")) × (value (codes "format") ≢ Some (codes "text"))
-Lacks value flag of_text = IsGiven (flag (codes "costs")) × (IsGiven (flag (codes "registers")) ⊎ (value (codes "format") ≢ Some (codes "text")))
+Lacks value flag of_map = IsGiven (flag (codes "registers"))
+    × (value (codes "format") ≢ Some (codes "text"))
+Lacks value flag of_text = IsGiven (flag (codes "costs"))
+    × (IsGiven (flag (codes "registers")) ⊎ (value (codes "format") ≢ Some (codes "text")))
 
--- what is told where they lack it: a value of an option with its word, a certificate in the place of its map with the map
+-- what is told where they lack it: a value of an option with its word, a certificate in the place
+-- of its map with the map
 abbrev pub Tells : (Text → Option Text) → Demand → Fault → Type 0
 Tells value (has name) fault = fault ≡ faults.Missing
 Tells value names_limit (faults.Entries word) = value (codes "entries") ≡ Some word.now
@@ -105,22 +133,32 @@ Breaks value flag demand fault = Lacks value flag demand × Tells value demand f
 -- the fault of the first of these demands that the values lack
 abbrev pub IsFirst : (Text → Option Text) → (Text → Option Text) → List Demand → Fault → Type 0
 IsFirst value flag [] fault = ⊥
-IsFirst value flag (demand ∷ demands) fault = Breaks value flag demand fault ⊎ (¬ Lacks value flag demand × IsFirst value flag demands fault)
+IsFirst value flag (demand ∷ demands) fault = Breaks value flag demand fault
+    ⊎ (¬ Lacks value flag demand × IsFirst value flag demands fault)
 
 -- what each subcommand asks, in the order in which it is looked at
 abbrev pub demands_of : Subcommand → List Demand
 demands_of subcommands.Run = has (codes "PLATFORM") ∷ has (codes "TRACE") ∷ one_answer ∷ []
 demands_of subcommands.Plan =
-    has (codes "MAP") ∷ keeps_map ∷ has (codes "entries") ∷ names_limit ∷ counts ∷ has (codes "format") ∷ names_format ∷ has (codes "xlen") ∷ names_width ∷ identifies ∷ begins_inside ∷ []
-demands_of subcommands.Judge = has (codes "MAP") ∷ has (codes "TRACE") ∷ has (codes "entries") ∷ names_limit ∷ reads_once (codes "TRACE") ∷ has (codes "xlen") ∷ names_width ∷ one_answer ∷ []
+    has (codes "MAP") ∷ keeps_map ∷ has (codes "entries") ∷ names_limit ∷ counts
+    ∷ has (codes "format") ∷ names_format ∷ has (codes "xlen") ∷ names_width ∷ identifies
+    ∷ begins_inside ∷ []
+demands_of subcommands.Judge = has (codes "MAP") ∷ has (codes "TRACE") ∷ has (codes "entries")
+    ∷ names_limit ∷ reads_once (codes "TRACE") ∷ has (codes "xlen") ∷ names_width ∷ one_answer ∷ []
 demands_of subcommands.Check = has (codes "MAP") ∷ has (codes "CERT") ∷ []
-demands_of subcommands.Show = has (codes "MAP") ∷ has (codes "entries") ∷ names_limit ∷ counts ∷ has (codes "xlen") ∷ names_width ∷ has (codes "format") ∷ names_table_format ∷ of_map ∷ of_text ∷ []
-demands_of subcommands.Audit = has (codes "MAP") ∷ has (codes "REGISTERS") ∷ reads_once (codes "REGISTERS") ∷ has (codes "xlen") ∷ names_width ∷ []
+demands_of subcommands.Show = has (codes "MAP") ∷ has (codes "entries") ∷ names_limit ∷ counts
+    ∷ has (codes "xlen") ∷ names_width ∷ has (codes "format") ∷ names_table_format ∷ of_map
+    ∷ of_text ∷ []
+demands_of subcommands.Audit = has (codes "MAP") ∷ has (codes "REGISTERS")
+    ∷ reads_once (codes "REGISTERS") ∷ has (codes "xlen") ∷ names_width ∷ []
 demands_of subcommands.Map = has (codes "REGISTERS") ∷ has (codes "xlen") ∷ names_width ∷ []
-demands_of subcommands.Lint = has (codes "FILE") ∷ one_kind ∷ of_trace ∷ has (codes "xlen") ∷ names_width ∷ []
+demands_of subcommands.Lint = has (codes "FILE") ∷ one_kind ∷ of_trace ∷ has (codes "xlen")
+    ∷ names_width ∷ []
 
--- the fault of a subcommand's values: the first demand that they lack tells it, and a word that is no subcommand is a
--- required argument that is missing
+-- the fault of a subcommand's values: the first demand that they lack tells it, and a word that is
+-- no subcommand is a required argument that is missing
 pub data IsFaultOf (name : Text) (value flag : Text → Option Text) (fault : Fault) : Type 0 where
-  first : (subcommand : Subcommand) → name ≡ subcommand_word subcommand → IsFirst value flag (demands_of subcommand) fault → IsFaultOf name value flag fault
-  unknown : ((subcommand : Subcommand) → name ≢ subcommand_word subcommand) → fault ≡ faults.Missing → IsFaultOf name value flag fault
+  first : (subcommand : Subcommand) → name ≡ subcommand_word subcommand
+      → IsFirst value flag (demands_of subcommand) fault → IsFaultOf name value flag fault
+  unknown : ((subcommand : Subcommand) → name ≢ subcommand_word subcommand) → fault ≡ faults.Missing
+      → IsFaultOf name value flag fault

@@ -6,7 +6,8 @@ use Rattle.program_tasks.specs.declared.files.TaskFiles.{TaskFiles}
 
 -- what each task reads first and after that, and the certificate that it writes
 abbrev pub files_of : Task → TaskFiles
-files_of (tasks.Run platform trace measure) = record { first = platform; second = Some trace; cert = None }
+files_of (tasks.Run platform trace measure) =
+    record { first = platform; second = Some trace; cert = None }
 files_of (tasks.Plan map cert limit) = record { first = map; second = None; cert = cert }
 files_of (tasks.Judge map trace limit) = record { first = map; second = Some trace; cert = None }
 files_of (tasks.Check map cert) = record { first = map; second = Some cert; cert = None }

@@ -15,15 +15,18 @@ abbrev pub map_name : Format → Bor (List ℕ) → Bor (List ℕ) → Bor (List
 map_name formats.Json own name = own
 map_name format own name = name
 
--- a task whose plan is printed so, with these names in place of its own: of what it reads first and after that, and of the certificate
+-- a task whose plan is printed so, with these names in place of its own: of what it reads first and
+-- after that, and of the certificate
 abbrev pub named : Bor (List ℕ) → Bor (List ℕ) → Bor (List ℕ) → Format → Task → Task
 named first second cert format (tasks.Run platform trace measure) = tasks.Run first second measure
-named first second cert format (tasks.Plan map file limit) = tasks.Plan (map_name format map first) (option_map (λ s. cert) file) limit
+named first second cert format (tasks.Plan map file limit) =
+    tasks.Plan (map_name format map first) (option_map (λ s. cert) file) limit
 named first second cert format (tasks.Judge map trace limit) = tasks.Judge first second limit
 named first second cert format (tasks.Check map file) = tasks.Check first second
 named first second cert format (tasks.Audit map registers) = tasks.Audit first second
 named first second cert format (tasks.Map registers) = tasks.Map first
-named first second cert format (tasks.Lint file platform) = tasks.Lint first (option_map (λ s. second) platform)
+named first second cert format (tasks.Lint file platform) =
+    tasks.Lint first (option_map (λ s. second) platform)
 named first second cert format (tasks.Show map limit) = tasks.Show first limit
 
 -- the name of a file, where there is one, and otherwise that of none
@@ -33,10 +36,15 @@ name_or_none (Some name) = name.now
 
 -- the names of what a task reads first and after that, and of the certificate that it writes
 abbrev pub names_in : Task → List (List ℕ)
-names_in task = (files_of task).first.now ∷ name_or_none (files_of task).second ∷ name_or_none (files_of task).cert ∷ []
+names_in task = (files_of task).first.now ∷ name_or_none (files_of task).second
+    ∷ name_or_none (files_of task).cert ∷ []
 
 -- a request under the names that messages show
 abbrev pub IsUnderNames : ShownNames → Request → Request → Type 0
 IsUnderNames names request shown =
-    (first second cert : Bor (List ℕ)) × IsTextOf names.first.items first × IsTextOf names.second.items second × IsTextOf names.cert.items cert
-    × (shown ≡ record { task = named first second cert request.options.format request.task; options = request.options })
+    (first second cert : Bor (List ℕ)) × IsTextOf names.first.items first
+    × IsTextOf names.second.items second × IsTextOf names.cert.items cert
+    × (shown ≡ record {
+      task = named first second cert request.options.format request.task;
+      options = request.options;
+    })

@@ -8,9 +8,9 @@ use Rattle.program_tasks.specs.declared.options.LintKind.TheVariants.{ByName}
 use Rattle.program_tasks.specs.declared.options.Options.{Options}
 use Rattle.program_tasks.specs.declared.options.TableFormat.TheVariants as tables
 
--- the options of a command line that names none: a plan or a table as text, from entry 0 on, of any size and without a name;
--- registers of 64 bits, and no listing of them in a map's place; answers alone; the first stretch that differs; a file by its name; no
--- costs; and hints at a terminal
+-- the options of a command line that names none: a plan or a table as text, from entry 0 on, of any
+-- size and without a name; registers of 64 bits, and no listing of them in a map's place; answers
+-- alone; the first stretch that differs; a file by its name; no costs; and hints at a terminal
 abbrev pub default_options : Options
 default_options = record {
   format = formats.Text;

@@ -1,5 +1,6 @@
 -- What a task reads and writes, by name.
-use Rattle.std.specs.Prelude.{◌≡◌, ◌⊎◌, List, [], ℕ, Option, Some, None, bytes_eq, if◌then◌else◌, option_map}
+use Rattle.std.specs.Prelude.{◌≡◌, ◌⊎◌, List, [], ℕ, Option, Some, None, bytes_eq, if◌then◌else◌}
+use Rattle.std.specs.Prelude.{option_map}
 use Rattle.std.specs.Borrow.{Bor}
 use Rattle.program_tasks.specs.Tasks.{input_word}
 use Rattle.program_tasks.specs.declared.task.Task.{Task}
@@ -17,7 +18,8 @@ place_of name = if bytes_eq name.now input_word then StandardInput else File nam
 abbrev pub cert_of : Task → Option (Bor (List ℕ))
 cert_of task = (files_of task).cert
 
--- an input reads at a place, with that standard input; where there is none, the file of no name, which is not there
+-- an input reads at a place, with that standard input; where there is none, the file of no name,
+-- which is not there
 abbrev pub IsAt : {R S F D : Type 0} → S → Option Place → InputToRead R S F D → Type 0
 IsAt stdin (Some (File name)) input = IsOfFile name input
 IsAt stdin (Some StandardInput) input = IsOfStream stdin input

@@ -3,7 +3,8 @@ use Rattle.std.specs.Prelude.{ℕ, List, ◌++◌, codes}
 use Rattle.program_tasks.specs.declared.subcommand.Subcommand.{Subcommand}
 use Rattle.program_tasks.specs.declared.subcommand.Subcommand.TheVariants as subcommands
 use Rattle.program_tasks.specs.declared.task.Task.{Task}
-use Rattle.program_tasks.specs.declared.task.Task.TheVariants.{Run, Plan, Judge, Check, Show, Audit, Map, Lint}
+use Rattle.program_tasks.specs.declared.task.Task.TheVariants.{Run, Plan, Judge, Check, Show, Audit}
+use Rattle.program_tasks.specs.declared.task.Task.TheVariants.{Map, Lint}
 
 -- bytes of UTF-8
 abbrev pub Text : Type 0

@@ -1,5 +1,6 @@
 -- What the program can be asked to do: which task a subcommand with its values is.
-use Rattle.std.specs.Prelude.{ℕ, ◌<◌, ◌↔◌, ◌==◌, ◌&&◌, ◌||◌, nat_lt, Bool, true, false, [], ◌∷◌, length, Option, Some, None, IfSome, codes, ◌≡◌, ◌≢◌, option_map}
+use Rattle.std.specs.Prelude.{ℕ, ◌<◌, ◌↔◌, ◌==◌, ◌&&◌, ◌||◌, nat_lt, Bool, true, false, [], ◌∷◌}
+use Rattle.std.specs.Prelude.{length, Option, Some, None, IfSome, codes, ◌≡◌, ◌≢◌, option_map}
 use Rattle.std.specs.List.{list_all}
 use Rattle.pmp_encoding.specs.declared.limit.Limit.{Limit}
 use Rattle.pmp_encoding.specs.declared.limit.Limit.TheVariants.{Sixteen, SixtyFour}
@@ -20,7 +21,8 @@ use Rattle.program_tasks.specs.declared.hints.Hints.{Hints}
 use Rattle.program_tasks.specs.declared.request.Request.{Request}
 use Rattle.program_tasks.specs.declared.subcommand.Subcommand.{Subcommand}
 use Rattle.program_tasks.specs.declared.task.Task.{Task}
-use Rattle.program_tasks.specs.declared.task.Task.TheVariants.{Run, Plan, Judge, Check, Show, Audit, Map, Lint}
+use Rattle.program_tasks.specs.declared.task.Task.TheVariants.{Run, Plan, Judge, Check, Show, Audit}
+use Rattle.program_tasks.specs.declared.task.Task.TheVariants.{Map, Lint}
 use Rattle.program_tasks.specs.Subcommands.{Text, subcommand_of, word_of}
 
 -- the word that names a limit
@@ -64,18 +66,25 @@ IsGiven text = text ≡ Some (codes "true")
 abbrev pub IsFlag : Option Text → Bool → Type 0
 IsFlag text given = (given ≡ true) ↔ IsGiven text
 
--- what a file that is linted should be, by the flags: what its name says where none of them is given. A platform is named for a trace
--- alone
+-- what a file that is linted should be, by the flags: what its name says where none of them is
+-- given. A platform is named for a trace alone
 abbrev pub HasKind : (Text → Option Text) → (Text → Option Text) → LintKind → Type 0
-HasKind value flag kinds.ByName = (¬ IsGiven (flag (codes "registers"))) × (¬ IsGiven (flag (codes "trace"))) × (value (codes "platform") ≡ None)
-HasKind value flag kinds.Registers = IsGiven (flag (codes "registers")) × (¬ IsGiven (flag (codes "trace"))) × (value (codes "platform") ≡ None)
-HasKind value flag kinds.Trace = (¬ IsGiven (flag (codes "registers"))) × IsGiven (flag (codes "trace"))
+HasKind value flag kinds.ByName = (¬ IsGiven (flag (codes "registers")))
+    × (¬ IsGiven (flag (codes "trace"))) × (value (codes "platform") ≡ None)
+HasKind value flag kinds.Registers = IsGiven (flag (codes "registers"))
+    × (¬ IsGiven (flag (codes "trace"))) × (value (codes "platform") ≡ None)
+HasKind value flag kinds.Trace = (¬ IsGiven (flag (codes "registers")))
+    × IsGiven (flag (codes "trace"))
 
--- what is written of the answers to a trace, by the flags: they are explained, or compared with those that are expected, or neither
+-- what is written of the answers to a trace, by the flags: they are explained, or compared with
+-- those that are expected, or neither
 abbrev pub HasAnswers : (Text → Option Text) → Answers → Type 0
-HasAnswers flag answers.Plain = (¬ IsGiven (flag (codes "expect"))) × (¬ IsGiven (flag (codes "explain")))
-HasAnswers flag answers.Explained = (¬ IsGiven (flag (codes "expect"))) × IsGiven (flag (codes "explain"))
-HasAnswers flag answers.Compared = IsGiven (flag (codes "expect")) × (¬ IsGiven (flag (codes "explain")))
+HasAnswers flag answers.Plain = (¬ IsGiven (flag (codes "expect")))
+    × (¬ IsGiven (flag (codes "explain")))
+HasAnswers flag answers.Explained = (¬ IsGiven (flag (codes "expect")))
+    × IsGiven (flag (codes "explain"))
+HasAnswers flag answers.Compared = IsGiven (flag (codes "expect"))
+    × (¬ IsGiven (flag (codes "explain")))
 
 -- a letter of ASCII or an underscore
 abbrev pub is_letter : ℕ → Bool
@@ -88,9 +97,11 @@ is_letter_or_digit b = is_letter b || (nat_lt 47 b && nat_lt b 58)
 -- an identifier of C, of at most 32 bytes
 abbrev pub is_identifier : Text → Bool
 is_identifier [] = false
-is_identifier (first ∷ rest) = is_letter first && list_all is_letter_or_digit rest && nat_lt (length rest) 32
+is_identifier (first ∷ rest) = is_letter first && list_all is_letter_or_digit rest
+    && nat_lt (length rest) 32
 
--- the task and its options have these values: of the subcommand's arguments and of its flags, by their names
+-- the task and its options have these values: of the subcommand's arguments and of its flags, by
+-- their names
 abbrev pub HasValues : (Text → Option Text) → (Text → Option Text) → Task → Options → Type 0
 HasValues value flag (Run platform trace measure) options =
     (value (codes "PLATFORM") ≡ Some platform.now)
@@ -150,9 +161,10 @@ IsOfMap registers format = registers ≡ true → format ≡ tables.Text
 abbrev pub IsOfText : Bool → TableFormat → Bool → Type 0
 IsOfText registers format costs = costs ≡ true → (registers ≡ false) × (format ≡ tables.Text)
 
--- standard input is not both a map and the trace or the registers beside it. A certificate does not take the place of its map. The
--- name of a plan is an identifier, and its first entry is one that such a hart has. Registers have a table as text alone, and costs
--- stand in the text of a map's table alone
+-- standard input is not both a map and the trace or the registers beside it. A certificate does not
+-- take the place of its map. The name of a plan is an identifier, and its first entry is one that
+-- such a hart has. Registers have a table as text alone, and costs stand in the text of a map's
+-- table alone
 abbrev pub IsSound : Task → Options → Type 0
 IsSound (Plan map cert limit) options =
     (option_map (λ s. s.now) cert ≢ Some map.now)
@@ -160,15 +172,18 @@ IsSound (Plan map cert limit) options =
     × (options.first < limit_number limit)
 IsSound (Judge map trace limit) options = ¬ ((map.now ≡ input_word) × (trace.now ≡ input_word))
 IsSound (Audit map registers) options = ¬ ((map.now ≡ input_word) × (registers.now ≡ input_word))
-IsSound (Show map limit) options = IsOfMap options.registers options.table × IsOfText options.registers options.table options.costs
+IsSound (Show map limit) options = IsOfMap options.registers options.table
+    × IsOfText options.registers options.table options.costs
 IsSound task options = Unit {0}
 
 -- no sound task is that subcommand with these values
 abbrev pub NamesNone : Text → (Text → Option Text) → (Text → Option Text) → Type 0
-NamesNone name value flag = (task : Task) (options : Options) → word_of task ≡ name → HasValues value flag task options → ¬ IsSound task options
+NamesNone name value flag = (task : Task) (options : Options) → word_of task ≡ name
+    → HasValues value flag task options → ¬ IsSound task options
 
 -- a request for a sound task is that subcommand with these values, and hints are told so
-pub record IsRequestOf (subcommand : Subcommand) (hints : Hints) (value flag : Text → Option Text) (request : Request) : Type 0 where
+pub record IsRequestOf (subcommand : Subcommand) (hints : Hints) (value flag : Text
+    → Option Text) (request : Request) : Type 0 where
   pub named : subcommand_of request.task ≡ subcommand
   pub values : HasValues value flag request.task request.options
   pub sound : IsSound request.task request.options

@@ -15,8 +15,7 @@ ghost use Rattle.program_tasks.specs.Tasks.{limit_word, format_word, table_forma
 use crate::fault::Fault;
 use crate::given::Values;
 use crate::options::{Format, TableFormat};
-use pmp_encoding::Limit;
-use pmp_encoding::Xlen;
+use pmp_encoding::{Limit, Xlen};
 use text_lines::number;
 
 /// The limit that a word names.

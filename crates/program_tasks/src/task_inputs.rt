@@ -4,11 +4,11 @@ ghost use Rattle.std.specs.Prelude.{◌≡◌};
 ghost use Rattle.program_tasks.specs.Inputs.{reader_in, AreInputs, AreInputsAgain, IsFresh};
 ghost use Rattle.program_tasks.specs.Places.{IsAt, IsAtAgain};
 
+use crate::Task;
 use crate::names::NO_FILE;
 use crate::places::{Place, again, first_of, second_of};
 use byte_streams::Counted;
 use program_files::{Explained, InputToRead};
-use crate::Task;
 use std::fs;
 use std::io::Read;
 use std::rt::Files;

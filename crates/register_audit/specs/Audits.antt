@@ -11,21 +11,30 @@ use Rattle.register_audit.specs.Verdicts.{IsVerdict, is_difference, is_meant}
 use Rattle.register_audit.specs.Texts.{verdict_text}
 use Rattle.register_text.specs.Texts.{passed_text, smepmp_text}
 
--- what is said of a verdict: its line; but where it is a stretch that differs and all are asked for, a line for each
-pub data IsSaid (view : View) (fewest : ℕ) (all : Bool) (registers : Registers) (verdict : Verdict) : List ℕ → Type 0 where
-  line : (all && is_difference verdict) ≡ false → IsSaid view fewest all registers verdict (verdict_text fewest registers verdict)
-  each : (all && is_difference verdict) ≡ true → (text : List ℕ) → AreDifferences view registers text → IsSaid view fewest all registers verdict text
+-- what is said of a verdict: its line; but where it is a stretch that differs and all are asked
+-- for, a line for each
+pub data IsSaid (view : View) (fewest : ℕ) (all : Bool) (registers : Registers)
+    (verdict : Verdict) : List ℕ → Type 0 where
+  line : (all && is_difference verdict) ≡ false
+      → IsSaid view fewest all registers verdict (verdict_text fewest registers verdict)
+  each : (all && is_difference verdict) ≡ true → (text : List ℕ)
+      → AreDifferences view registers text → IsSaid view fewest all registers verdict text
 
--- what is said of what a listing leaves and its answer: the verdict on the registers; and a no where mseccfg is not zero, since
--- its bits change what the entries mean
-pub data IsAnswer (view : View) (fewest : ℕ) (all : Bool) (listing : Listing) : List ℕ → Bool → Type 0 where
+-- what is said of what a listing leaves and its answer: the verdict on the registers; and a no
+-- where mseccfg is not zero, since its bits change what the entries mean
+pub data IsAnswer (view : View) (fewest : ℕ) (all : Bool) (listing : Listing) : List ℕ → Bool
+    → Type 0 where
   judged :
-      listing.mseccfg ≡ 0 → (verdict : Verdict) → IsVerdict view listing.registers verdict → (text : List ℕ) → IsSaid view fewest all listing.registers verdict text
+      listing.mseccfg ≡ 0 → (verdict : Verdict) → IsVerdict view listing.registers verdict
+      → (text : List ℕ) → IsSaid view fewest all listing.registers verdict text
       → IsAnswer view fewest all listing text (is_meant verdict)
-  unmodelled : listing.mseccfg ≢ 0 → IsAnswer view fewest all listing (smepmp_text listing.mseccfg) false
+  unmodelled : listing.mseccfg ≢ 0
+      → IsAnswer view fewest all listing (smepmp_text listing.mseccfg) false
 
--- the text is what is said of the listing of registers of that width, and after it a comment on lines that are passed over
-pub record IsAudit (view : View) (xlen : Xlen) (fewest : ℕ) (all : Bool) (listing text : List ℕ) (means : Bool) : Type 0 where
+-- the text is what is said of the listing of registers of that width, and after it a comment on
+-- lines that are passed over
+pub record IsAudit (view : View) (xlen : Xlen) (fewest : ℕ) (all : Bool) (listing text : List ℕ)
+    (means : Bool) : Type 0 where
   pub leaves : Listing
   pub listed_as : listed xlen listing ≡ Some leaves
   pub said : List ℕ

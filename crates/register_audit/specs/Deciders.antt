@@ -5,7 +5,8 @@ use Rattle.pmp_match.specs.declared.access.Access.{Access}
 use Rattle.pmp_match.specs.declared.registers.Registers.{Registers}
 use Rattle.register_audit.specs.Decision.{IsDecidedAt, Misses}
 
--- the entry that decides by registers as they stand, by its number and what it matches; or that none does
+-- the entry that decides by registers as they stand, by its number and what it matches; or that
+-- none does
 abbrev pub by_entry : Registers → Access → Option Decider → Type 0
 by_entry registers a None = (place : ℕ) → place < 64 → Misses registers a place
 by_entry registers a (Some found) = IsDecidedAt registers a found.number found.extent

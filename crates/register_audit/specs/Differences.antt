@@ -13,14 +13,16 @@ use Rattle.register_audit.specs.Texts.{stretch_text}
 pub data AreOdd : List Stretch → List Stretch → Type 0 where
   end : AreOdd [] []
   same : {all odd : List Stretch} → (s : Stretch) → agrees s → AreOdd all odd → AreOdd (s ∷ all) odd
-  other : {all odd : List Stretch} → (s : Stretch) → s.wanted ≢ s.given → AreOdd all odd → AreOdd (s ∷ all) (s ∷ odd)
+  other : {all odd : List Stretch} → (s : Stretch) → s.wanted ≢ s.given → AreOdd all odd
+      → AreOdd (s ∷ all) (s ∷ odd)
 
 -- the lines of stretches, one after another
 abbrev pub differences_text : List Stretch → List ℕ
 differences_text [] = []
 differences_text (s ∷ odd) = stretch_text s ++ differences_text odd
 
--- the text is a line for each stretch of the space on which registers give another permission than a view
+-- the text is a line for each stretch of the space on which registers give another permission than
+-- a view
 pub record AreDifferences (view : View) (registers : Registers) (text : List ℕ) : Type 0 where
   pub extents : List Extent
   pub are_extents : AreExtents registers extents

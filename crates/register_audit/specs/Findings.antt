@@ -1,5 +1,6 @@
 -- Where extents do not mean a view.
-use Rattle.std.specs.Prelude.{◌≡◌, ◌≢◌, ℕ, ◌/◌, ◌%◌, ◌^◌, ◌<◌, ◌≤◌, true, refl, All, List, ◌∷◌, ◌++◌, Some, slice_get, take}
+use Rattle.std.specs.Prelude.{◌≡◌, ◌≢◌, ℕ, ◌/◌, ◌%◌, ◌^◌, ◌<◌, ◌≤◌, true, refl, All, List, ◌∷◌}
+use Rattle.std.specs.Prelude.{◌++◌, Some, slice_get, take}
 use Rattle.pmp_encoding.specs.declared.extent.Extent.{Extent}
 use Rattle.pmp_encoding.specs.Views.{View}
 use Rattle.pmp_match.specs.declared.access.Access.{Access}
@@ -35,8 +36,8 @@ pub record IsFirstOf (extents : List Extent) (i at : ℕ) (x : Extent) : Type 0 
   pub missed : NoneMeets (take i extents) (load_of_eight at)
   pub met : Meets x (load_of_eight at)
 
--- eight aligned bytes that the view lets be read, of which entry i is the first that has some, and does
--- not have all
+-- eight aligned bytes that the view lets be read, of which entry i is the first that has some, and
+-- does not have all
 pub record IsCut (view : View) (extents : List Extent) (i at : ℕ) : Type 0 where
   pub aligned : at % 8 ≡ 0
   pub inside : at < 2 ^ 56
@@ -59,13 +60,14 @@ pub record IsFirstCut (view : View) (extents : List Extent) (i at : ℕ) : Type 
   pub cut : IsLowestCut view extents i at
   pub before : (j : ℕ) → j < i → IsUncut view extents j
 
--- the extents give each byte of the space the view's permission, and cut eight bytes, by entry i first
+-- the extents give each byte of the space the view's permission, and cut eight bytes, by entry i
+-- first
 pub record CutsAlone (view : View) (extents : List Extent) (i at : ℕ) : Type 0 where
   pub same : IsGiven extents view
   pub first : IsFirstCut view extents i at
 
--- a stretch on which the extents give another permission than the view, where they give each byte below
--- it the view's
+-- a stretch on which the extents give another permission than the view, where they give each byte
+-- below it the view's
 pub record IsFirstDifference (view : View) (extents : List Extent) (s : Stretch) : Type 0 where
   pub stretch : IsStretch view extents s
   pub differs : s.wanted ≢ s.given

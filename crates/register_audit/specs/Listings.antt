@@ -10,7 +10,8 @@ use Rattle.register_text.specs.Texts.{IsRefusal, passed_text}
 use Rattle.register_audit.specs.declared.listing_rules.Ruled.{Ruled}
 use Rattle.register_audit.specs.declared.listing_rules.Ruled.TheVariants as ruled
 
--- a listing of registers of that width leaves these, without a reserved value and with an mseccfg of zero
+-- a listing of registers of that width leaves these, without a reserved value and with an mseccfg
+-- of zero
 pub record HasRules (xlen : Xlen) (listing : List ℕ) (registers : Registers) : Type 0 where
   pub leaves : Listing
   pub listed_as : listed xlen listing ≡ Some leaves
@@ -19,7 +20,8 @@ pub record HasRules (xlen : Xlen) (listing : List ℕ) (registers : Registers) :
   pub extents : List Extent
   pub are_extents : AreExtents leaves.registers extents
 
--- the text is the line that says why what a listing leaves judges nothing, and after it a comment on lines that are passed over
+-- the text is the line that says why what a listing leaves judges nothing, and after it a comment
+-- on lines that are passed over
 pub record IsRefused (xlen : Xlen) (listing text : List ℕ) : Type 0 where
   pub leaves : Listing
   pub listed_as : listed xlen listing ≡ Some leaves

@@ -15,25 +15,33 @@ use Rattle.register_text.specs.Texts.{IsRefusal, passed_text}
 use Rattle.register_audit.specs.Pages.{HasFirstBytes, IsTooFine}
 use Rattle.register_audit.specs.MapTexts.{below_text, cut_text, map_text}
 
--- what is said of extents, and whether that is a map: the lines of the map that they mean; or the first bytes that have another
--- permission than the first byte of their page; or, where there are none, an access that an entry cuts
+-- what is said of extents, and whether that is a map: the lines of the map that they mean; or the
+-- first bytes that have another permission than the first byte of their page; or, where there are
+-- none, an access that an entry cuts
 pub data IsMapOfExtents (extents : List Extent) : List ℕ → Bool → Type 0 where
-  mapped : (runs : List Run) → AreRuns runs → ExtentsMean extents (view_of_runs runs) → IsMapOfExtents extents (map_text runs) true
-  below : (view : View) → HasFirstBytes extents view → (stretch : Stretch) → IsFirstDifference view extents stretch → IsMapOfExtents extents (below_text stretch) false
-  cut : (view : View) → HasFirstBytes extents view → (entry at : ℕ) → CutsAlone view extents entry at → IsMapOfExtents extents (cut_text entry at) false
+  mapped : (runs : List Run) → AreRuns runs → ExtentsMean extents (view_of_runs runs)
+      → IsMapOfExtents extents (map_text runs) true
+  below : (view : View) → HasFirstBytes extents view → (stretch : Stretch)
+      → IsFirstDifference view extents stretch → IsMapOfExtents extents (below_text stretch) false
+  cut : (view : View) → HasFirstBytes extents view → (entry at : ℕ)
+      → CutsAlone view extents entry at → IsMapOfExtents extents (cut_text entry at) false
 
--- what is said of what a listing leaves: of the extents of its registers, or the line that says why they mean nothing
+-- what is said of what a listing leaves: of the extents of its registers, or the line that says why
+-- they mean nothing
 pub data IsMapOf (listing : Listing) : List ℕ → Bool → Type 0 where
   told :
-      listing.mseccfg ≡ 0 → (extents : List Extent) → AreExtents listing.registers extents → (text : List ℕ) (is_map : Bool) → IsMapOfExtents extents text is_map
+      listing.mseccfg ≡ 0 → (extents : List Extent) → AreExtents listing.registers extents
+      → (text : List ℕ) (is_map : Bool) → IsMapOfExtents extents text is_map
       → IsMapOf listing text is_map
   refused : (line : List ℕ) → IsRefusal listing line → IsMapOf listing line false
 
 -- the first bytes of pages change too often under what a listing leaves
 abbrev pub AreTooFine : Listing → Type 0
-AreTooFine listing = (extents : List Extent) × AreExtents listing.registers extents × IsTooFine extents
+AreTooFine listing = (extents : List Extent) × AreExtents listing.registers extents
+    × IsTooFine extents
 
--- the text is what is said of what the listing of registers of that width leaves, and after it a comment on lines that are passed over
+-- the text is what is said of what the listing of registers of that width leaves, and after it a
+-- comment on lines that are passed over
 pub record IsMapFile (xlen : Xlen) (listing text : List ℕ) (is_map : Bool) : Type 0 where
   pub leaves : Listing
   pub listed_as : listed xlen listing ≡ Some leaves

@@ -9,15 +9,17 @@ use Rattle.register_audit.specs.Registers.{count_on}
 use Rattle.register_text.specs.Texts.{IsRefusal, passed_text}
 use Rattle.map_table.specs.Tables.{IsExtentTable}
 
--- what is said of what a listing leaves, and whether the registers mean something: the table of their extents, or the line that
--- says why they mean nothing
+-- what is said of what a listing leaves, and whether the registers mean something: the table of
+-- their extents, or the line that says why they mean nothing
 pub data IsShown (listing : Listing) : List ℕ → Bool → Type 0 where
   shown :
-      listing.mseccfg ≡ 0 → (extents : List Extent) → AreExtents listing.registers extents → (text : List ℕ) → IsExtentTable extents (count_on listing.registers.cfgs) text
+      listing.mseccfg ≡ 0 → (extents : List Extent) → AreExtents listing.registers extents
+      → (text : List ℕ) → IsExtentTable extents (count_on listing.registers.cfgs) text
       → IsShown listing text true
   refused : (line : List ℕ) → IsRefusal listing line → IsShown listing line false
 
--- the text is what is said of what the listing of registers of that width leaves, and after it a comment on lines that are passed over
+-- the text is what is said of what the listing of registers of that width leaves, and after it a
+-- comment on lines that are passed over
 pub record IsRegisterTable (xlen : Xlen) (listing text : List ℕ) (meant : Bool) : Type 0 where
   pub leaves : Listing
   pub listed_as : listed xlen listing ≡ Some leaves

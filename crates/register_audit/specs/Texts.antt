@@ -1,5 +1,6 @@
 -- The line of a verdict.
-use Rattle.std.specs.Prelude.{ℕ, ◌+◌, ◌-◌, ◌==◌, if◌then◌else◌, List, ◌++◌, codes, decimal, Option, Some, None}
+use Rattle.std.specs.Prelude.{ℕ, ◌+◌, ◌-◌, ◌==◌, if◌then◌else◌, List, ◌++◌, codes, decimal, Option}
+use Rattle.std.specs.Prelude.{Some, None}
 use Rattle.text_lines.specs.Written.{hex}
 use Rattle.printed_lines.specs.Fields.{letters_of}
 use Rattle.pmp_match.specs.declared.registers.Registers.{Registers}
@@ -21,17 +22,20 @@ enough n = if n == 1 then codes " is enough" else codes " are enough"
 
 -- `differs 0xFIRST 0xLAST: `
 abbrev pub differs_text : ℕ → ℕ → List ℕ
-differs_text first last = codes "differs 0x" ++ hex 16 first ++ codes " 0x" ++ hex 16 last ++ codes ": "
+differs_text first last = codes "differs 0x" ++ hex 16 first ++ codes " 0x" ++ hex 16 last
+    ++ codes ": "
 
 -- the line of a stretch on which the map and the registers differ
 abbrev pub stretch_text : Stretch → List ℕ
 stretch_text stretch =
-    differs_text stretch.first (stretch.end - 1) ++ codes "map " ++ letters_of stretch.wanted ++ codes ", " ++ sayer stretch.entry ++ codes " " ++ letters_of stretch.given ++ codes "\n"
+    differs_text stretch.first (stretch.end - 1) ++ codes "map " ++ letters_of stretch.wanted
+    ++ codes ", " ++ sayer stretch.entry ++ codes " " ++ letters_of stretch.given ++ codes "\n"
 
 -- the line of a verdict on registers, where `fewest` entries are enough for the map
 abbrev pub verdict_text : ℕ → Registers → Verdict → List ℕ
 verdict_text fewest registers (verdicts.Means count) =
-    codes "means the map: " ++ decimal count ++ entries_named count ++ codes " where " ++ decimal fewest ++ enough fewest ++ codes "\n"
+    codes "means the map: " ++ decimal count ++ entries_named count ++ codes " where "
+    ++ decimal fewest ++ enough fewest ++ codes "\n"
 verdict_text fewest registers (verdicts.Differs stretch) = stretch_text stretch
 verdict_text fewest registers (verdicts.Cuts entry at) =
     differs_text at (at + 7) ++ sayer (Some entry) ++ codes " cuts an access of 8 bytes\n"

@@ -13,7 +13,8 @@ use Rattle.register_audit.specs.Findings.{CutsAlone, IsFirstDifference}
 
 -- what a verdict says is so
 abbrev pub IsVerdict : View → Registers → Verdict → Type 0
-IsVerdict view registers (verdicts.Means count) = RegistersMean registers view × (count_on registers.cfgs ≡ count)
+IsVerdict view registers (verdicts.Means count) = RegistersMean registers view
+    × (count_on registers.cfgs ≡ count)
 IsVerdict view registers (verdicts.Differs stretch) =
     (extents : List Extent) × AreExtents registers extents × IsFirstDifference view extents stretch
 IsVerdict view registers (verdicts.Cuts entry at) =

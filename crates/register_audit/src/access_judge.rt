@@ -1,9 +1,9 @@
 //! Rules as what the accesses of a trace are judged by.
 
 use crate::rules::Rules;
-use trace_answers::{Decider, Deciders};
-use pmp_match::{Access, Cause};
 use hart_trace::AccessJudge;
+use pmp_match::{Access, Cause};
+use trace_answers::{Decider, Deciders};
 
 impl AccessJudge for Rules {
     ghost use Rattle.register_audit.specs.Answers.{by_registers};

@@ -8,9 +8,8 @@ ghost use Rattle.register_audit.specs.Findings.{IsCut, IsFirstCut, IsFirstOf, Is
 ghost use Rattle.pmp_match.specs.Kinds.{holds};
 ghost use Rattle.pmp_match.specs.declared.access.Kind.TheVariants.{Load};
 
-use pmp_encoding::PAGE_SIZE;
 use permission_map::PermissionMap;
-use pmp_encoding::Perm;
+use pmp_encoding::{PAGE_SIZE, Perm};
 use pmp_match::Extent;
 
 /// Eight bytes that an entry cuts.

@@ -8,9 +8,8 @@ ghost use Rattle.register_audit.specs.Deciders.{by_entry};
 ghost use Rattle.register_audit.specs.Decision.{IsLocked, LetsThrough, RegistersAllow};
 
 use crate::extents::{contains, meets};
+use pmp_match::{Access, Extent, Mode, Registers, holds, is_machine};
 use trace_answers::Decider;
-use pmp_match::{Access, Mode, holds, is_machine};
-use pmp_match::{Extent, Registers};
 
 /// Whether the entry of a place is locked.
 fn is_locked(registers: &Registers, place: usize) -> bool

@@ -10,10 +10,10 @@ ghost use Rattle.register_audit.specs.Findings.{agrees};
 
 use crate::finding::is_odd;
 use crate::texts::stretch_line;
+use map_table::{Stretch, stretches};
 use permission_map::{Memory, PermissionMap};
 use pmp_match::{Registers, extents_of};
 use std::alloc::Global;
-use map_table::{Stretch, stretches};
 
 /// Appends the line of each of these stretches on which a map and registers differ.
 fn push_odd(text: &mut Vec<u8>, all: &[Stretch]) -> Result<(), Memory>

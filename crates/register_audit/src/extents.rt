@@ -3,8 +3,7 @@
 ghost use Rattle.std.specs.Prelude.{◌^◌, ◌<◌, ◌↔◌, IsTrue};
 ghost use Rattle.pmp_match.specs.RegisterDecision.{ContainsAll, IsWords, Meets};
 
-use pmp_match::Access;
-use pmp_match::Extent;
+use pmp_match::{Access, Extent};
 
 /// Whether the extent has some byte of the access.
 pub(crate) fn meets(extent: &Extent, access: &Access) -> bool

@@ -6,10 +6,10 @@ ghost use Rattle.pmp_match.specs.RegisterDecision.{IsWords};
 ghost use Rattle.register_audit.specs.Findings.{IsFinding, IsFirstOdd, agrees};
 
 use crate::cut_access::first_cut;
+use map_table::{Stretch, stretches};
 use permission_map::{Memory, PermissionMap};
 use pmp_match::Extent;
 use std::alloc::Global;
-use map_table::{Stretch, stretches};
 
 /// Whether extents mean a map, and where they do not.
 #[derive(Clone, Copy)]

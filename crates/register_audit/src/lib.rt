@@ -68,13 +68,13 @@ mod table;
 mod texts;
 mod verdict;
 
+pub use fault::MapOfFault;
 pub use finding::{Finding, compared};
-pub use listing_audit::{AuditFault, audit};
-pub use verdict::{Verdict, count_on, verdict_of};
-pub use table::{ListingFault, print_registers};
 pub use laws::{list_law, permits_law};
+pub use listing_audit::{AuditFault, audit};
 pub use listing_rules::{Ruled, RulesFault, rules_in};
+pub use map::print_map_of;
 pub use pmp_match::{Registers, Reserved, ReservedAt};
 pub use rules::Rules;
-pub use fault::MapOfFault;
-pub use map::print_map_of;
+pub use table::{ListingFault, print_registers};
+pub use verdict::{Verdict, count_on, verdict_of};

@@ -16,9 +16,9 @@ use crate::texts::verdict_line;
 use crate::verdict::{Verdict, verdict_of};
 use byte_streams::{Sink, write_whole};
 use permission_map::{Memory, PermissionMap};
+use pmp_encoding::Xlen;
 use pmp_match::Registers;
 use register_text::{Listing, listing_of, passed_line, smepmp_line, text_of_line};
-use pmp_encoding::Xlen;
 use std::alloc::Global;
 
 /// Why a listing was not audited.

@@ -8,8 +8,8 @@ ghost use Rattle.register_audit.specs.declared.listing_rules.RulesFault as Rules
 ghost use Rattle.register_audit.specs.Listings.{IsRuled};
 
 use crate::rules::Rules;
-use register_text::{Listing, extents_in, listing_of, passed_line, text_of_line};
 use pmp_encoding::Xlen;
+use register_text::{Listing, extents_in, listing_of, passed_line, text_of_line};
 use std::alloc::{AllocError, Global};
 use text_lines::Line;
 

@@ -16,14 +16,14 @@ ghost use Rattle.register_audit.specs.Pages.{IsTooFine};
 ghost use Rattle.register_audit.specs.MapTexts.{map_text};
 
 use crate::fault::{MapOfFault, Refusal};
-use crate::pages::first_bytes;
 use crate::map_texts::{below_line, cut_line, map_text};
+use crate::pages::first_bytes;
+use crate::{Finding, compared};
 use byte_streams::{Sink, write_whole};
 use permission_map::Memory;
-use pmp_match::Extent;
-use crate::{Finding, compared};
-use register_text::{Listing, extents_in, listing_of, passed_line, text_of_line};
 use pmp_encoding::Xlen;
+use pmp_match::Extent;
+use register_text::{Listing, extents_in, listing_of, passed_line, text_of_line};
 use std::alloc::Global;
 
 /// What is said of registers, and whether it is a map.

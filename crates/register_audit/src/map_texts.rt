@@ -4,11 +4,11 @@ ghost use Rattle.std.specs.Prelude.{◌≡◌, ◌+◌, ◌++◌, ◌*◌, ◌^�
 ghost use Rattle.permission_map.specs.Runs.{AreRuns, end_of};
 ghost use Rattle.register_audit.specs.MapTexts.{below_text, cut_text, map_text, run_text};
 
-use pmp_encoding::PAGE_SIZE;
+use map_table::Stretch;
 use permission_map::{Memory, PermissionMap, Run};
+use pmp_encoding::PAGE_SIZE;
 use printed_lines::letters;
 use std::alloc::Global;
-use map_table::Stretch;
 use text_lines::{Line, push_decimal, push_hex, push_text};
 
 /// The line of a range.

@@ -7,11 +7,11 @@ ghost use Rattle.register_audit.specs.declared.fault.Refusal as Refusal;
 ghost use Rattle.register_audit.specs.Pages.{HasFirstBytes, IsTooFine};
 
 use crate::fault::Refusal;
-use pmp_encoding::PAGE_SIZE;
+use map_table::stretches;
 use permission_map::{MapFault, PermissionMap};
+use pmp_encoding::PAGE_SIZE;
 use pmp_match::Extent;
 use std::alloc::Global;
-use map_table::stretches;
 
 /// The first page that does not begin before the byte.
 fn page_from(byte: u64) -> u64

@@ -8,11 +8,12 @@ ghost use Rattle.register_audit.specs.Deciders.{by_entry};
 ghost use Rattle.register_audit.specs.Judgement.{RegistersJudge};
 
 use crate::decision::{allow, first_met};
-use trace_answers::Decider;
 use pmp_encoding::SPACE_SIZE;
-use pmp_match::{Access, Cause, access_fault, is_aligned, misaligned};
-use pmp_match::{Extent, Registers, ReservedAt, extents_of};
+use pmp_match::{
+    Access, Cause, Extent, Registers, ReservedAt, access_fault, extents_of, is_aligned, misaligned,
+};
 use std::marker::Model;
+use trace_answers::Decider;
 
 /// Registers without a reserved value, and what each entry matches.
 #[derive(Drop)]

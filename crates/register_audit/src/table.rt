@@ -7,12 +7,12 @@ ghost use Rattle.register_text.specs.Texts.{passed_text};
 ghost use Rattle.register_audit.specs.declared.table.ListingFault as ListingFault;
 ghost use Rattle.register_audit.specs.Tables.{IsRegisterTable, IsShown};
 
+use crate::count_on;
 use byte_streams::{Sink, write_whole};
 use map_table::extent_table;
 use permission_map::Memory;
-use crate::count_on;
-use register_text::{Listing, extents_in, listing_of, passed_line, text_of_line};
 use pmp_encoding::Xlen;
+use register_text::{Listing, extents_in, listing_of, passed_line, text_of_line};
 use std::alloc::Global;
 
 /// Why a listing was not shown.

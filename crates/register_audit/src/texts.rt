@@ -7,10 +7,10 @@ ghost use Rattle.register_audit.specs.Texts.{differs_text, enough, entries_named
 ghost use Rattle.register_audit.specs.Verdicts.{IsWritable};
 
 use crate::verdict::Verdict;
+use map_table::Stretch;
 use pmp_match::Registers;
 use printed_lines::letters;
 use register_text::reserved_line;
-use map_table::Stretch;
 use text_lines::{Line, push_decimal, push_hex, push_text};
 
 fn entries_named(n: u64) -> &'static str

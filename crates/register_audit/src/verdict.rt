@@ -6,10 +6,10 @@ ghost use Rattle.register_audit.specs.Registers.{count_on, one_on};
 ghost use Rattle.register_audit.specs.Verdicts.{IsVerdict};
 
 use crate::finding::{Finding, compared};
+use map_table::Stretch;
 use permission_map::{Memory, PermissionMap};
 use pmp_match::{Registers, ReservedAt, extents_of};
 use std::alloc::Global;
-use map_table::Stretch;
 
 /// Whether registers mean a map, and where they do not.
 #[derive(Clone, Copy)]

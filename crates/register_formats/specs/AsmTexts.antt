@@ -1,5 +1,6 @@
 -- The registers as assembly.
-use Rattle.std.specs.Prelude.{◌≡◌, ℕ, ◌+◌, ◌-◌, ◌/◌, ◌==◌, if◌then◌else◌, List, [], ◌∷◌, ◌++◌, Option, Some, None, codes, decimal, length, slice_get}
+use Rattle.std.specs.Prelude.{◌≡◌, ℕ, ◌+◌, ◌-◌, ◌/◌, ◌==◌, if◌then◌else◌, List, [], ◌∷◌, ◌++◌}
+use Rattle.std.specs.Prelude.{Option, Some, None, codes, decimal, length, slice_get}
 use Rattle.std.specs.List.{concat}
 use Rattle.pmp_encoding.specs.declared.limit.Limit.{Limit}
 use Rattle.pmp_encoding.specs.declared.region.Entry.{Entry}
@@ -25,7 +26,8 @@ label_end (Some name) = codes "_load:\n"
 
 -- what stands at the head, with that label
 abbrev pub asm_head : Xlen → ℕ → List ℕ → List ℕ → List ℕ
-asm_head xlen first label end = concat (head_begin ∷ head_width xlen ∷ head_rules ∷ head_below first ∷ head_end ∷ label ∷ end ∷ [])
+asm_head xlen first label end = concat (head_begin ∷ head_width xlen ∷ head_rules ∷ head_below first
+    ∷ head_end ∷ label ∷ end ∷ [])
 
 -- which registers are changed
 abbrev pub asm_changed : Xlen → Limit → ℕ → List ℕ
@@ -33,9 +35,11 @@ asm_changed xlen limit first =
     if shared_words xlen limit first == 0 then codes "/* Only t0 is changed. */\n"
     else codes "/* Only t0 and t1 are changed. */\n"
 
--- an instruction that the other width lacks: for RV64 one that changes nothing, and for RV32 one that is passed over
+-- an instruction that the other width lacks: for RV64 one that changes nothing, and for RV32 one
+-- that is passed over
 abbrev pub asm_guard : Xlen → List ℕ
-asm_guard Rv32 = codes "    j       1f /* over what an assembler for RV64 refuses */\n    rdtimeh zero\n1:\n"
+asm_guard Rv32 =
+    codes "    j       1f /* over what an assembler for RV64 refuses */\n    rdtimeh zero\n1:\n"
 asm_guard Rv64 = codes "    addiw   zero, zero, 0 /* an assembler for RV32 refuses this */\n"
 
 -- both
@@ -45,18 +49,24 @@ asm_begin xlen limit first = asm_changed xlen limit first ++ asm_guard xlen
 -- the instructions that write the address register of the list's entry i, with that entry
 abbrev pub asm_address_row : Xlen → ℕ → List Entry → ℕ → List ℕ
 asm_address_row xlen first entries i =
-    (codes "    li      t0, 0x" ++ register_text xlen (address_or_zero (slice_get entries i)) ++ codes " /* " ++ note_text (first + i) (slice_get entries i) ++ codes " */\n")
+    (codes "    li      t0, 0x" ++ register_text xlen (address_or_zero (slice_get entries i))
+    ++ codes " /* " ++ note_text (first + i) (slice_get entries i) ++ codes " */\n")
     ++ (codes "    csrw    pmpaddr" ++ decimal (first + i) ++ codes ", t0\n")
 
 -- those that read a shared word, and keep the bits of the entries below the first
 abbrev pub asm_kept : Xlen → ℕ → List ℕ
 asm_kept xlen first =
-    codes "    csrr    t1, pmpcfg" ++ decimal (word_number xlen (first / word_entries xlen)) ++ codes "\n    li      t0, 0x" ++ register_text xlen (kept_bits xlen first) ++ codes "\n    and     t1, t1, t0\n"
+    codes "    csrr    t1, pmpcfg" ++ decimal (word_number xlen (first / word_entries xlen))
+    ++ codes "\n    li      t0, 0x" ++ register_text xlen (kept_bits xlen first)
+    ++ codes "\n    and     t1, t1, t0\n"
 
 -- and those that write them with the bytes of the list
 abbrev pub asm_joined : Xlen → ℕ → List Entry → List ℕ
 asm_joined xlen first entries =
-    codes "    li      t0, 0x" ++ register_text xlen (word_from xlen first entries (first / word_entries xlen)) ++ codes "\n    or      t0, t0, t1\n    csrw    pmpcfg" ++ decimal (word_number xlen (first / word_entries xlen)) ++ codes ", t0\n"
+    codes "    li      t0, 0x" ++ register_text xlen
+    (word_from xlen first entries (first / word_entries xlen))
+    ++ codes "\n    or      t0, t0, t1\n    csrw    pmpcfg"
+    ++ decimal (word_number xlen (first / word_entries xlen)) ++ codes ", t0\n"
 
 -- the write of the word that is shared
 abbrev pub asm_shared_row : Xlen → ℕ → List Entry → ℕ → List ℕ
@@ -65,13 +75,17 @@ asm_shared_row xlen first entries i = asm_kept xlen first ++ asm_joined xlen fir
 -- those that write a word which has no entry below the first
 abbrev pub asm_word_row : Xlen → ℕ → List Entry → ℕ → List ℕ
 asm_word_row xlen first entries i =
-    (codes "    li      t0, 0x" ++ register_text xlen (word_from xlen first entries (whole_word xlen first + i)) ++ codes "\n")
-    ++ (codes "    csrw    pmpcfg" ++ decimal (word_number xlen (whole_word xlen first + i)) ++ codes ", t0\n")
+    (codes "    li      t0, 0x" ++ register_text xlen
+    (word_from xlen first entries (whole_word xlen first + i)) ++ codes "\n")
+    ++ (codes "    csrw    pmpcfg" ++ decimal (word_number xlen (whole_word xlen first + i))
+    ++ codes ", t0\n")
 
 -- all words that have an entry from the first on, in which those after the list are off
 abbrev pub asm_words : Xlen → Limit → ℕ → List Entry → List ℕ
 asm_words xlen limit first entries =
-    rows_text (asm_shared_row xlen first entries) 0 (shared_words xlen limit first) ++ rows_text (asm_word_row xlen first entries) 0 (word_count xlen limit - whole_word xlen first)
+    rows_text (asm_shared_row xlen first entries) 0 (shared_words xlen limit first)
+    ++ rows_text (asm_word_row xlen first entries) 0
+    (word_count xlen limit - whole_word xlen first)
 
 -- the last instruction, and after it the end of a routine
 abbrev pub asm_end : Option (List ℕ) → List ℕ
@@ -82,7 +96,8 @@ asm_end (Some name) = codes "    sfence.vma\n    ret\n"
 abbrev pub asm_text : Option (List ℕ) → Xlen → Limit → ℕ → List Entry → List ℕ
 asm_text name xlen limit first entries =
     asm_head xlen first (label_of name) (label_end name)
-    ++ ((asm_begin xlen limit first ++ rows_text (asm_address_row xlen first entries) 0 (length entries))
+    ++ ((asm_begin xlen limit first ++ rows_text (asm_address_row xlen first entries) 0
+    (length entries))
     ++ (asm_words xlen limit first entries
     ++ asm_end name))
 

@@ -1,5 +1,6 @@
 -- The registers as C.
-use Rattle.std.specs.Prelude.{◌≡◌, ℕ, ◌+◌, ◌-◌, ◌/◌, ◌==◌, if◌then◌else◌, List, [], ◌∷◌, ◌++◌, Option, codes, decimal, length}
+use Rattle.std.specs.Prelude.{◌≡◌, ℕ, ◌+◌, ◌-◌, ◌/◌, ◌==◌, if◌then◌else◌, List, [], ◌∷◌, ◌++◌}
+use Rattle.std.specs.Prelude.{Option, codes, decimal, length}
 use Rattle.std.specs.List.{concat}
 use Rattle.pmp_encoding.specs.declared.limit.Limit.{Limit}
 use Rattle.pmp_encoding.specs.declared.limit.Limit.TheVariants.{Sixteen, SixtyFour}
@@ -15,10 +16,13 @@ use Rattle.register_formats.specs.Heads.{head_begin, head_below, head_end, head_
 use Rattle.register_formats.specs.Shared.{kept_bits, shared_words}
 use Rattle.register_formats.specs.Rows.{rows_text}
 
--- what stands before the arrays: a compiler for RISC-V of the other width refuses the text; one for another processor does not
+-- what stands before the arrays: a compiler for RISC-V of the other width refuses the text; one for
+-- another processor does not
 abbrev pub c_begin : Xlen → List ℕ
-c_begin Rv32 = codes "#if defined(__riscv) && __riscv_xlen != 32\n#error \"these are the registers of RV32\"\n#endif\n\n#include <stdint.h>\n\nstatic const uint32_t "
-c_begin Rv64 = codes "#if defined(__riscv) && __riscv_xlen != 64\n#error \"these are the registers of RV64\"\n#endif\n\n#include <stdint.h>\n\nstatic const uint64_t "
+c_begin Rv32 =
+    codes "#if defined(__riscv) && __riscv_xlen != 32\n#error \"these are the registers of RV32\"\n#endif\n\n#include <stdint.h>\n\nstatic const uint32_t "
+c_begin Rv64 =
+    codes "#if defined(__riscv) && __riscv_xlen != 64\n#error \"these are the registers of RV64\"\n#endif\n\n#include <stdint.h>\n\nstatic const uint64_t "
 
 -- the rest of the name of the array of address registers, and its size
 abbrev pub c_addresses_size : Limit → List ℕ
@@ -28,7 +32,8 @@ c_addresses_size SixtyFour = codes "addr[64] = {\n"
 -- an address register: `    0x00000000040001ff, /* 0: 0x0000000010000000, 4 KiB, rw */`
 abbrev pub c_address_row : Xlen → ℕ → List Entry → ℕ → List ℕ
 c_address_row xlen first entries i =
-    codes "    0x" ++ register_text xlen (address_or_zero (entry_from first entries i)) ++ codes ", /* " ++ place_text first i (entry_from first entries i) ++ codes " */\n"
+    codes "    0x" ++ register_text xlen (address_or_zero (entry_from first entries i))
+    ++ codes ", /* " ++ place_text first i (entry_from first entries i) ++ codes " */\n"
 
 -- its end, and the beginning of the array of configuration words
 abbrev pub c_between : Xlen → List ℕ
@@ -48,11 +53,15 @@ c_word_row xlen first entries i =
     (codes "    0x" ++ register_text xlen (word_from xlen first entries i))
     ++ (codes ", /* pmpcfg" ++ decimal (word_number xlen i) ++ codes " */\n")
 
--- all address registers of a hart, each with its entry, that it is off, or that it is left as it is, and all configuration words
+-- all address registers of a hart, each with its entry, that it is off, or that it is left as it
+-- is, and all configuration words
 abbrev pub c_arrays : List ℕ → List ℕ → Xlen → Limit → ℕ → List Entry → List ℕ
 c_arrays prefix link xlen limit first entries =
-    (concat (head_begin ∷ head_width xlen ∷ head_rules ∷ head_below first ∷ head_end ∷ c_begin xlen ∷ prefix ∷ link ∷ c_addresses_size limit ∷ []) ++ rows_text (c_address_row xlen first entries) 0 (limit_number limit))
-    ++ (concat (c_between xlen ∷ prefix ∷ link ∷ c_words_size xlen limit ∷ []) ++ rows_text (c_word_row xlen first entries) 0 (word_count xlen limit))
+    (concat (head_begin ∷ head_width xlen ∷ head_rules ∷ head_below first ∷ head_end ∷ c_begin xlen
+    ∷ prefix ∷ link ∷ c_addresses_size limit ∷ [])
+    ++ rows_text (c_address_row xlen first entries) 0 (limit_number limit))
+    ++ (concat (c_between xlen ∷ prefix ∷ link ∷ c_words_size xlen limit ∷ [])
+    ++ rows_text (c_word_row xlen first entries) 0 (word_count xlen limit))
 
 -- the end of the second array, and what stands before the number of entries
 abbrev pub c_count_begin : List ℕ
@@ -65,7 +74,8 @@ c_loader_note = codes " };\n\n#ifdef __riscv\n/*\n"
 -- which of them it writes
 abbrev pub c_loader_writes : ℕ → List ℕ
 c_loader_writes first =
-    if first == 0 then codes " * Writes all of them. Machine mode calls it on each hart, with mstatus.MPRV = 0.\n"
+    if first == 0
+    then codes " * Writes all of them. Machine mode calls it on each hart, with mstatus.MPRV = 0.\n"
     else
     codes " * Writes those of the first entry in use and of all after it. The others are left as\n"
     ++ codes " * they are, and so are their bytes of a configuration word that they share with these.\n"
@@ -81,9 +91,11 @@ c_loader_reason =
     ++ codes " * After sfence.vma nothing that was checked against the older list is used.\n */\n"
     ++ codes "static inline void "
 
--- an instruction that writes an address register: `    __asm__ volatile("csrw pmpaddr0, %0" : : "r"(addr[0]));`
+-- an instruction that writes an address register: ` __asm__ volatile("csrw pmpaddr0, %0" : :
+-- "r"(addr[0]));`
 abbrev pub c_address_write : ℕ → ℕ → List ℕ
-c_address_write first i = codes "    __asm__ volatile(\"csrw pmpaddr" ++ decimal (first + i) ++ codes ", %0\" : : \"r\"(addr[" ++ decimal (first + i) ++ codes "]));\n"
+c_address_write first i = codes "    __asm__ volatile(\"csrw pmpaddr" ++ decimal (first + i)
+    ++ codes ", %0\" : : \"r\"(addr[" ++ decimal (first + i) ++ codes "]));\n"
 
 -- what stands before the number of a shared word
 abbrev pub c_kept_begin : Xlen → List ℕ
@@ -93,20 +105,27 @@ c_kept_begin Rv64 = codes "    uint64_t kept;\n    __asm__ volatile(\"csrr %0, p
 -- those that read a shared word, and keep the bits of the entries below the first
 abbrev pub c_kept : Xlen → ℕ → List ℕ
 c_kept xlen first =
-    c_kept_begin xlen ++ decimal (word_number xlen (first / word_entries xlen)) ++ codes "\" : \"=r\"(kept));\n    kept &= 0x" ++ register_text xlen (kept_bits xlen first) ++ codes ";\n"
+    c_kept_begin xlen ++ decimal (word_number xlen (first / word_entries xlen))
+    ++ codes "\" : \"=r\"(kept));\n    kept &= 0x" ++ register_text xlen (kept_bits xlen first)
+    ++ codes ";\n"
 
 -- and the one that writes them with the bytes of the list
 abbrev pub c_joined : Xlen → ℕ → List ℕ
-c_joined xlen first = codes "    __asm__ volatile(\"csrw pmpcfg" ++ decimal (word_number xlen (first / word_entries xlen)) ++ codes ", %0\" : : \"r\"(kept | cfg[" ++ decimal (first / word_entries xlen) ++ codes "]));\n"
+c_joined xlen first = codes "    __asm__ volatile(\"csrw pmpcfg"
+    ++ decimal (word_number xlen (first / word_entries xlen))
+    ++ codes ", %0\" : : \"r\"(kept | cfg[" ++ decimal (first / word_entries xlen) ++ codes "]));\n"
 
 -- the write of the word that is shared
 abbrev pub c_shared_write : Xlen → ℕ → ℕ → List ℕ
 c_shared_write xlen first i = c_kept xlen first ++ c_joined xlen first
 
--- one that writes another configuration word: `    __asm__ volatile("csrw pmpcfg2, %0" : : "r"(cfg[1]));`
+-- one that writes another configuration word: ` __asm__ volatile("csrw pmpcfg2, %0" : :
+-- "r"(cfg[1]));`
 abbrev pub c_word_write : Xlen → ℕ → ℕ → List ℕ
 c_word_write xlen first i =
-    codes "    __asm__ volatile(\"csrw pmpcfg" ++ decimal (word_number xlen (whole_word xlen first + i)) ++ codes ", %0\" : : \"r\"(cfg[" ++ decimal (whole_word xlen first + i) ++ codes "]));\n"
+    codes "    __asm__ volatile(\"csrw pmpcfg"
+    ++ decimal (word_number xlen (whole_word xlen first + i)) ++ codes ", %0\" : : \"r\"(cfg["
+    ++ decimal (whole_word xlen first + i) ++ codes "]));\n"
 
 -- the last instruction, and the end
 abbrev pub c_loader_end : List ℕ
@@ -132,25 +151,31 @@ c_load_begin = codes "cfg;\n\n"
 abbrev pub c_loader_begin : List ℕ → List ℕ → Xlen → ℕ → List ℕ → List ℕ
 c_loader_begin prefix link xlen first count =
     concat (
-    c_count_begin ∷ prefix ∷ c_count_is ∷ count ∷ c_loader_note ∷ c_loader_writes first ∷ c_loader_reason ∷ prefix ∷ c_load_addresses xlen ∷ prefix ∷ link ∷ c_load_words xlen
+    c_count_begin ∷ prefix ∷ c_count_is ∷ count ∷ c_loader_note ∷ c_loader_writes first
+    ∷ c_loader_reason ∷ prefix ∷ c_load_addresses xlen ∷ prefix ∷ link ∷ c_load_words xlen
     ∷ prefix ∷ link ∷ c_load_begin ∷ []
     )
 
 -- all words that have an entry from the first on
 abbrev pub c_word_writes : Xlen → Limit → ℕ → List ℕ
-c_word_writes xlen limit first = rows_text (c_shared_write xlen first) 0 (shared_words xlen limit first) ++ rows_text (c_word_write xlen first) 0 (word_count xlen limit - whole_word xlen first)
+c_word_writes xlen limit first = rows_text (c_shared_write xlen first) 0
+    (shared_words xlen limit first) ++ rows_text (c_word_write xlen first) 0
+    (word_count xlen limit - whole_word xlen first)
 
--- the number of entries, and a function that writes the address registers from the first on, then the configuration words
+-- the number of entries, and a function that writes the address registers from the first on, then
+-- the configuration words
 abbrev pub c_loader : List ℕ → List ℕ → Xlen → Limit → ℕ → List ℕ → List ℕ
 c_loader prefix link xlen limit first count =
-    (c_loader_begin prefix link xlen first count ++ rows_text (c_address_write first) 0 (limit_number limit - first))
+    (c_loader_begin prefix link xlen first count
+    ++ rows_text (c_address_write first) 0 (limit_number limit - first))
     ++ (c_word_writes xlen limit first
     ++ c_loader_end)
 
 -- the arrays, and after them what writes them
 abbrev pub c_text : Option (List ℕ) → Xlen → Limit → ℕ → List Entry → List ℕ
 c_text name xlen limit first entries =
-    c_arrays (prefix_of name) (array_link name) xlen limit first entries ++ c_loader (prefix_of name) (array_link name) xlen limit first (decimal (length entries))
+    c_arrays (prefix_of name) (array_link name) xlen limit first entries
+    ++ c_loader (prefix_of name) (array_link name) xlen limit first (decimal (length entries))
 
 -- the text of entries that stand on a hart from `first` on
 abbrev pub IsCText : Option (List ℕ) → Xlen → Limit → ℕ → List Entry → List ℕ → Type 0

@@ -1,5 +1,7 @@
 -- A plan as JSON.
-use Rattle.std.specs.Prelude.{◌≡◌, ℕ, ◌+◌, ◌-◌, ◌^◌, ◌<◌, ◌≤◌, ◌==◌, nat_lt, if◌then◌else◌, List, [], ◌∷◌, ◌++◌, Option, Some, None, codes, decimal, length, slice_get, slice_index}
+use Rattle.std.specs.Prelude.{◌≡◌, ℕ, ◌+◌, ◌-◌, ◌^◌, ◌<◌, ◌≤◌, ◌==◌, nat_lt, if◌then◌else◌, List}
+use Rattle.std.specs.Prelude.{[], ◌∷◌, ◌++◌, Option, Some, None, codes, decimal, length, slice_get}
+use Rattle.std.specs.Prelude.{slice_index}
 use Rattle.pmp_encoding.specs.declared.limit.Limit.{Limit}
 use Rattle.pmp_encoding.specs.declared.limit.Limit.TheVariants.{Sixteen, SixtyFour}
 use Rattle.pmp_encoding.specs.declared.region.Entry.{Entry}
@@ -14,9 +16,11 @@ use Rattle.text_lines.specs.Written.{hex}
 use Rattle.pmp_encoding.specs.Perms.{perm_word}
 use Rattle.register_formats.specs.Rows.{rows_text}
 
--- a byte of a name in a string: a quote and a backslash after a backslash, a control character by its number
+-- a byte of a name in a string: a quote and a backslash after a backslash, a control character by
+-- its number
 abbrev pub json_byte : ℕ → List ℕ
-json_byte b = if b == 34 then codes "\\\"" else if b == 92 then codes "\\\\" else if nat_lt b 32 then codes "\\u" ++ hex 4 b else b ∷ []
+json_byte b = if b == 34 then codes "\\\"" else if b == 92 then codes "\\\\" else if nat_lt b 32
+    then codes "\\u" ++ hex 4 b else b ∷ []
 
 -- what stands before an item of a list: a comma where it is not the first, and a line's end
 abbrev pub json_before : ℕ → List ℕ
@@ -46,16 +50,19 @@ json_width Rv64 = []
 
 -- all three, and what stands before the entries
 abbrev pub json_entries_begin : Xlen → Limit → ℕ → List ℕ
-json_entries_begin xlen limit first = json_limit limit ++ json_width xlen ++ json_first first ++ codes "  \"entries\": ["
+json_entries_begin xlen limit first = json_limit limit ++ json_width xlen ++ json_first first
+    ++ codes "  \"entries\": ["
 
 -- the number and the pair of the list's entry i
 abbrev pub json_registers : Xlen → ℕ → ℕ → Entry → List ℕ
 json_registers xlen first i e =
-    json_before i ++ codes "    {\"index\": " ++ decimal (first + i) ++ codes ", \"cfg\": " ++ decimal (cfg_of e) ++ codes ", \"addr\": \"0x" ++ register_text xlen (address_of e)
+    json_before i ++ codes "    {\"index\": " ++ decimal (first + i) ++ codes ", \"cfg\": "
+    ++ decimal (cfg_of e) ++ codes ", \"addr\": \"0x" ++ register_text xlen (address_of e)
 
 -- its region in bytes, and what may be done there
 abbrev pub json_region : Entry → List ℕ
-json_region e = codes "\", \"base\": \"0x" ++ hex 16 e.region.base ++ codes "\", \"size\": " ++ decimal (2 ^ e.region.log2) ++ codes ", \"perm\": \"" ++ perm_word e.perm ++ codes "\"}"
+json_region e = codes "\", \"base\": \"0x" ++ hex 16 e.region.base ++ codes "\", \"size\": "
+    ++ decimal (2 ^ e.region.log2) ++ codes ", \"perm\": \"" ++ perm_word e.perm ++ codes "\"}"
 
 -- an entry: both of these
 abbrev pub json_entry : Xlen → ℕ → ℕ → Option Entry → List ℕ
@@ -72,18 +79,21 @@ json_words_begin = codes "\n  ],\n  \"pmpcfg\": ["
 
 -- a configuration word, in which the bytes of entries below the first are zero
 abbrev pub json_word_row : Xlen → ℕ → List Entry → ℕ → List ℕ
-json_word_row xlen first entries i = json_before i ++ codes "    \"0x" ++ register_text xlen (word_from xlen first entries i) ++ codes "\""
+json_word_row xlen first entries i = json_before i ++ codes "    \"0x"
+    ++ register_text xlen (word_from xlen first entries i) ++ codes "\""
 
 -- the object, with so many words
 abbrev pub json_text : List ℕ → Xlen → Limit → ℕ → List Entry → ℕ → List ℕ
 json_text name xlen limit first entries words =
     (json_map_begin ++ rows_text (json_name_row name) 0 (length name))
-    ++ ((json_entries_begin xlen limit first ++ rows_text (json_entry_row xlen first entries) 0 (length entries))
+    ++ ((json_entries_begin xlen limit first
+    ++ rows_text (json_entry_row xlen first entries) 0 (length entries))
     ++ ((json_words_begin ++ rows_text (json_word_row xlen first entries) 0 words)
     ++ codes "\n  ]\n}\n"))
 
 -- the object, with all words of the hart, and with none where it has no room for the entries
-pub record IsJsonText (name : List ℕ) (xlen : Xlen) (limit : Limit) (first : ℕ) (entries : List Entry) (text : List ℕ) : Type 0 where
+pub record IsJsonText (name : List ℕ) (xlen : Xlen) (limit : Limit) (first : ℕ)
+    (entries : List Entry) (text : List ℕ) : Type 0 where
   pub words : ℕ
   pub fits : length entries ≤ limit_number limit - first → words ≡ word_count xlen limit
   pub too_many : limit_number limit - first < length entries → words ≡ 0

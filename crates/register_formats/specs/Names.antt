@@ -1,5 +1,6 @@
 -- Entries as people read them.
-use Rattle.std.specs.Prelude.{ℕ, ◌^◌, ◌++◌, nat_lt, if◌then◌else◌, List, [], Option, Some, None, codes, decimal}
+use Rattle.std.specs.Prelude.{ℕ, ◌^◌, ◌++◌, nat_lt, if◌then◌else◌, List, [], Option, Some, None}
+use Rattle.std.specs.Prelude.{codes, decimal}
 use Rattle.pmp_encoding.specs.declared.region.Entry.{Entry}
 use Rattle.pmp_encoding.specs.Encoding.{address_of}
 use Rattle.text_lines.specs.Written.{hex}
@@ -29,7 +30,8 @@ note_text i entry = decimal i ++ codes ": " ++ region_or_off entry
 
 -- the same of entry i of a hart, where those below the first stay as they are
 abbrev pub place_text : ℕ → ℕ → Option Entry → List ℕ
-place_text first i entry = if nat_lt i first then decimal i ++ codes ": left as it is" else note_text i entry
+place_text first i entry = if nat_lt i first then decimal i ++ codes ": left as it is"
+    else note_text i entry
 
 -- the address register of an entry, and zero where there is none
 abbrev pub address_or_zero : Option Entry → ℕ
@@ -41,7 +43,8 @@ abbrev pub prefix_of : Option (List ℕ) → List ℕ
 prefix_of (Some name) = name
 prefix_of None = codes "pmp"
 
--- what stands after it in the names of the arrays, which are `uart_pmpaddr` and `uart_pmpcfg` with the name `uart`
+-- what stands after it in the names of the arrays, which are `uart_pmpaddr` and `uart_pmpcfg` with
+-- the name `uart`
 abbrev pub array_link : Option (List ℕ) → List ℕ
 array_link (Some name) = codes "_pmp"
 array_link None = []

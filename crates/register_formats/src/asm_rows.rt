@@ -6,9 +6,8 @@ ghost use Rattle.register_formats.specs.AsmTexts.{asm_begin, asm_changed, asm_en
 use crate::names::{address_or_zero, entry_at, push_note};
 use crate::rows::{Row, Rows};
 use crate::shared::{kept_bits, shared_words};
-use pmp_encoding::{Limit, PackedEntry};
+use pmp_encoding::{Limit, PackedEntry, Xlen};
 use printed_lines::{push_register, word_from};
-use pmp_encoding::Xlen;
 use text_lines::{Line, push_decimal, push_text};
 
 /// The last instruction, and after it the end of a routine, where it has a name.

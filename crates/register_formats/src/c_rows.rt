@@ -5,9 +5,8 @@ ghost use Rattle.register_formats.specs.CTexts.{c_addresses_size, c_begin, c_bet
 
 use crate::names::{address_or_zero, push_place};
 use crate::rows::{Row, Rows};
-use pmp_encoding::{Limit, PackedEntry};
+use pmp_encoding::{Limit, PackedEntry, Xlen};
 use printed_lines::{entry_from, push_register, word_from};
-use pmp_encoding::Xlen;
 use text_lines::{Line, push_decimal, push_text};
 
 /// What stands before the arrays, with a guard that a compiler for the other width refuses.

@@ -5,8 +5,8 @@ ghost use Rattle.register_formats.specs.CTexts.{c_joined, c_kept, c_kept_begin};
 
 use crate::rows::{Row, Rows};
 use crate::shared::kept_bits;
-use printed_lines::push_register;
 use pmp_encoding::Xlen;
+use printed_lines::push_register;
 use text_lines::{Line, push_decimal, push_text};
 
 /// An instruction for each address register from the first on.

@@ -5,9 +5,8 @@ ghost use Rattle.register_formats.specs.JsonTexts.{json_before, json_byte, json_
 
 use crate::names::{entry_at, power_of_two};
 use crate::rows::{Row, Rows};
-use pmp_encoding::{Entry, Limit, PackedEntry};
+use pmp_encoding::{Entry, Limit, PackedEntry, Xlen};
 use printed_lines::{push_register, word_from};
-use pmp_encoding::Xlen;
 use text_lines::{Line, push_decimal, push_hex, push_text};
 
 /// The limit.

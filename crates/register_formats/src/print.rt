@@ -16,9 +16,8 @@ use crate::rows::{print_both, print_section, print_texts, print_titled};
 use crate::shared::shared_words;
 use crate::{asm_rows, c_rows, c_writes, json_rows};
 use byte_streams::{DeviceFault, Sink, write_whole};
-use pmp_encoding::{Limit, PackedEntry};
+use pmp_encoding::{Limit, PackedEntry, Xlen};
 use printed_lines::room_from;
-use pmp_encoding::Xlen;
 
 /// Writes the arrays of a hart's registers in C.
 fn print_arrays<W: Sink>(

@@ -3,8 +3,7 @@
 ghost use Rattle.std.specs.Prelude.{◌≡◌, ◌≤◌};
 ghost use Rattle.register_formats.specs.Shared.{kept_bits, shared_words};
 
-use pmp_encoding::Limit;
-use pmp_encoding::Xlen;
+use pmp_encoding::{Limit, Xlen};
 
 /// How many words are shared.
 pub(crate) fn shared_words(xlen: Xlen, limit: Limit, first: u8) -> usize

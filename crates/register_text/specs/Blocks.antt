@@ -1,5 +1,7 @@
 -- The block of a region, by its first and its last address.
-use Rattle.std.specs.Prelude.{◌≡◌, ◌⊎◌, true, ℕ, ◌<◌, ◌≤◌, zero, suc, ◌+◌, ◌*◌, ◌-◌, ◌/◌, ◌%◌, ◌^◌, ◌==◌, ◌&&◌, ◌||◌, Bool, nat_le, nat_eq, if◌then◌else◌, Option, Some, None}
+use Rattle.std.specs.Prelude.{◌≡◌, ◌⊎◌, true, ℕ, ◌<◌, ◌≤◌, zero, suc, ◌+◌, ◌*◌, ◌-◌, ◌/◌, ◌%◌, ◌^◌}
+use Rattle.std.specs.Prelude.{◌==◌, ◌&&◌, ◌||◌, Bool, nat_le, nat_eq, if◌then◌else◌, Option, Some}
+use Rattle.std.specs.Prelude.{None}
 use Rattle.std.specs.Option.{option_and_then}
 use Rattle.pmp_encoding.specs.declared.perm.Perm.{Perm}
 use Rattle.pmp_encoding.specs.Perms.{bits_of}
@@ -10,19 +12,24 @@ use Rattle.pmp_encoding.specs.declared.region.Region.{Region}
 -- the first k of so many, from a number on, of which 2^k is the size
 abbrev pub exponent_from : ℕ → ℕ → ℕ → Option ℕ
 exponent_from k zero size = None
-exponent_from k (suc count) size = if size == 2 ^ k then Some k else exponent_from (k + 1) count size
+exponent_from k (suc count) size = if size == 2 ^ k then Some k
+    else exponent_from (k + 1) count size
 
 -- the exponent of a size that is a power of two, from four bytes to the whole space
 unfoldable pub exponent_of : ℕ → Option ℕ
 exponent_of size = exponent_from 2 55 size
 
--- a block by its base and its exponent: aligned to its size, and inside the space of a hart of that width
+-- a block by its base and its exponent: aligned to its size, and inside the space of a hart of that
+-- width
 abbrev pub block_at : Xlen → ℕ → ℕ → Option (ℕ × ℕ)
-block_at xlen base log2 = if base % 2 ^ log2 == 0 && nat_le (base + 2 ^ log2) (space_end xlen) then Some (base, log2) else None
+block_at xlen base log2 = if base % 2 ^ log2 == 0 && nat_le (base + 2 ^ log2) (space_end xlen)
+    then Some (base, log2) else None
 
--- from 0 to the highest number that a register of the hart holds, or that one of 64 bits does: the whole space
+-- from 0 to the highest number that a register of the hart holds, or that one of 64 bits does: the
+-- whole space
 abbrev pub is_all : Xlen → ℕ → ℕ → Bool
-is_all xlen first last = first == 0 && (last == 2 ^ xlen_bits xlen - 1 || last == 18446744073709551615)
+is_all xlen first last = first == 0
+    && (last == 2 ^ xlen_bits xlen - 1 || last == 18446744073709551615)
 
 -- 2 to that number is the size of the space
 abbrev pub space_log2 : Xlen → ℕ
@@ -30,7 +37,8 @@ space_log2 xlen = address_bits xlen + 2
 
 -- the block from a first to a last address, where these are a block
 abbrev pub block_from : Xlen → ℕ → ℕ → Option (ℕ × ℕ)
-block_from xlen first last = if is_all xlen first last then Some (0, space_log2 xlen) else option_and_then (block_at xlen first) (exponent_of (last + 1 - first))
+block_from xlen first last = if is_all xlen first last then Some (0, space_log2 xlen)
+    else option_and_then (block_at xlen first) (exponent_of (last + 1 - first))
 
 -- the configuration byte of a block and a permission: NA4 for four bytes, otherwise NAPOT
 abbrev pub cfg_by : ℕ → Perm → ℕ
@@ -49,4 +57,5 @@ pub record IsExponentBelow (end size log2 : ℕ) : Type 0 where
 -- the region has the addresses from the first to the last; or it is the whole space, as they say
 abbrev pub IsBlockOf : Xlen → ℕ → ℕ → Region → Type 0
 IsBlockOf xlen first last region =
-    ((region.base ≡ first) × (region.base + 2 ^ region.log2 ≡ last + 1)) ⊎ ((is_all xlen first last ≡ true) × (region.base ≡ 0) × (region.log2 ≡ space_log2 xlen))
+    ((region.base ≡ first) × (region.base + 2 ^ region.log2 ≡ last + 1))
+    ⊎ ((is_all xlen first last ≡ true) × (region.base ≡ 0) × (region.log2 ≡ space_log2 xlen))

@@ -1,22 +1,28 @@
 -- The letters of a region, as `(R,W)`.
-use Rattle.std.specs.Prelude.{ℕ, ◌-◌, ◌==◌, ◌||◌, ◌&&◌, Bool, true, false, nat_lt, nat_le, if◌then◌else◌, List, [], ◌∷◌, length, take, drop, Option, Some, None, codes, bytes_eq}
+use Rattle.std.specs.Prelude.{ℕ, ◌-◌, ◌==◌, ◌||◌, ◌&&◌, Bool, true, false, nat_lt, nat_le}
+use Rattle.std.specs.Prelude.{if◌then◌else◌, List, [], ◌∷◌, length, take, drop, Option, Some, None}
+use Rattle.std.specs.Prelude.{codes, bytes_eq}
 use Rattle.std.specs.List.{position_or_len}
 use Rattle.std.specs.Option.{option_and_then}
 use Rattle.std.specs.Str.{str_eq_ignore_ascii_case}
 use Rattle.pmp_encoding.specs.declared.perm.Perm.{Perm}
-use Rattle.pmp_encoding.specs.declared.perm.Perm.TheVariants.{NoAccess, Read, ReadWrite, Execute, ReadExecute, ReadWriteExecute}
+use Rattle.pmp_encoding.specs.declared.perm.Perm.TheVariants.{NoAccess, Read, ReadWrite, Execute}
+use Rattle.pmp_encoding.specs.declared.perm.Perm.TheVariants.{ReadExecute, ReadWriteExecute}
 
 -- what stands after a name that a word begins with
 abbrev pub behind : List ℕ → List ℕ → Option (List ℕ)
-behind word name = if nat_le (length name) (length word) && bytes_eq (take (length name) word) name then Some (drop (length name) word) else None
+behind word name = if nat_le (length name) (length word) && bytes_eq (take (length name) word) name
+    then Some (drop (length name) word) else None
 
 -- a word begins with a name, in upper or lower case
 abbrev pub begins_with : List ℕ → List ℕ → Bool
-begins_with word name = nat_le (length name) (length word) && str_eq_ignore_ascii_case (take (length name) word) name
+begins_with word name = nat_le (length name) (length word)
+    && str_eq_ignore_ascii_case (take (length name) word) name
 
 -- what stands before a closing parenthesis at the end
 abbrev pub before_end : List ℕ → Option (List ℕ)
-before_end text = if bytes_eq (drop (length text - 1) text) (codes ")") then Some (take (length text - 1) text) else None
+before_end text = if bytes_eq (drop (length text - 1) text) (codes ")")
+    then Some (take (length text - 1) text) else None
 
 -- F for firmware, I for a device, M for machine mode too; R, W and X
 abbrev pub is_letter : ℕ → Bool
@@ -27,7 +33,8 @@ abbrev pub are_letters : List ℕ → Bool
 are_letters [] = true
 are_letters (letter ∷ []) = is_letter letter
 are_letters (letter ∷ comma ∷ []) = false
-are_letters (letter ∷ comma ∷ next ∷ rest) = is_letter letter && (comma == 44 && are_letters (next ∷ rest))
+are_letters (letter ∷ comma ∷ next ∷ rest) = is_letter letter
+    && (comma == 44 && are_letters (next ∷ rest))
 
 -- a text of such letters alone
 abbrev pub of_letters : List ℕ → Option (List ℕ)
@@ -53,7 +60,8 @@ perm_by false true x = None
 
 -- the permission of letters
 abbrev pub perm_by_letters : List ℕ → Option Perm
-perm_by_letters letters = perm_by (has_letter 82 letters) (has_letter 87 letters) (has_letter 88 letters)
+perm_by_letters letters = perm_by (has_letter 82 letters) (has_letter 87 letters)
+    (has_letter 88 letters)
 
 -- the permission that a word of letters says
 abbrev pub perm_of : List ℕ → Option Perm

@@ -1,5 +1,7 @@
 -- What a line of a listing sets.
-use Rattle.std.specs.Prelude.{ℕ, ◌+◌, ◌*◌, ◌%◌, ◌/◌, ◌-◌, ◌<◌, ◌≤◌, ⊤, Bool, false, not, ◌&&◌, ◌||◌, ◌==◌, nat_lt, nat_le, if◌then◌else◌, List, [], ◌∷◌, length, take, drop, Option, Some, None, codes, bytes_eq, option_map}
+use Rattle.std.specs.Prelude.{ℕ, ◌+◌, ◌*◌, ◌%◌, ◌/◌, ◌-◌, ◌<◌, ◌≤◌, ⊤, Bool, false, not, ◌&&◌, ◌||◌}
+use Rattle.std.specs.Prelude.{◌==◌, nat_lt, nat_le, if◌then◌else◌, List, [], ◌∷◌, length, take}
+use Rattle.std.specs.Prelude.{drop, Option, Some, None, codes, bytes_eq, option_map}
 use Rattle.std.specs.List.{list_all, position_or_len}
 use Rattle.std.specs.Option.{option_and_then}
 use Rattle.std.specs.Str.{str_eq_ignore_ascii_case}
@@ -43,9 +45,11 @@ address_at value place = if nat_lt place 64 then Some (settings.Address place va
 abbrev pub address_setting : List ℕ → ℕ → Option Setting
 address_setting digits value = option_and_then (address_at value) (index_of digits)
 
--- `pmpcfgK`, K from 0 to 15 and on RV64 even, since there is a number for each 32 bits: the bytes of the entries from 4 * K on
+-- `pmpcfgK`, K from 0 to 15 and on RV64 even, since there is a number for each 32 bits: the bytes
+-- of the entries from 4 * K on
 abbrev pub word_at : Xlen → ℕ → ℕ → Option Setting
-word_at xlen value k = if nat_lt k 16 && k % (xlen_bits xlen / 32) == 0 then Some (settings.Word (4 * k) value) else None
+word_at xlen value k = if nat_lt k 16 && k % (xlen_bits xlen / 32) == 0
+    then Some (settings.Word (4 * k) value) else None
 
 abbrev pub word_setting : Xlen → List ℕ → ℕ → Option Setting
 word_setting xlen digits value = option_and_then (word_at xlen value) (index_of digits)
@@ -57,11 +61,12 @@ abbrev pub begins_with_letter : List ℕ → Bool
 begins_with_letter [] = false
 begins_with_letter (first ∷ rest) = is_letter first
 
--- a register that is none of the protection: gdb's `pc` and `priv`, or one whose name does not begin with p, so that a misspelt
--- one of the protection is not passed over
+-- a register that is none of the protection: gdb's `pc` and `priv`, or one whose name does not
+-- begin with p, so that a misspelt one of the protection is not passed over
 abbrev pub is_foreign : List ℕ → Bool
 is_foreign name =
-    str_eq_ignore_ascii_case name (codes "pc") || str_eq_ignore_ascii_case name (codes "priv") || (begins_with_letter name && not (begins_with name (codes "p")))
+    str_eq_ignore_ascii_case name (codes "pc") || str_eq_ignore_ascii_case name (codes "priv")
+    || (begins_with_letter name && not (begins_with name (codes "p")))
 
 -- another register, which is passed over; `mseccfgh` and the like only where they are zero
 abbrev pub is_other : List ℕ → ℕ → Bool
@@ -70,7 +75,8 @@ is_other name value = is_foreign name && (value == 0 || not (begins_with name (c
 -- mseccfg, whose bits change what the entries mean, or a register that is passed over
 abbrev pub other_setting : List ℕ → ℕ → Option Setting
 other_setting name value =
-    if str_eq_ignore_ascii_case name (codes "mseccfg") then Some (settings.Security value) else if is_other name value then Some settings.Other else None
+    if str_eq_ignore_ascii_case name (codes "mseccfg") then Some (settings.Security value)
+    else if is_other name value then Some settings.Other else None
 
 -- a name of a register and its value
 abbrev pub by_behind : Xlen → List ℕ → ℕ → Option (List ℕ) → Option (List ℕ) → Option Setting
@@ -80,11 +86,14 @@ by_behind xlen name value None None = other_setting name value
 
 -- a name without the colon that may follow it
 abbrev pub without_colon : List ℕ → List ℕ
-without_colon name = if bytes_eq (drop (length name - 1) name) (codes ":") then take (length name - 1) name else name
+without_colon name = if bytes_eq (drop (length name - 1) name) (codes ":")
+    then take (length name - 1) name else name
 
 -- a register holds the value
 abbrev pub plain_setting : Xlen → List ℕ → ℕ → Option Setting
-plain_setting xlen name value = if fits xlen value then by_behind xlen name value (behind name (codes "pmpaddr")) (behind name (codes "pmpcfg")) else None
+plain_setting xlen name value = if fits xlen value
+    then by_behind xlen name value (behind name (codes "pmpaddr")) (behind name (codes "pmpcfg"))
+    else None
 
 abbrev pub register_setting : Xlen → List ℕ → ℕ → Option Setting
 register_setting xlen name value = plain_setting xlen (without_colon name) value
@@ -95,18 +104,24 @@ equals_at word = position_or_len (λ b. b == 61) word
 
 abbrev pub set_by_one : Xlen → List ℕ → Option Setting
 set_by_one xlen word =
-    if nat_lt (equals_at word) (length word) then option_and_then (plain_setting xlen (take (equals_at word) word)) (number_of (drop (equals_at word + 1) word)) else None
+    if nat_lt (equals_at word) (length word)
+    then option_and_then (plain_setting xlen (take (equals_at word) word))
+    (number_of (drop (equals_at word + 1) word)) else None
 
 -- a register, or a count of entries, which sets nothing
 abbrev pub named_setting : Xlen → List ℕ → ℕ → Option Setting
-named_setting xlen name value = if bytes_eq name (codes "entries") then Some settings.Nothing else register_setting xlen name value
+named_setting xlen name value = if bytes_eq name (codes "entries") then Some settings.Nothing
+    else register_setting xlen name value
 
 -- the number of an entry, below 64, its configuration byte and its address
 abbrev pub pair_setting : Xlen → ℕ → ℕ → ℕ → Option Setting
-pair_setting xlen place cfg address = if nat_lt place 64 && (nat_lt cfg 256 && fits xlen address) then Some (settings.Pair place cfg address) else None
+pair_setting xlen place cfg address = if nat_lt place 64 && (nat_lt cfg 256 && fits xlen address)
+    then Some (settings.Pair place cfg address) else None
 
 abbrev pub pair_by_words : Xlen → ℕ → List ℕ → List ℕ → Option Setting
-pair_by_words xlen place cfg address = option_and_then (λ c. option_and_then (pair_setting xlen place c) (number_of address)) (number_of cfg)
+pair_by_words xlen place cfg address =
+    option_and_then (λ c. option_and_then (pair_setting xlen place c) (number_of address))
+    (number_of cfg)
 
 -- the width of a register in bits, as OpenOCD writes it
 abbrev pub width_sign : Xlen → List ℕ
@@ -115,7 +130,8 @@ width_sign Rv64 = codes "(/64):"
 
 -- between a name and its value: a sign, or the width of the register
 abbrev pub is_between : Xlen → List ℕ → Bool
-is_between xlen word = bytes_eq word (codes ":") || bytes_eq word (codes "=") || bytes_eq word (width_sign xlen)
+is_between xlen word = bytes_eq word (codes ":") || bytes_eq word (codes "=")
+    || bytes_eq word (width_sign xlen)
 
 -- the value's word: the second, and what stands after it is not looked at
 abbrev pub value_word : Xlen → List ℕ → List ℕ → List ℕ
@@ -124,22 +140,26 @@ value_word xlen second third = if is_between xlen second then third else second
 -- the pair of an entry, where a number stands first; otherwise a register and its value
 abbrev pub set_by_three : Xlen → Option ℕ → List ℕ → List ℕ → List ℕ → Option Setting
 set_by_three xlen (Some place) first second third = pair_by_words xlen place second third
-set_by_three xlen None first second third = option_and_then (register_setting xlen first) (number_of (value_word xlen second third))
+set_by_three xlen None first second third =
+    option_and_then (register_setting xlen first) (number_of (value_word xlen second third))
 
 -- a word that begins with pmp can be the name of a register of the protection
 abbrev pub is_no_name : List ℕ → Bool
 is_no_name word = not (begins_with word (codes "pmp"))
 
--- another register with its fields after its value, as gdb prints mstatus; no word after the value is such a name
+-- another register with its fields after its value, as gdb prints mstatus; no word after the value
+-- is such a name
 abbrev pub set_by_many : List ℕ → List ℕ → List (List ℕ) → Option Setting
-set_by_many first second rest = if list_all is_no_name rest then option_and_then (other_setting (without_colon first)) (number_of second) else None
+set_by_many first second rest = if list_all is_no_name rest
+    then option_and_then (other_setting (without_colon first)) (number_of second) else None
 
 -- what words set
 abbrev pub set_by_words : Xlen → List (List ℕ) → Option Setting
 set_by_words xlen [] = Some settings.Nothing
 set_by_words xlen (word ∷ []) = set_by_one xlen word
 set_by_words xlen (name ∷ value ∷ []) = option_and_then (named_setting xlen name) (number_of value)
-set_by_words xlen (first ∷ second ∷ third ∷ []) = set_by_three xlen (number_of first) first second third
+set_by_words xlen (first ∷ second ∷ third ∷ []) =
+    set_by_three xlen (number_of first) first second third
 set_by_words xlen (first ∷ second ∷ third ∷ rest) = set_by_many first second (third ∷ rest)
 
 -- what a line sets, where it is understood, by the width of the hart's registers

@@ -1,5 +1,7 @@
 -- What the lines of OpenSBI's boot log say.
-use Rattle.std.specs.Prelude.{ℕ, ◌+◌, ◌==◌, ◌&&◌, ◌||◌, Bool, false, not, nat_lt, if◌then◌else◌, List, [], ◌∷◌, length, take, drop, Option, Some, None, option_map, codes, bytes_eq}
+use Rattle.std.specs.Prelude.{ℕ, ◌+◌, ◌==◌, ◌&&◌, ◌||◌, Bool, false, not, nat_lt, if◌then◌else◌}
+use Rattle.std.specs.Prelude.{List, [], ◌∷◌, length, take, drop, Option, Some, None, option_map}
+use Rattle.std.specs.Prelude.{codes, bytes_eq}
 use Rattle.std.specs.List.{list_all, position_or_len}
 use Rattle.std.specs.Option.{is_some, option_and_then, unwrap_or}
 use Rattle.pmp_encoding.specs.declared.perm.Perm.{Perm}
@@ -17,14 +19,16 @@ words_in raw = unwrap_or (words_of (without_return raw)) []
 
 -- words on a region of the first domain: `Domain0`, and a word that begins with `Region`
 abbrev pub is_region : List (List ℕ) → Bool
-is_region (domain ∷ region ∷ rest) = bytes_eq domain (codes "Domain0") && is_some (behind region (codes "Region"))
+is_region (domain ∷ region ∷ rest) = bytes_eq domain (codes "Domain0")
+    && is_some (behind region (codes "Region"))
 is_region _ = false
 
 -- a line on a region of the first domain
 abbrev pub is_region_line : List ℕ → Bool
 is_region_line raw = is_region (words_in raw)
 
--- words on a register of the protection: the first begins with `pmp` or `mseccfg`, in upper or lower case
+-- words on a register of the protection: the first begins with `pmp` or `mseccfg`, in upper or
+-- lower case
 abbrev pub is_register : List (List ℕ) → Bool
 is_register [] = false
 is_register (name ∷ rest) = begins_with name (codes "pmp") || begins_with name (codes "mseccfg")
@@ -43,31 +47,44 @@ block_by xlen first last = option_and_then (λ f. option_and_then (block_from xl
 
 -- the block that `FIRST-LAST` names
 abbrev pub block_in : Xlen → List ℕ → Option (ℕ × ℕ)
-block_in xlen word = if nat_lt (dash_at word) (length word) then block_by xlen (number_of (take (dash_at word) word)) (number_of (drop (dash_at word + 1) word)) else None
+block_in xlen word = if nat_lt (dash_at word) (length word)
+    then block_by xlen (number_of (take (dash_at word) word))
+    (number_of (drop (dash_at word + 1) word)) else None
 
--- the letters of supervisor and user mode: the one word up to OpenSBI 1.1, or the word behind `S/U:`
+-- the letters of supervisor and user mode: the one word up to OpenSBI 1.1, or the word behind
+-- `S/U:`
 abbrev pub letters_in : List (List ℕ) → Option (List ℕ)
 letters_in (letters ∷ []) = Some letters
-letters_in (machine ∷ its ∷ user ∷ letters ∷ []) = if bytes_eq machine (codes "M:") && bytes_eq user (codes "S/U:") then Some letters else None
+letters_in (machine ∷ its ∷ user ∷ letters ∷ []) = if bytes_eq machine (codes "M:")
+    && bytes_eq user (codes "S/U:") then Some letters else None
 letters_in _ = None
 
 -- the pair of a block and a permission, at the place of one of 64 entries
 abbrev pub entry_at : ℕ → Perm → ℕ × ℕ → Option RegionEntry
-entry_at place perm block = if nat_lt place 64 then Some (record { place = place; cfg = cfg_by block.1 perm; address = address_by block.0 block.1 }) else None
+entry_at place perm block = if nat_lt place 64
+    then Some (record {
+      place = place;
+      cfg = cfg_by block.1 perm;
+      address = address_by block.0 block.1;
+    }) else None
 
 -- the entry of a number, a block and a permission, where each is one
 abbrev pub entry_by : Option ℕ → Option (ℕ × ℕ) → Option Perm → Option RegionEntry
-entry_by place block perm = option_and_then (λ n. option_and_then (λ b. option_and_then (λ p. entry_at n p b) perm) block) place
+entry_by place block perm = option_and_then
+    (λ n. option_and_then (λ b. option_and_then (λ p. entry_at n p b) perm) block) place
 
--- what the words of such a line set: `Domain0 RegionNN : FIRST-LAST (LETTERS)`, or with `M: (LETTERS) S/U: (LETTERS)`
+-- what the words of such a line set: `Domain0 RegionNN : FIRST-LAST (LETTERS)`, or with `M:
+-- (LETTERS) S/U: (LETTERS)`
 abbrev pub entry_in : Xlen → List (List ℕ) → Option RegionEntry
 entry_in xlen (domain ∷ region ∷ colon ∷ block ∷ rest) =
-    if bytes_eq colon (codes ":") then entry_by (number_in region) (block_in xlen block) (option_and_then perm_of (letters_in rest)) else None
+    if bytes_eq colon (codes ":") then entry_by (number_in region) (block_in xlen block)
+    (option_and_then perm_of (letters_in rest)) else None
 entry_in xlen _ = None
 
 -- what words say: the entry of a region, or nothing; words on a register are not understood
 abbrev pub said_by : Xlen → List (List ℕ) → Option (Option RegionEntry)
-said_by xlen words = if is_region words then option_map (λ e. Some e) (entry_in xlen words) else if is_register words then None else Some None
+said_by xlen words = if is_region words then option_map (λ e. Some e) (entry_in xlen words)
+    else if is_register words then None else Some None
 
 -- what a line of a log of a hart of that width says, where it is understood
 abbrev pub log_says : Xlen → List ℕ → Option (Option RegionEntry)

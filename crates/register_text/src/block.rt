@@ -6,8 +6,7 @@ ghost use Rattle.pmp_encoding.specs.declared.xlen.Xlen.{Xlen};
 ghost use Rattle.pmp_encoding.specs.Widths.{space_end, xlen_bits};
 ghost use Rattle.register_text.specs.Blocks.{IsBlockOf, IsExponentBelow, block_at, block_from, exponent_from, exponent_of, is_all, space_log2};
 
-use pmp_encoding::Region;
-use pmp_encoding::Xlen;
+use pmp_encoding::{Region, Xlen};
 
 fn power(log2: u32) -> u64
     requires { log2 ≤ 56 }

@@ -11,8 +11,7 @@ use crate::block::block_from;
 use crate::entry::RegionEntry;
 use crate::letters::{begins_with, behind, is_text, perm_of};
 use lint_texts::{len_before, split_line};
-use pmp_encoding::{Entry, Perm, Region};
-use pmp_encoding::Xlen;
+use pmp_encoding::{Entry, Perm, Region, Xlen};
 use text_lines::{NotUnderstood, Words, number, numeral, without_return};
 
 /// The words of a line, and none where a byte outside its comment may not stand there.

@@ -5,13 +5,13 @@ ghost use Rattle.std.specs.Option.{is_some};
 ghost use Rattle.register_text.specs.Lines.{raw_sets};
 ghost use Rattle.register_text.specs.Listings.{IsFirstUnknown, IsFirstUnknownBy, listed, listed_by};
 
+use crate::is_boot_log;
 use crate::log::log_listing;
 use crate::register_lines::line_sets;
 use crate::setting::nothing_set;
-use crate::is_boot_log;
 use map_text::{AT_ONCE, next_line};
-use pmp_match::Registers;
 use pmp_encoding::Xlen;
+use pmp_match::Registers;
 use text_lines::LineReader;
 
 /// What the lines of a listing leave.

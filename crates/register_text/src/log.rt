@@ -6,8 +6,8 @@ ghost use Rattle.register_text.specs.Lines.{IsInside, log_sets, region_setting};
 ghost use Rattle.register_text.specs.Listings.{IsFirstUnknownBy, listed_by};
 
 use crate::listing::Listing;
-use crate::setting::{Setting, nothing_set};
 use crate::log_says;
+use crate::setting::{Setting, nothing_set};
 use lint_texts::split_line;
 use pmp_encoding::Xlen;
 use text_lines::NotUnderstood;

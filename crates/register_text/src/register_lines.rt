@@ -11,8 +11,8 @@ ghost use Rattle.std.specs.Option.{option_and_then};
 ghost use Rattle.std.specs.Str.{str_eq_ignore_ascii_case};
 ghost use Rattle.register_text.specs.Lines.{IsInside, address_setting, begins_with, begins_with_letter, behind, equals_at, has_leading_zero, index_of, is_between, is_foreign, is_letter, is_no_name, is_other, line_sets, named_setting, other_setting, pair_by_words, pair_setting, plain_setting, register_setting, set_by_many, set_by_words, value_word, width_sign, without_colon, word_setting};
 
-use crate::setting::Setting;
 use crate::begins_with;
+use crate::setting::Setting;
 use pmp_encoding::Xlen;
 use text_lines::{NotUnderstood, Words, number, numeral};
 

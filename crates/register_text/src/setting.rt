@@ -6,8 +6,8 @@ ghost use Rattle.register_text.specs.Lines.{IsInside};
 ghost use Rattle.register_text.specs.Listings.{first_of, nothing_set, registers_by, set_by, set_bytes};
 
 use crate::listing::Listing;
-use pmp_match::Registers;
 use pmp_encoding::Xlen;
+use pmp_match::Registers;
 
 /// What a line sets. Places are below 64.
 #[derive(Clone, Copy, Debug, PartialEq, Eq)]

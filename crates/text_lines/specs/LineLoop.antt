@@ -1,5 +1,7 @@
 -- What comes of an input whose lines are interpreted one after another.
-use Rattle.std.specs.Prelude.{◌≡◌, ◌⊎◌, ℕ, ◌+◌, ◌^◌, ◌<◌, ◌≤◌, Bool, if◌then◌else◌, List, [], ◌∷◌, ◌++◌, length, take, Option, Some, None, Result, Ok, Err, true, false, decimal}
+use Rattle.std.specs.Prelude.{◌≡◌, ◌⊎◌, ℕ, ◌+◌, ◌^◌, ◌<◌, ◌≤◌, Bool, if◌then◌else◌, List, [], ◌∷◌}
+use Rattle.std.specs.Prelude.{◌++◌, length, take, Option, Some, None, Result, Ok, Err, true, false}
+use Rattle.std.specs.Prelude.{decimal}
 use Rattle.std.specs.List.{concat}
 use Rattle.std.specs.Io.KnownBytes.{Appends, Consumes, IsAtEnd}
 use Rattle.byte_streams.specs.Streams.{WriteFails, one_failure_more}
@@ -10,24 +12,37 @@ use Rattle.text_lines.specs.declared.line_loop.Refusal.{Refusal}
 use Rattle.text_lines.specs.declared.line_loop.Refusal.TheVariants as refusals
 use Rattle.text_lines.specs.Lines.{AreLines, BeginsLongLine, IsShortLine, without_return}
 
--- what a line does, after so many answers: from one state to the next, with the text of its answer where it has one
+-- what a line does, after so many answers: from one state to the next, with the text of its answer
+-- where it has one
 abbrev pub Meaning : Type 0 → Type 1
 Meaning S = S → ℕ → List ℕ → Option (List ℕ) → S → Type 0
 
--- lines that were interpreted in turn, from one state to another, and the answers of those that have one
-pub data Does {S : Type 0} (does : Meaning S) (old : S) : List (List ℕ) → List (List ℕ) → S → Type 0 where
+-- lines that were interpreted in turn, from one state to another, and the answers of those that
+-- have one
+pub data Does {S : Type 0} (does : Meaning S) (old : S) : List (List ℕ) → List (List ℕ) → S
+    → Type 0 where
   none : Does does old [] [] old
-  silent : {lines answers : List (List ℕ)} {mid : S} → Does does old lines answers mid → (line : List ℕ) → IsShortLine line → (new : S) → does mid (length answers) (without_return line) None new → Does does old (lines ++ line ∷ []) answers new
-  answer : {lines answers : List (List ℕ)} {mid : S} → Does does old lines answers mid → (line : List ℕ) → IsShortLine line → (new : S) → (text : List ℕ) → does mid (length answers) (without_return line) (Some text) new → Does does old (lines ++ line ∷ []) (answers ++ text ∷ []) new
+  silent : {lines answers : List (List ℕ)} {mid : S} → Does does old lines answers mid
+      → (line : List ℕ) → IsShortLine line → (new : S)
+      → does mid (length answers) (without_return line) None new
+      → Does does old (lines ++ line ∷ []) answers new
+  answer : {lines answers : List (List ℕ)} {mid : S} → Does does old lines answers mid
+      → (line : List ℕ) → IsShortLine line → (new : S) → (text : List ℕ)
+      → does mid (length answers) (without_return line) (Some text) new
+      → Does does old (lines ++ line ∷ []) (answers ++ text ∷ []) new
 
--- the text of the answer after n others, where there is one: its number, and what stands behind that
+-- the text of the answer after n others, where there is one: its number, and what stands behind
+-- that
 abbrev pub text_of : Bool → ℕ → List ℕ → Option (List ℕ)
 text_of answered n behind = if answered then Some (decimal (n + 1) ++ behind) else None
 
 -- what comes of a line: its answer, told by what stands behind its number, or why it has none
-abbrev pub Comes : {S : Type 0} → Meaning S → (S → List ℕ → Type 0) → (S → List ℕ → S → Type 0) → S → ℕ → List ℕ → Result Bool Refusal → List ℕ → S → Type 0
-Comes does refuses starves old n line (Ok answered) behind new = does old n line (text_of answered n behind) new
-Comes does refuses starves old n line (Err refusals.NotUnderstood) behind new = refuses old line × (new ≡ old)
+abbrev pub Comes : {S : Type 0} → Meaning S → (S → List ℕ → Type 0) → (S → List ℕ → S → Type 0) → S
+    → ℕ → List ℕ → Result Bool Refusal → List ℕ → S → Type 0
+Comes does refuses starves old n line (Ok answered) behind new =
+    does old n line (text_of answered n behind) new
+Comes does refuses starves old n line (Err refusals.NotUnderstood) behind new = refuses old line
+    × (new ≡ old)
 Comes does refuses starves old n line (Err refusals.Memory) behind new = starves old line new
 
 -- whether there was a line
@@ -58,10 +73,12 @@ ended (line ∷ lines) = line ++ 10 ∷ ended lines
 
 -- the line stands at the front of the bytes that have come: before a LF, or at the end of the input
 abbrev pub Stands : List ℕ → Option (List ℕ) → List ℕ → Type 0
-Stands bytes after line = ((rest : List ℕ) × (bytes ≡ line ++ 10 ∷ rest)) ⊎ ((0 < length line) × (bytes ≡ line) × IsAtEnd after)
+Stands bytes after line = ((rest : List ℕ) × (bytes ≡ line ++ 10 ∷ rest))
+    ⊎ ((0 < length line) × (bytes ≡ line) × IsAtEnd after)
 
 -- all of the input was read, and each of its lines interpreted and answered
-pub record DoesAll {S : Type 0} (does : Meaning S) (old new : S) (before after held holds : Option (List ℕ)) : Type 0 where
+pub record DoesAll {S : Type 0} (does : Meaning S) (old new : S)
+    (before after held holds : Option (List ℕ)) : Type 0 where
   pub input : List ℕ
   pub lines : List (List ℕ)
   pub answers : List (List ℕ)
@@ -73,23 +90,29 @@ pub record DoesAll {S : Type 0} (does : Meaning S) (old new : S) (before after h
   pub written : Appends held holds (concat answers)
 
 -- lines that a LF ended were interpreted and answered, and `bytes` came after them
-pub record DoesLines {S : Type 0} (does : Meaning S) (old new : S) (before after held holds : Option (List ℕ)) (lines : List (List ℕ)) (bytes : List ℕ) : Type 0 where
+pub record DoesLines {S : Type 0} (does : Meaning S) (old new : S)
+    (before after held holds : Option (List ℕ)) (lines : List (List ℕ)) (bytes : List ℕ) :
+    Type 0 where
   pub answers : List (List ℕ)
   pub done : Does does old lines answers new
   pub consumed : Consumes before after (ended lines ++ bytes)
   pub written : Appends held holds (concat answers)
 
 -- the lines before line n were interpreted, and line n is too long or is refused
-pub record StopsAt {S : Type 0} (n : ℕ) (does : Meaning S) (refuses : S → List ℕ → Type 0) (old new : S) (before after held holds : Option (List ℕ)) : Type 0 where
+pub record StopsAt {S : Type 0} (n : ℕ) (does : Meaning S) (refuses : S → List ℕ
+    → Type 0) (old new : S) (before after held holds : Option (List ℕ)) : Type 0 where
   pub lines : List (List ℕ)
   pub bytes : List ℕ
   pub before_it : DoesLines does old new before after held holds lines bytes
   pub few : length (ended lines ++ bytes) ≤ 2 ^ 40
   pub number : length lines + 1 ≡ n
-  pub refused : BeginsLongLine bytes ⊎ ((line : List ℕ) × IsShortLine line × Stands bytes after line × refuses new (without_return line))
+  pub refused : BeginsLongLine bytes
+      ⊎ ((line : List ℕ) × IsShortLine line × Stands bytes after line
+      × refuses new (without_return line))
 
 -- a byte came after the first 2^40, and the lines that a LF ended among these were interpreted
-pub record StopsTooLong {S : Type 0} (does : Meaning S) (old new : S) (before after held holds : Option (List ℕ)) : Type 0 where
+pub record StopsTooLong {S : Type 0} (does : Meaning S) (old new : S)
+    (before after held holds : Option (List ℕ)) : Type 0 where
   pub lines : List (List ℕ)
   pub bytes : List ℕ
   pub beyond : List ℕ
@@ -99,7 +122,8 @@ pub record StopsTooLong {S : Type 0} (does : Meaning S) (old new : S) (before af
   pub more : length beyond ≡ 1
 
 -- the lines that a LF ended were interpreted, and no other
-pub record StopsReading {S : Type 0} (does : Meaning S) (old new : S) (before after held holds : Option (List ℕ)) : Type 0 where
+pub record StopsReading {S : Type 0} (does : Meaning S) (old new : S)
+    (before after held holds : Option (List ℕ)) : Type 0 where
   pub lines : List (List ℕ)
   pub bytes : List ℕ
   pub before_it : DoesLines does old new before after held holds lines bytes
@@ -107,7 +131,8 @@ pub record StopsReading {S : Type 0} (does : Meaning S) (old new : S) (before af
   pub unended : IsShortLine bytes
 
 -- a line stands in what was read, after lines that were interpreted and have these answers
-pub record ComesTo {S : Type 0} (does : Meaning S) (old now : S) (before after : Option (List ℕ)) (answers : List (List ℕ)) (line : List ℕ) : Type 0 where
+pub record ComesTo {S : Type 0} (does : Meaning S) (old now : S) (before after : Option (List ℕ))
+    (answers : List (List ℕ)) (line : List ℕ) : Type 0 where
   pub lines : List (List ℕ)
   pub bytes : List ℕ
   pub done : Does does old lines answers now
@@ -117,7 +142,8 @@ pub record ComesTo {S : Type 0} (does : Meaning S) (old now : S) (before after :
   pub stands : Stands bytes after line
 
 -- a line was interpreted, and of its answer a beginning was written, not all of it
-pub record StopsWriting {S : Type 0} (does : Meaning S) (old new : S) (before after held holds : Option (List ℕ)) : Type 0 where
+pub record StopsWriting {S : Type 0} (does : Meaning S) (old new : S)
+    (before after held holds : Option (List ℕ)) : Type 0 where
   pub now : S
   pub answers : List (List ℕ)
   pub line : List ℕ
@@ -129,7 +155,8 @@ pub record StopsWriting {S : Type 0} (does : Meaning S) (old new : S) (before af
   pub written : Appends held holds (concat answers ++ take part text)
 
 -- a line was interpreted for which memory was refused, and it has no answer
-pub record StopsForMemory {S : Type 0} (does : Meaning S) (starves : S → List ℕ → S → Type 0) (old new : S) (before after held holds : Option (List ℕ)) : Type 0 where
+pub record StopsForMemory {S : Type 0} (does : Meaning S) (starves : S → List ℕ → S
+    → Type 0) (old new : S) (before after held holds : Option (List ℕ)) : Type 0 where
   pub now : S
   pub answers : List (List ℕ)
   pub line : List ℕ
@@ -144,5 +171,6 @@ CountsReads _ before after = after ≡ before
 
 -- a write failed or took none where the run ended so, and otherwise none did
 abbrev pub CountsWrites : Result (Unit {0}) RunFault → ℕ → ℕ → ℕ → ℕ → Type 0
-CountsWrites (Err faults.Write) failures failed stalls stalled = WriteFails failures failed stalls stalled
+CountsWrites (Err faults.Write) failures failed stalls stalled =
+    WriteFails failures failed stalls stalled
 CountsWrites _ failures failed stalls stalled = (failed ≡ failures) × (stalled ≡ stalls)

@@ -1,5 +1,6 @@
 -- What a reader of lines has of its input, and what it answers.
-use Rattle.std.specs.Prelude.{◌≡◌, ◌⊎◌, ℕ, ◌+◌, ◌<◌, Bool, true, false, List, [], ◌∷◌, ◌++◌, length, take, drop, nat_lt, Option, Result, Ok, Err}
+use Rattle.std.specs.Prelude.{◌≡◌, ◌⊎◌, ℕ, ◌+◌, ◌<◌, Bool, true, false, List, [], ◌∷◌, ◌++◌, length}
+use Rattle.std.specs.Prelude.{take, drop, nat_lt, Option, Result, Ok, Err}
 use Rattle.std.specs.Io.KnownBytes.{Consumes, IsAtEnd}
 use Rattle.byte_streams.specs.Streams.{one_failure_more}
 use Rattle.text_lines.specs.declared.fault.ReadFault.{ReadFault}
@@ -29,18 +30,23 @@ most_of reader = reader.limit
 abbrev pub ended_of : {size : ℕ} → LineReader size → Bool
 ended_of reader = reader.ended
 
--- these bytes left the source, came to the reader and are counted; none did where a line was there already
-pub record Came {size : ℕ} (old new : LineReader size) (before after : Option (List ℕ)) (bytes : List ℕ) : Type 0 where
+-- these bytes left the source, came to the reader and are counted; none did where a line was there
+-- already
+pub record Came {size : ℕ} (old new : LineReader size) (before after : Option (List ℕ))
+    (bytes : List ℕ) : Type 0 where
   pub consumed : Consumes before after bytes
   pub counted : came_of new ≡ came_of old + length bytes
   pub needed : (bytes ≡ []) ⊎ (has_no_end (pending_of old) ≡ true)
 
 -- a line was handed out, at the front of the bytes that were there
-pub record Hands {size : ℕ} (old new : LineReader size) (bytes : List ℕ) (after : Option (List ℕ)) (line : List ℕ) : Type 0 where
+pub record Hands {size : ℕ} (old new : LineReader size) (bytes : List ℕ) (after : Option (List ℕ))
+    (line : List ℕ) : Type 0 where
   pub short : IsShortLine line
   pub text : line_of new ≡ without_return line
   pub number : number_of new ≡ number_of old + 1
-  pub ends : ((bytes ≡ line ++ 10 ∷ pending_of new) × (ended_of new ≡ false)) ⊎ ((0 < length line) × (bytes ≡ line) × (pending_of new ≡ []) × IsAtEnd after × (ended_of new ≡ true))
+  pub ends : ((bytes ≡ line ++ 10 ∷ pending_of new) × (ended_of new ≡ false))
+      ⊎ ((0 < length line) × (bytes ≡ line) × (pending_of new ≡ []) × IsAtEnd after
+      × (ended_of new ≡ true))
 
 -- the bytes stay there, and no line was handed out
 pub record Holds {size : ℕ} (old new : LineReader size) (bytes : List ℕ) : Type 0 where
@@ -48,11 +54,14 @@ pub record Holds {size : ℕ} (old new : LineReader size) (bytes : List ℕ) : T
   pub number : number_of new ≡ number_of old
 
 -- the answer of a reader, by the bytes that were there in the end
-abbrev pub Answers : {size : ℕ} → Result Bool ReadFault → LineReader size → LineReader size → List ℕ → Option (List ℕ) → Type 0
+abbrev pub Answers : {size : ℕ} → Result Bool ReadFault → LineReader size → LineReader size → List ℕ
+    → Option (List ℕ) → Type 0
 Answers (Ok true) old new bytes after = (line : List ℕ) × Hands old new bytes after line
 Answers (Ok false) old new bytes after = (bytes ≡ []) × IsAtEnd after × Holds old new bytes
-Answers (Err (LongLine n)) old new bytes after = (n ≡ number_of old + 1) × BeginsLongLine bytes × Holds old new bytes
-Answers (Err TooManyBytes) old new bytes after = (came_of new ≡ most_of old) × IsShortLine bytes × Holds old new bytes
+Answers (Err (LongLine n)) old new bytes after = (n ≡ number_of old + 1) × BeginsLongLine bytes
+    × Holds old new bytes
+Answers (Err TooManyBytes) old new bytes after = (came_of new ≡ most_of old) × IsShortLine bytes
+    × Holds old new bytes
 Answers (Err Device) old new bytes after = IsShortLine bytes × Holds old new bytes
 
 -- a byte past the limit left the source too, where that is the answer
@@ -66,12 +75,21 @@ FailsOnRead (Err Device) before after = after ≡ one_failure_more before
 FailsOnRead _ before after = after ≡ before
 
 -- what a call did
-abbrev pub NextLine : {size : ℕ} → Result Bool ReadFault → LineReader size → LineReader size → Option (List ℕ) → Option (List ℕ) → Type 0
-NextLine result old new before after = (bytes beyond : List ℕ) × (middle : Option (List ℕ)) × Came old new before middle bytes × Consumes middle after beyond × BeyondLimit result beyond × Answers result old new (pending_of old ++ bytes) after
+abbrev pub NextLine : {size : ℕ} → Result Bool ReadFault → LineReader size → LineReader size
+    → Option (List ℕ) → Option (List ℕ) → Type 0
+NextLine result old new before after = (bytes beyond : List ℕ) × (middle : Option (List ℕ))
+    × Came old new before middle bytes × Consumes middle after beyond × BeyondLimit result beyond
+    × Answers result old new (pending_of old ++ bytes) after
 
 -- the same of one read: new bytes stand after the others, and none came at the end alone
-abbrev pub ReadsMore : {size : ℕ} → Result Bool ReadFault → LineReader size → LineReader size → Option (List ℕ) → Option (List ℕ) → List ℕ → Type 0
-ReadsMore (Ok more) old new before after bytes = Consumes before after bytes × (new.buffer ≡ old.buffer ++ bytes) × (new.came ≡ old.came + length bytes) × (more ≡ nat_lt 0 (length bytes)) × (more ≡ false → IsAtEnd after)
-ReadsMore (Err TooManyBytes) old new before after bytes = Consumes before after bytes × (length bytes ≡ 1) × (new.buffer ≡ old.buffer) × (old.came ≡ old.limit) × (new.came ≡ old.came)
-ReadsMore (Err Device) old new before after bytes = Consumes before after bytes × (bytes ≡ []) × (new.buffer ≡ old.buffer) × (new.came ≡ old.came)
+abbrev pub ReadsMore : {size : ℕ} → Result Bool ReadFault → LineReader size → LineReader size
+    → Option (List ℕ) → Option (List ℕ) → List ℕ → Type 0
+ReadsMore (Ok more) old new before after bytes = Consumes before after bytes
+    × (new.buffer ≡ old.buffer ++ bytes) × (new.came ≡ old.came + length bytes)
+    × (more ≡ nat_lt 0 (length bytes)) × (more ≡ false → IsAtEnd after)
+ReadsMore (Err TooManyBytes) old new before after bytes = Consumes before after bytes
+    × (length bytes ≡ 1) × (new.buffer ≡ old.buffer) × (old.came ≡ old.limit)
+    × (new.came ≡ old.came)
+ReadsMore (Err Device) old new before after bytes = Consumes before after bytes × (bytes ≡ [])
+    × (new.buffer ≡ old.buffer) × (new.came ≡ old.came)
 ReadsMore (Err (LongLine n)) old new before after bytes = ⊥

@@ -1,5 +1,7 @@
 -- The lines of an input.
-use Rattle.std.specs.Prelude.{◌≡◌, ◌⊎◌, ℕ, ◌-◌, ◌<◌, ◌≤◌, ◌==◌, Bool, true, not, List, [], ◌∷◌, ◌++◌, length, take, slice_index, if◌then◌else◌, Option, Result, Ok, Err}
+use Rattle.std.specs.Prelude.{◌≡◌, ◌⊎◌, ℕ, ◌-◌, ◌<◌, ◌≤◌, ◌==◌, Bool, true, not, List, [], ◌∷◌}
+use Rattle.std.specs.Prelude.{◌++◌, length, take, slice_index, if◌then◌else◌, Option, Result, Ok}
+use Rattle.std.specs.Prelude.{Err}
 use Rattle.std.specs.List.{list_all}
 use Rattle.std.specs.Io.KnownBytes.{Consumes, IsAtEnd}
 use Rattle.byte_streams.specs.Streams.{one_failure_more}
@@ -20,7 +22,8 @@ BeginsLongLine bytes = (1024 ≤ length bytes) × (has_no_end (take 1024 bytes) 
 
 -- one CR at the end is dropped
 abbrev pub without_return : List ℕ → List ℕ
-without_return line = if slice_index line (length line - 1) == 13 then take (length line - 1) line else line
+without_return line = if slice_index line (length line - 1) == 13 then take (length line - 1) line
+    else line
 
 -- bytes that begin with a line of so many bytes, whose last is no CR, and its LF
 pub record BeginsLine (len : ℕ) (bytes : List ℕ) : Type 0 where
@@ -31,12 +34,14 @@ pub record BeginsLine (len : ℕ) (bytes : List ℕ) : Type 0 where
 
 -- the line stands before a LF and the rest, or it is the last, lacks its LF and has a byte
 abbrev pub EndsLine : List ℕ → List ℕ → List ℕ → Type 0
-EndsLine input line rest = (input ≡ line ++ 10 ∷ rest) ⊎ ((0 < length line) × (input ≡ line) × (rest ≡ []))
+EndsLine input line rest = (input ≡ line ++ 10 ∷ rest)
+    ⊎ ((0 < length line) × (input ≡ line) × (rest ≡ []))
 
 -- the lines of an input, one by one
 abbrev pub AreLines : List ℕ → List (List ℕ) → Type 0
 AreLines input [] = input ≡ []
-AreLines input (line ∷ lines) = (has_no_end line ≡ true) × (rest : List ℕ) × EndsLine input line rest × AreLines rest lines
+AreLines input (line ∷ lines) = (has_no_end line ≡ true) × (rest : List ℕ)
+    × EndsLine input line rest × AreLines rest lines
 
 abbrev pub is_lf : ℕ → Bool
 is_lf b = b == 10
@@ -57,11 +62,16 @@ AreItsLines = (input : List ℕ) → AreLines input (raw_lines input)
 
 -- no input is two lists of lines
 abbrev pub OneListOfLines : Type 0
-OneListOfLines = (input : List ℕ) (lines others : List (List ℕ)) → AreLines input lines → AreLines input others → lines ≡ others
+OneListOfLines = (input : List ℕ) (lines others : List (List ℕ)) → AreLines input lines
+    → AreLines input others → lines ≡ others
 
 -- what one read where no byte may follow says: there was none, there was one, or the source failed
-abbrev pub EndsInput : Result (Unit {0}) ReadFault → Option (List ℕ) → Option (List ℕ) → ℕ → ℕ → Type 0
-EndsInput (Ok done) before after failures failed = Consumes before after [] × IsAtEnd after × (failed ≡ failures)
-EndsInput (Err TooManyBytes) before after failures failed = ((beyond : List ℕ) × (length beyond ≡ 1) × Consumes before after beyond) × (failed ≡ failures)
-EndsInput (Err Device) before after failures failed = Consumes before after [] × (failed ≡ one_failure_more failures)
+abbrev pub EndsInput : Result (Unit {0}) ReadFault → Option (List ℕ) → Option (List ℕ) → ℕ → ℕ
+    → Type 0
+EndsInput (Ok done) before after failures failed = Consumes before after [] × IsAtEnd after
+    × (failed ≡ failures)
+EndsInput (Err TooManyBytes) before after failures failed =
+    ((beyond : List ℕ) × (length beyond ≡ 1) × Consumes before after beyond) × (failed ≡ failures)
+EndsInput (Err Device) before after failures failed = Consumes before after []
+    × (failed ≡ one_failure_more failures)
 EndsInput (Err (LongLine n)) before after failures failed = ⊥

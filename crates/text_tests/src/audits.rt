@@ -2,8 +2,8 @@
 
 use byte_streams::fakes::PieceSink;
 use map_text::map_of;
-use register_audit::{AuditFault, audit};
 use pmp_encoding::Xlen;
+use register_audit::{AuditFault, audit};
 use std::alloc::Global;
 use std::process::Abort;
 

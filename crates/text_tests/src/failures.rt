@@ -1,9 +1,9 @@
 //! Each read and each write fails in turn.
 
 use byte_streams::fakes::{PieceSink, PieceSource};
+use hart_trace::judge_trace;
 use pmp_encoding::{Bank, Limit};
 use text_lines::RunFault;
-use hart_trace::judge_trace;
 
 const TRACE: &[u8] =
     b"load s 8 0x80000ff8\n# nothing\nstore u 4 0x80000000 7\nfetch s 2 0x10000000";

@@ -1,10 +1,9 @@
 //! Registers in each form: in pieces of any size, of entries below a page, and where writes fail.
 
 use byte_streams::fakes::PieceSink;
-use pmp_encoding::{Entry, Limit, PackedEntry, Perm, Region};
+use pmp_encoding::{Entry, Limit, PackedEntry, Perm, Region, Xlen};
 use printed_lines::{print_plan, room_from};
 use register_formats::{print_asm, print_c, print_json};
-use pmp_encoding::Xlen;
 use std::alloc::Global;
 use std::process::Abort;
 

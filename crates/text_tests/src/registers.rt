@@ -1,12 +1,12 @@
 //! Accesses that are judged by registers as they stand.
 
 use byte_streams::fakes::{PieceSink, PieceSource};
+use hart_trace::judge_lines;
+use pmp_encoding::Xlen;
 use pmp_match::{Access, Cause, Kind, Mode};
 use register_audit::{Registers, Reserved, ReservedAt, Ruled, Rules, rules_in};
-use pmp_encoding::Xlen;
 use std::alloc::Global;
 use std::process::Abort;
-use hart_trace::judge_lines;
 
 /// A page at 0x80000000, as an address register of NAPOT.
 const PAGE: u64 = 0x2000_01ff;

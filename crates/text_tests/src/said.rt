@@ -1,14 +1,12 @@
 //! What reads a text and writes what it says of it, whatever a write takes: a row of each.
 
 use byte_streams::fakes::PieceSink;
+use file_lints::{Taker, lint_platform, lint_trace};
 use map_lint::lint;
-use file_lints::lint_platform;
-use register_audit::print_map_of;
-use register_audit::print_registers;
 use pmp_encoding::Xlen;
+use register_audit::{print_map_of, print_registers};
 use std::alloc::Global;
 use std::process::Abort;
-use file_lints::{Taker, lint_trace};
 
 /// What reads a text and writes what it says of it.
 #[derive(Clone, Copy)]

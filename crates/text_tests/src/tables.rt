@@ -1,12 +1,11 @@
 //! The table of a map as text, as JSON and as a picture.
 
 use crate::formats::{BOARD, entries_of};
-use map_table::table_of;
+use map_table::{json_table, picture, table_of};
 use map_text::map_of;
 use pmp_encoding::Limit;
 use std::alloc::Global;
 use std::process::Abort;
-use map_table::{json_table, picture};
 
 /// The board's map.
 const MAP: &[u8] = b"0x80000000 0x8000000 rwx\n0x80000000 0x200000 none\n0x10000000 0x1000 rw\n";

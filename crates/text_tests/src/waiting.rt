@@ -4,9 +4,9 @@ ghost use Rattle.std.specs.Prelude.{None};
 
 use byte_streams::fakes::{PieceSink, PieceSource};
 use byte_streams::{DeviceFault, Sink};
+use hart_trace::judge_trace;
 use pmp_encoding::{Bank, Limit};
 use text_lines::RunFault;
-use hart_trace::judge_trace;
 
 /// A sink that holds all that it takes until it is to hand it on.
 #[derive(Drop)]

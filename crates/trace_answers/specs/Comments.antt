@@ -1,5 +1,6 @@
 -- The answer that the comment of a line says.
-use Rattle.std.specs.Prelude.{ℕ, ◌==◌, ◌||◌, ◌&&◌, nat_le, Bool, true, false, not, List, [], ◌∷◌, map, take, drop, Option, Some, None, codes, bytes_eq}
+use Rattle.std.specs.Prelude.{ℕ, ◌==◌, ◌||◌, ◌&&◌, nat_le, Bool, true, false, not, List, [], ◌∷◌}
+use Rattle.std.specs.Prelude.{map, take, drop, Option, Some, None, codes, bytes_eq}
 use Rattle.std.specs.List.{position_or_len, prefix_len}
 use Rattle.text_lines.specs.Words.{split_words}
 
@@ -29,7 +30,8 @@ remark_of line = drop 1 (comment_of line)
 
 -- the words that an answer begins with, behind its number
 abbrev pub is_kind : List ℕ → Bool
-is_kind word = bytes_eq word (codes "ok") || bytes_eq word (codes "fault") || bytes_eq word (codes "call") || bytes_eq word (codes "irq")
+is_kind word = bytes_eq word (codes "ok") || bytes_eq word (codes "fault")
+    || bytes_eq word (codes "call") || bytes_eq word (codes "irq")
 
 -- a word begins with a digit
 abbrev pub is_numbered : List ℕ → Bool
@@ -59,7 +61,8 @@ says_it said answer = begins said answer || begins said (behind_first answer)
 
 -- the comment of a line says no answer, or this one
 abbrev pub answer_agrees : List ℕ → List ℕ → Bool
-answer_agrees line answer = not (says_answer (spoken_words (remark_of line))) || says_it (spoken_words (remark_of line)) (spoken_words answer)
+answer_agrees line answer = not (says_answer (spoken_words (remark_of line)))
+    || says_it (spoken_words (remark_of line)) (spoken_words answer)
 
 -- a line has no answer, or one with which its comment agrees
 abbrev pub agrees : List ℕ → Option (List ℕ) → Bool

@@ -14,10 +14,9 @@ use crate::explained::explain;
 use crate::reasons::{push_reason, reason_of};
 use arrayvec::ArrayVec;
 use byte_streams::{Sink, Source};
-use hart_trace::{Event, parse_line};
+use hart_trace::{AccessJudge, Event, LineJudge, parse_line};
 use pmp_match::Access;
 use text_lines::{Interpreter, Line, Refusal, RunFault, interpret_lines};
-use hart_trace::{AccessJudge, LineJudge};
 
 /// What answers the access of each line, and says what decided it.
 #[derive(Drop)]

@@ -8,8 +8,8 @@ ghost use Rattle.trace_answers.specs.Comparisons.{ComparesAll};
 use crate::comparison::{Compared, compare_lines};
 use crate::difference::Difference;
 use byte_streams::{Sink, Source};
-use text_lines::RunFault;
 use hart_trace::{AccessJudge, LineJudge};
+use text_lines::RunFault;
 
 /// Judges the accesses of a trace as `judge_lines` does, and compares each answer with the one that the comment of its line says.
 pub fn compare_judged<J: AccessJudge, R: Source, W: Sink>(

@@ -29,11 +29,11 @@ mod explaining_judges;
 mod judges;
 mod reasons;
 
-pub use comparison::{Compared, compare_lines};
-pub use difference::Difference;
-pub use judges::compare_judged;
 pub use comment::{Comment, push_address, push_number};
+pub use comparison::{Compared, compare_lines};
 pub use deciders::{Decider, Deciders};
+pub use difference::Difference;
 pub use explained::explain;
 pub use explaining_judges::explain_judged;
+pub use judges::compare_judged;
 pub use reasons::{Reason, push_extent, push_reason, reason_of};

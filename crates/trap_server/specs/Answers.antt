@@ -1,5 +1,6 @@
 -- The frame of an answer.
-use Rattle.std.specs.Prelude.{ℕ, ◌+◌, ◌*◌, zero, suc, Bool, true, false, List, [], ◌∷◌, ◌++◌, length, slice_index_or, slice_get, Option, None, Some}
+use Rattle.std.specs.Prelude.{ℕ, ◌+◌, ◌*◌, zero, suc, Bool, true, false, List, [], ◌∷◌, ◌++◌}
+use Rattle.std.specs.Prelude.{length, slice_index_or, slice_get, Option, None, Some}
 use Rattle.byteorder.specs.Endian.{little_bytes}
 use Rattle.pmp_encoding.specs.declared.pages.PageRange.{PageRange}
 use Rattle.pmp_encoding.specs.declared.region.Entry.{Entry}
@@ -24,7 +25,8 @@ bit_of true = 1
 -- the harts that are woken, a bit for each
 abbrev pub wake_word : List Bool → ℕ
 wake_word woken =
-    bit_of (slice_index_or woken 0 false) + 2 * bit_of (slice_index_or woken 1 false) + 4 * bit_of (slice_index_or woken 2 false) + 8 * bit_of (slice_index_or woken 3 false)
+    bit_of (slice_index_or woken 0 false) + 2 * bit_of (slice_index_or woken 1 false) + 4 * bit_of
+    (slice_index_or woken 2 false) + 8 * bit_of (slice_index_or woken 3 false)
 
 -- pages, or none from page 0 on
 abbrev pub pages_of : Option PageRange → PageRange
@@ -34,13 +36,17 @@ pages_of (Some range) = range
 -- what stands before the registers
 abbrev pub head_bytes : Head → ℕ → List ℕ
 head_bytes head used =
-    bytes_of (answer_tag ∷ (head.hart ∷ (number_of head.world ∷ (head.status ∷ (head.value ∷ (used ∷ ((pages_of head.zero).first ∷ ((pages_of head.zero).count ∷ (wake_word head.woken ∷ [])))))))))
+    bytes_of (answer_tag ∷ (head.hart
+    ∷ (number_of head.world ∷ (head.status
+    ∷ (head.value ∷ (used ∷ ((pages_of head.zero).first
+    ∷ ((pages_of head.zero).count ∷ (wake_word head.woken ∷ [])))))))))
 
 -- the program counter, and the registers from x1 to before xn
 abbrev pub register_bytes : RegisterFile → ℕ → List ℕ
 register_bytes file zero = []
 register_bytes file (suc zero) = little_bytes 8 file.pc
-register_bytes file (suc (suc n)) = register_bytes file (suc n) ++ little_bytes 8 (x_of file (suc n))
+register_bytes file (suc (suc n)) = register_bytes file (suc n)
+    ++ little_bytes 8 (x_of file (suc n))
 
 -- the configuration byte of an entry, 0 where there is none
 abbrev pub cfg_in : Option Entry → ℕ
@@ -73,9 +79,13 @@ address_bytes entries (suc n) = address_bytes entries n ++ little_bytes 8 (addre
 -- the control words in their order, after their tag
 abbrev pub control_bytes : ControlWords → List ℕ
 control_bytes words =
-    bytes_of (control_tag ∷ (words.status ∷ (words.satp ∷ (words.mie ∷ (words.scounteren ∷ (words.senvcfg ∷ (words.hstatus ∷ (words.medeleg ∷ (words.mideleg ∷ (words.mode ∷ []))))))))))
+    bytes_of (control_tag ∷ (words.status
+    ∷ (words.satp ∷ (words.mie ∷ (words.scounteren
+    ∷ (words.senvcfg ∷ (words.hstatus
+    ∷ (words.medeleg ∷ (words.mideleg ∷ (words.mode ∷ []))))))))))
 
 -- the bytes of the frame
 abbrev pub answer_bytes : Head → RegisterFile → List Entry → ControlWords → List ℕ
 answer_bytes head file entries control =
-    head_bytes head (length entries) ++ register_bytes file 32 ++ cfg_bytes entries 64 ++ address_bytes entries 64 ++ control_bytes control
+    head_bytes head (length entries) ++ register_bytes file 32 ++ cfg_bytes entries 64
+    ++ address_bytes entries 64 ++ control_bytes control

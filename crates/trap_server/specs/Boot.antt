@@ -1,5 +1,6 @@
 -- How the monitor is booted.
-use Rattle.std.specs.Prelude.{◌≡◌, ◌⊎◌, ◌<◌, ℕ, Bool, false, nat_lt, List, [], ◌∷◌, length, Option, None, Result, Ok, Err}
+use Rattle.std.specs.Prelude.{◌≡◌, ◌⊎◌, ◌<◌, ℕ, Bool, false, nat_lt, List, [], ◌∷◌, length, Option}
+use Rattle.std.specs.Prelude.{None, Result, Ok, Err}
 use Rattle.std.specs.Io.KnownBytes.{Appends, Consumes, IsAtEnd}
 use Rattle.platforms.specs.Platform.{PlatformLayout}
 use Rattle.monitor_core.specs.declared.monitor.Monitor.{Monitor}
@@ -9,7 +10,8 @@ use Rattle.enclave_table.specs.Boot.{IsBootFault}
 use Rattle.platforms.specs.declared.boot_fault.BootFault.TheVariants.{NeedsMoreEntries}
 use Rattle.trap_server.specs.Platforms.{IsNoPlatform, IsPlatformFrame}
 use Rattle.trap_server.specs.declared.end.Refusal.{Refusal}
-use Rattle.trap_server.specs.declared.end.Refusal.TheVariants.{NotUnderstood, Platform, NeedsEntries, Memory}
+use Rattle.trap_server.specs.declared.end.Refusal.TheVariants.{NotUnderstood, Platform}
+use Rattle.trap_server.specs.declared.end.Refusal.TheVariants.{NeedsEntries, Memory}
 use Rattle.trap_server.specs.declared.fault.ServeFault.{ServeFault}
 use Rattle.trap_server.specs.declared.fault.ServeFault.TheVariants as faults
 use Rattle.trap_server.specs.Tables.{first_host_words}
@@ -17,47 +19,67 @@ use Rattle.trap_server.specs.EndFrames.{end_bytes}
 use Rattle.trap_server.specs.Answered.{IsAnswer, no_answer}
 use Rattle.trap_server.specs.Ends.{IsPart}
 
--- why the first bytes are refused: they are no frame of a platform, or the input ends within it; its rules are broken; the host's view
--- needs more entries than there are; or memory is refused for a platform that is one
+-- why the first bytes are refused: they are no frame of a platform, or the input ends within it;
+-- its rules are broken; the host's view needs more entries than there are; or memory is refused for
+-- a platform that is one
 abbrev pub RefusesFirst : Refusal → List ℕ → Option (List ℕ) → Type 0
-RefusesFirst NotUnderstood read after = ((length read < 1336) × IsAtEnd after) ⊎ ((length read ≡ 1336) × IsNoPlatform NotUnderstood read)
+RefusesFirst NotUnderstood read after = ((length read < 1336) × IsAtEnd after)
+    ⊎ ((length read ≡ 1336) × IsNoPlatform NotUnderstood read)
 RefusesFirst (Platform fault) read after = (length read ≡ 1336) × IsNoPlatform (Platform fault) read
-RefusesFirst (NeedsEntries count) read after = (length read ≡ 1336) × (layout : PlatformLayout) × IsPlatformFrame read layout × IsBootFault layout (NeedsMoreEntries count)
-RefusesFirst Memory read after = (length read ≡ 1336) × (layout : PlatformLayout) × IsPlatformFrame read layout
+RefusesFirst (NeedsEntries count) read after = (length read ≡ 1336) × (layout : PlatformLayout)
+    × IsPlatformFrame read layout × IsBootFault layout (NeedsMoreEntries count)
+RefusesFirst Memory read after = (length read ≡ 1336) × (layout : PlatformLayout)
+    × IsPlatformFrame read layout
 
 -- the harts but hart 0
 abbrev pub others : ℕ → List Bool
 others harts = false ∷ (nat_lt 1 harts ∷ (nat_lt 2 harts ∷ (nat_lt 3 harts ∷ [])))
 
--- the answer to a platform: with which hart 0 goes on in the opening_monitor state, and all others load its entries
+-- the answer to a platform: with which hart 0 goes on in the opening_monitor state, and all others
+-- load its entries
 abbrev pub IsFirstAnswer : PlatformLayout → List ℕ → Type 0
-IsFirstAnswer layout bytes = IsAnswer (opening_monitor layout) first_host_words 0 no_answer None (others layout.harts) bytes
+IsFirstAnswer layout bytes = IsAnswer (opening_monitor layout) first_host_words 0 no_answer None
+    (others layout.harts) bytes
 
--- why the loop ends before a trap was read, and what was written. A refusal is the last frame. Where a read failed nothing was written; where
--- a write did, a part of the last frame or of the answer to the platform
+-- why the loop ends before a trap was read, and what was written. A refusal is the last frame.
+-- Where a read failed nothing was written; where a write did, a part of the last frame or of the
+-- answer to the platform
 abbrev pub StopsAtFirst : ServeFault → List ℕ → List ℕ → Option (List ℕ) → Type 0
-StopsAtFirst (faults.Refused refusal) read rest after = RefusesFirst refusal read after × (rest ≡ end_bytes refusal)
+StopsAtFirst (faults.Refused refusal) read rest after = RefusesFirst refusal read after
+    × (rest ≡ end_bytes refusal)
 StopsAtFirst faults.Read read rest after = (length read < 1336) × (rest ≡ [])
 StopsAtFirst faults.Write read rest after =
     ((refusal : Refusal) × RefusesFirst refusal read after × IsPart rest (end_bytes refusal))
-    ⊎ ((layout : PlatformLayout) × (answer : List ℕ) × (length read ≡ 1336) × IsPlatformFrame read layout × IsFirstAnswer layout answer × IsPart rest answer)
+    ⊎ ((layout : PlatformLayout) × (answer : List ℕ) × (length read ≡ 1336)
+    × IsPlatformFrame read layout × IsFirstAnswer layout answer × IsPart rest answer)
 
 -- the first bytes are a platform's
 abbrev pub IsFirst : PlatformLayout → Option (List ℕ) → Option (List ℕ) → Type 0
-IsFirst layout before after = (first : List ℕ) × (length first ≡ 1336) × IsPlatformFrame first layout × Consumes before after first
+IsFirst layout before after = (first : List ℕ) × (length first ≡ 1336)
+    × IsPlatformFrame first layout × Consumes before after first
 
 -- the loop ends before a trap was read, and why
-abbrev pub EndsAtFirst : ServeFault → Option (List ℕ) → Option (List ℕ) → Option (List ℕ) → Option (List ℕ) → Type 0
-EndsAtFirst fault before after held holds = (read rest : List ℕ) × StopsAtFirst fault read rest after × Consumes before after read × Appends held holds rest
+abbrev pub EndsAtFirst : ServeFault → Option (List ℕ) → Option (List ℕ) → Option (List ℕ)
+    → Option (List ℕ) → Type 0
+EndsAtFirst fault before after held holds = (read rest : List ℕ)
+    × StopsAtFirst fault read rest after × Consumes before after read × Appends held holds rest
 
--- the platform was read and nothing written, and the monitor is as at its opening_monitor; or the loop ends, and why
-abbrev pub Boots : Result Monitor ServeFault → Option (List ℕ) → Option (List ℕ) → Option (List ℕ) → Option (List ℕ) → Type 0
+-- the platform was read and nothing written, and the monitor is as at its opening_monitor; or the
+-- loop ends, and why
+abbrev pub Boots : Result Monitor ServeFault → Option (List ℕ) → Option (List ℕ) → Option (List ℕ)
+    → Option (List ℕ) → Type 0
 Boots (Ok monitor) before after held holds =
-    (layout : PlatformLayout) × (first : List ℕ) × (length first ≡ 1336) × IsPlatformFrame first layout × (state_by monitor ≡ opening_monitor layout) × Consumes before after first × Appends held holds []
+    (layout : PlatformLayout) × (first : List ℕ) × (length first ≡ 1336)
+    × IsPlatformFrame first layout × (state_by monitor ≡ opening_monitor layout)
+    × Consumes before after first × Appends held holds []
 Boots (Err fault) before after held holds = EndsAtFirst fault before after held holds
 
 -- the same of a platform that was read
-abbrev pub BootsOn : Result Monitor ServeFault → PlatformLayout → Option (List ℕ) → Option (List ℕ) → Type 0
-BootsOn (Ok monitor) layout held holds = (state_by monitor ≡ opening_monitor layout) × Appends held holds []
+abbrev pub BootsOn : Result Monitor ServeFault → PlatformLayout → Option (List ℕ) → Option (List ℕ)
+    → Type 0
+BootsOn (Ok monitor) layout held holds = (state_by monitor ≡ opening_monitor layout)
+    × Appends held holds []
 BootsOn (Err fault) layout held holds =
-    (rest : List ℕ) × ((read : List ℕ) (after : Option (List ℕ)) → length read ≡ 1336 → IsPlatformFrame read layout → StopsAtFirst fault read rest after) × Appends held holds rest
+    (rest : List ℕ) × ((read : List ℕ) (after : Option (List ℕ)) → length read ≡ 1336
+    → IsPlatformFrame read layout → StopsAtFirst fault read rest after)
+    × Appends held holds rest

@@ -3,7 +3,8 @@ use Rattle.std.specs.Prelude.{ℕ, List, [], ◌∷◌}
 use Rattle.platforms.specs.Platform.{platform_fault_number}
 use Rattle.trap_server.specs.Words.{bytes_of, end_tag}
 use Rattle.trap_server.specs.declared.end.Refusal.{Refusal}
-use Rattle.trap_server.specs.declared.end.Refusal.TheVariants.{NotUnderstood, Platform, NeedsEntries, Memory}
+use Rattle.trap_server.specs.declared.end.Refusal.TheVariants.{NotUnderstood, Platform}
+use Rattle.trap_server.specs.declared.end.Refusal.TheVariants.{NeedsEntries, Memory}
 
 -- the number of a reason
 abbrev pub reason_of : Refusal → ℕ

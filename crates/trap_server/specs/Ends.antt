@@ -1,5 +1,6 @@
 -- What was written last, where the loop ends early.
-use Rattle.std.specs.Prelude.{◌≡◌, ◌⊎◌, ◌<◌, ℕ, List, [], ◌++◌, length, take, Option, Result, MatchResult}
+use Rattle.std.specs.Prelude.{◌≡◌, ◌⊎◌, ◌<◌, ℕ, List, [], ◌++◌, length, take, Option, Result}
+use Rattle.std.specs.Prelude.{MatchResult}
 use Rattle.std.specs.Io.KnownBytes.{Appends}
 use Rattle.byte_streams.specs.Streams.{WriteFails, one_failure_more}
 use Rattle.byte_streams.specs.Writings.{TakesPart}
@@ -22,9 +23,11 @@ BreaksOff rest front frame = (part : List ℕ) × IsPart part frame × (rest ≡
 -- the last frame was written, which says why; or a part of it, where the sink failed
 abbrev pub Refuses : ServeFault → Refusal → Option (List ℕ) → Option (List ℕ) → Type 0
 Refuses result refusal held holds =
-    ((result ≡ faults.Refused refusal) × Appends held holds (end_bytes refusal)) ⊎ ((result ≡ faults.Write) × TakesPart (end_bytes refusal) held holds)
+    ((result ≡ faults.Refused refusal) × Appends held holds (end_bytes refusal))
+    ⊎ ((result ≡ faults.Write) × TakesPart (end_bytes refusal) held holds)
 
--- the loop ends with a frame's fault: what is not understood is refused, and where a device failed nothing more is written
+-- the loop ends with a frame's fault: what is not understood is refused, and where a device failed
+-- nothing more is written
 abbrev pub EndsAs : ServeFault → FrameFault → Option (List ℕ) → Option (List ℕ) → Type 0
 EndsAs result frames.NotUnderstood held holds = Refuses result refusals.NotUnderstood held holds
 EndsAs result frames.Read held holds = (result ≡ faults.Read) × Appends held holds []
@@ -42,12 +45,14 @@ CountsWrite _ failures failed stalls stalled = (failed ≡ failures) × (stalled
 
 -- what a call that ends in a fault or well counts of its reads
 abbrev pub CountsReads : {X : Type 0} → Result X ServeFault → ℕ → ℕ → Type 0
-CountsReads result before after = MatchResult result (λ _. after ≡ before) (λ fault. CountsRead fault before after)
+CountsReads result before after =
+    MatchResult result (λ _. after ≡ before) (λ fault. CountsRead fault before after)
 
 -- and of its writes
 abbrev pub CountsWrites : {X : Type 0} → Result X ServeFault → ℕ → ℕ → ℕ → ℕ → Type 0
 CountsWrites result failures failed stalls stalled =
-    MatchResult result (λ _. (failed ≡ failures) × (stalled ≡ stalls)) (λ fault. CountsWrite fault failures failed stalls stalled)
+    MatchResult result (λ _. (failed ≡ failures)
+    × (stalled ≡ stalls)) (λ fault. CountsWrite fault failures failed stalls stalled)
 
 -- what a frame's fault counts of reads
 abbrev pub FrameRead : FrameFault → ℕ → ℕ → Type 0

@@ -3,7 +3,8 @@ use Rattle.std.specs.Prelude.{◌≡◌, ℕ, ◌<◌, ◌≤◌, List, length, 
 use Rattle.std.specs.Io.KnownBytes.{Consumes, IsAtEnd}
 use Rattle.byte_streams.specs.declared.streams.DeviceFault.{DeviceFault}
 
--- n bytes stand at the front of a buffer, and left the source; fewer than there is room for only at its end
+-- n bytes stand at the front of a buffer, and left the source; fewer than there is room for only at
+-- its end
 pub record Filled (n : ℕ) (buffer : List ℕ) (before after : Option (List ℕ)) : Type 0 where
   pub within : n ≤ length buffer
   pub consumed : Consumes before after (take n buffer)
@@ -14,5 +15,7 @@ abbrev pub Breaks : ℕ → Option (List ℕ) → Option (List ℕ) → Type 0
 Breaks room before after = (bytes : List ℕ) × (length bytes < room) × Consumes before after bytes
 
 -- a buffer was filled
-abbrev pub Fills : Result ℕ DeviceFault → List ℕ → List ℕ → Option (List ℕ) → Option (List ℕ) → Type 0
-Fills result old new before after = (length new ≡ length old) × MatchResult result (λ n. Filled n new before after) (λ _. Breaks (length old) before after)
+abbrev pub Fills : Result ℕ DeviceFault → List ℕ → List ℕ → Option (List ℕ) → Option (List ℕ)
+    → Type 0
+Fills result old new before after = (length new ≡ length old)
+    × MatchResult result (λ n. Filled n new before after) (λ _. Breaks (length old) before after)

@@ -20,8 +20,9 @@ abbrev pub words_in : World → ControlWords → ControlWords
 words_in Host host = host
 words_in (InEnclave id) host = enclave_words host
 
--- at a trap on a hart words came from the world that ran there: those of the hosts are kept as they came last, and these are given
--- to the world that goes on there
-pub record GivesWords (hosts : ℕ → ControlWords) (hart : ℕ) (before after : World) (came : ControlWords) (kept : ℕ → ControlWords) (given : ControlWords) : Type 0 where
+-- at a trap on a hart words came from the world that ran there: those of the hosts are kept as they
+-- came last, and these are given to the world that goes on there
+pub record GivesWords (hosts : ℕ → ControlWords) (hart : ℕ) (before after : World)
+    (came : ControlWords) (kept : ℕ → ControlWords) (given : ControlWords) : Type 0 where
   pub keeps : kept ≡ keeping before hosts hart came
   pub gives : given ≡ words_in after (kept hart)

@@ -3,7 +3,8 @@ use Rattle.std.specs.Prelude.{ℕ, ℤ, pos, Result, Ok, Err}
 use Rattle.trap_server.specs.declared.fault.ServeFault.{ServeFault}
 use Rattle.trap_server.specs.declared.fault.ServeFault.TheVariants.{Refused, Read, Write}
 
--- what firmware gets: 0 where the input ended, 1 where it was refused, 2 where a read failed, 3 where a write did
+-- what firmware gets: 0 where the input ended, 1 where it was refused, 2 where a read failed, 3
+-- where a write did
 abbrev pub served_number : Result (Unit {0}) ServeFault → ℤ
 served_number (Ok done) = pos 0
 served_number (Err (Refused refusal)) = pos 1

@@ -1,5 +1,6 @@
 -- The pages of a creation, read as they are measured.
-use Rattle.std.specs.Prelude.{◌≡◌, ◌⊎◌, ℕ, ◌+◌, ◌/◌, ◌<◌, ◌≤◌, ◌^◌, List, [], ◌∷◌, ◌++◌, length, drop, Option, Result, Ok, Err}
+use Rattle.std.specs.Prelude.{◌≡◌, ◌⊎◌, ℕ, ◌+◌, ◌/◌, ◌<◌, ◌≤◌, ◌^◌, List, [], ◌∷◌, ◌++◌, length}
+use Rattle.std.specs.Prelude.{drop, Option, Result, Ok, Err}
 use Rattle.std.specs.Io.KnownBytes.{Appends, Consumes, IsAtEnd}
 use Rattle.byte_streams.specs.Writings.{TakesPart}
 use Rattle.measurement.specs.Measured.{digest_of}
@@ -33,40 +34,54 @@ pub record IsPageFrame (frame : List ℕ) (page : ℕ) (bytes : List ℕ) : Type
 -- frames of pages that stand one after another, by rising number, and the bytes of each page
 pub data ArePages (first : ℕ) : ℕ → List ℕ → List (List ℕ) → Type 0 where
   no_page : ArePages first 0 [] []
-  next_page : {count : ℕ} {read : List ℕ} {pages : List (List ℕ)} → ArePages first count read pages → (frame bytes : List ℕ) → IsPageFrame frame (first + count) bytes → ArePages first (count + 1) (read ++ frame) (pages ++ (bytes ∷ []))
+  next_page : {count : ℕ} {read : List ℕ} {pages : List (List ℕ)} → ArePages first count read pages
+      → (frame bytes : List ℕ) → IsPageFrame frame (first + count) bytes
+      → ArePages first (count + 1) (read ++ frame) (pages ++ (bytes ∷ []))
 
 -- bytes that are no frame of a page: they have its size and are none, or the input ends within it
 abbrev pub IsNoPage : List ℕ → ℕ → Option (List ℕ) → Type 0
 IsNoPage frame page after =
-    ((length frame ≡ 4112) × ((bytes : List ℕ) → IsPageFrame frame page bytes → ⊥)) ⊎ ((length frame < 4112) × IsAtEnd after)
+    ((length frame ≡ 4112) × ((bytes : List ℕ) → IsPageFrame frame page bytes → ⊥))
+    ⊎ ((length frame < 4112) × IsAtEnd after)
 
 -- what the read of a page answers, by what it consumed
-abbrev pub ReadsPage : Result (Unit {0}) FrameFault → ℕ → List ℕ → Option (List ℕ) → Option (List ℕ) → Type 0
-ReadsPage (Ok done) page bytes before after = (frame : List ℕ) × IsPageFrame frame page bytes × Consumes before after frame
-ReadsPage (Err faults.NotUnderstood) page bytes before after = (frame : List ℕ) × IsNoPage frame page after × Consumes before after frame
+abbrev pub ReadsPage : Result (Unit {0}) FrameFault → ℕ → List ℕ → Option (List ℕ) → Option (List ℕ)
+    → Type 0
+ReadsPage (Ok done) page bytes before after = (frame : List ℕ) × IsPageFrame frame page bytes
+    × Consumes before after frame
+ReadsPage (Err faults.NotUnderstood) page bytes before after = (frame : List ℕ)
+    × IsNoPage frame page after × Consumes before after frame
 ReadsPage (Err faults.Read) page bytes before after = Breaks 4112 before after
 ReadsPage (Err faults.Write) page bytes before after = ⊥
 
 -- the frames of the first pages were read, and then bytes that are no frame of the next
 abbrev pub StopsAtPage : Create → List ℕ → Option (List ℕ) → Type 0
 StopsAtPage parts came after =
-    (k : ℕ) × (k < parts.text_pages + parts.data_pages) × (read bad : List ℕ) × (pages : List (List ℕ)) × ArePages (parts.base / 4096) k read pages
+    (k : ℕ) × (k < parts.text_pages + parts.data_pages) × (read bad : List ℕ)
+    × (pages : List (List ℕ)) × ArePages (parts.base / 4096) k read pages
     × IsNoPage bad (parts.base / 4096 + k) after × (came ≡ read ++ bad)
 
 -- the frames of the first pages were read, and then less than one of the next
 abbrev pub BreaksAtPage : Create → List ℕ → Type 0
 BreaksAtPage parts came =
-    (k : ℕ) × (k < parts.text_pages + parts.data_pages) × (read part : List ℕ) × (pages : List (List ℕ)) × ArePages (parts.base / 4096) k read pages
+    (k : ℕ) × (k < parts.text_pages + parts.data_pages) × (read part : List ℕ)
+    × (pages : List (List ℕ)) × ArePages (parts.base / 4096) k read pages
     × (length part < 4112) × (came ≡ read ++ part)
 
--- the digest is that of the pages that were read, each once, by rising number. What is not understood is no frame of the page that was to
--- come; where a read failed less than that was read, and where a write did nothing
-abbrev pub Measures : Result (List ℕ) FrameFault → Create → Option (List ℕ) → Option (List ℕ) → Type 0
+-- the digest is that of the pages that were read, each once, by rising number. What is not
+-- understood is no frame of the page that was to come; where a read failed less than that was read,
+-- and where a write did nothing
+abbrev pub Measures : Result (List ℕ) FrameFault → Create → Option (List ℕ) → Option (List ℕ)
+    → Type 0
 Measures (Ok digest) parts before after =
-    (read : List ℕ) × (pages : List (List ℕ)) × ArePages (parts.base / 4096) (parts.text_pages + parts.data_pages) read pages × Consumes before after read
+    (read : List ℕ) × (pages : List (List ℕ))
+    × ArePages (parts.base / 4096) (parts.text_pages + parts.data_pages) read pages
+    × Consumes before after read
     × (digest ≡ digest_of (layout_of parts) pages)
-Measures (Err faults.NotUnderstood) parts before after = (read : List ℕ) × StopsAtPage parts read after × Consumes before after read
-Measures (Err faults.Read) parts before after = (read : List ℕ) × BreaksAtPage parts read × Consumes before after read
+Measures (Err faults.NotUnderstood) parts before after = (read : List ℕ)
+    × StopsAtPage parts read after × Consumes before after read
+Measures (Err faults.Read) parts before after = (read : List ℕ) × BreaksAtPage parts read
+    × Consumes before after read
 Measures (Err faults.Write) parts before after = Consumes before after []
 
 -- the question was written whole; where a write failed a part of it

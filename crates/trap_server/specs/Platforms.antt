@@ -1,5 +1,6 @@
 -- The first frame: the platform.
-use Rattle.std.specs.Prelude.{◌≡◌, ◌⊎◌, ℕ, zero, suc, ◌+◌, ◌*◌, ◌<◌, ◌≤◌, List, [], ◌∷◌, ◌++◌, length, map, Option, Result, Ok, Err}
+use Rattle.std.specs.Prelude.{◌≡◌, ◌⊎◌, ℕ, zero, suc, ◌+◌, ◌*◌, ◌<◌, ◌≤◌, List, [], ◌∷◌, ◌++◌}
+use Rattle.std.specs.Prelude.{length, map, Option, Result, Ok, Err}
 use Rattle.std.specs.Io.KnownBytes.{Consumes, IsAtEnd}
 use Rattle.pmp_encoding.specs.declared.perm.Perm.{Perm}
 use Rattle.pmp_encoding.specs.Perms.{bits_of}
@@ -7,23 +8,28 @@ use Rattle.pmp_encoding.specs.Limits.{limit_number}
 use Rattle.platforms.specs.Platform.{PlatformLayout, platform_rules}
 use Rattle.platforms.specs.CheckLists.{FailsFirst}
 use Rattle.platforms.specs.declared.platform.PlatformFault.{PlatformFault}
-use Rattle.platforms.specs.declared.platform.PlatformFault.TheVariants.{BadNumber, BadHarts, BadEntries}
+use Rattle.platforms.specs.declared.platform.PlatformFault.TheVariants.{BadNumber, BadHarts}
+use Rattle.platforms.specs.declared.platform.PlatformFault.TheVariants.{BadEntries}
 use Rattle.trap_server.specs.Words.{word_at, platform_tag}
 use Rattle.trap_server.specs.FrameBytes.{Breaks}
 use Rattle.trap_server.specs.declared.frame_fault.FrameFault.{FrameFault}
 use Rattle.trap_server.specs.declared.frame_fault.FrameFault.TheVariants as faults
 use Rattle.trap_server.specs.declared.end.Refusal.{Refusal}
-use Rattle.trap_server.specs.declared.end.Refusal.TheVariants.{NotUnderstood, Platform, NeedsEntries, Memory}
+use Rattle.trap_server.specs.declared.end.Refusal.TheVariants.{NotUnderstood, Platform}
+use Rattle.trap_server.specs.declared.end.Refusal.TheVariants.{NeedsEntries, Memory}
 
 -- the first ranges of memory: two words each, from word 7 on
 abbrev pub ram_in : List ℕ → ℕ → List (ℕ × ℕ)
 ram_in bytes zero = []
-ram_in bytes (suc n) = ram_in bytes n ++ ((word_at bytes (7 + 2 * n), word_at bytes (8 + 2 * n)) ∷ [])
+ram_in bytes (suc n) = ram_in bytes n
+    ++ ((word_at bytes (7 + 2 * n), word_at bytes (8 + 2 * n)) ∷ [])
 
--- the words of the first devices: three each, from word 71 on; and the words of devices, a permission by its bits
+-- the words of the first devices: three each, from word 71 on; and the words of devices, a
+-- permission by its bits
 abbrev pub device_words : List ℕ → ℕ → List (ℕ × ℕ × ℕ)
 device_words bytes zero = []
-device_words bytes (suc n) = device_words bytes n ++ ((word_at bytes (71 + 3 * n), word_at bytes (72 + 3 * n), word_at bytes (73 + 3 * n)) ∷ [])
+device_words bytes (suc n) = device_words bytes n
+    ++ ((word_at bytes (71 + 3 * n), word_at bytes (72 + 3 * n), word_at bytes (73 + 3 * n)) ∷ [])
 
 -- the three words of a device: base, size, permission
 abbrev pub words_of_device : (ℕ × ℕ × Perm) → ℕ × ℕ × ℕ
@@ -52,17 +58,21 @@ AreFew bytes = (word_at bytes 5 ≤ 32) × (word_at bytes 6 ≤ 32)
 
 -- the third word of a device is the bits of no permission
 abbrev pub LacksPermission : List ℕ → Type 0
-LacksPermission bytes = (k : ℕ) × (k < word_at bytes 6) × ((perm : Perm) → bits_of perm ≡ word_at bytes (73 + 3 * k) → ⊥)
+LacksPermission bytes = (k : ℕ) × (k < word_at bytes 6)
+    × ((perm : Perm) → bits_of perm ≡ word_at bytes (73 + 3 * k) → ⊥)
 
 -- the rules on the words of its harts and entries, each with its fault
 abbrev pub shape_rules : List ℕ → List (PlatformFault × Type 0)
-shape_rules bytes = (BadHarts, (0 < word_at bytes 1) × (word_at bytes 1 ≤ 4)) ∷ ((BadEntries, (word_at bytes 2 ≡ 16) ⊎ (word_at bytes 2 ≡ 64)) ∷ [])
+shape_rules bytes = (BadHarts, (0 < word_at bytes 1) × (word_at bytes 1 ≤ 4))
+    ∷ ((BadEntries, (word_at bytes 2 ≡ 16) ⊎ (word_at bytes 2 ≡ 64)) ∷ [])
 
--- there is no room for its ranges; or of the rules on the ranges of a platform, and more rules after them, this one is the first that is broken
+-- there is no room for its ranges; or of the rules on the ranges of a platform, and more rules
+-- after them, this one is the first that is broken
 abbrev pub BreaksRule : List ℕ → List (PlatformFault × Type 0) → PlatformFault → Type 0
 BreaksRule bytes more fault =
     ((fault ≡ BadNumber) × (AreFew bytes → ⊥))
-    ⊎ (AreFew bytes × (layout : PlatformLayout) × HasRanges bytes layout × FailsFirst (platform_rules layout.monitor layout.ram layout.devices ++ more) fault)
+    ⊎ (AreFew bytes × (layout : PlatformLayout) × HasRanges bytes layout
+    × FailsFirst (platform_rules layout.monitor layout.ram layout.devices ++ more) fault)
 
 -- why bytes are the ranges of no platform
 abbrev pub AreNoRanges : Refusal → List ℕ → Type 0
@@ -71,18 +81,24 @@ AreNoRanges (Platform fault) bytes = BreaksRule bytes [] fault
 AreNoRanges (NeedsEntries count) bytes = ⊥
 AreNoRanges Memory bytes = ⊥
 
--- why as many bytes as a frame of a platform has are none: another tag, or a device without a permission, is not understood;
--- otherwise the first rule that is broken says why
+-- why as many bytes as a frame of a platform has are none: another tag, or a device without a
+-- permission, is not understood; otherwise the first rule that is broken says why
 abbrev pub IsNoPlatform : Refusal → List ℕ → Type 0
-IsNoPlatform NotUnderstood bytes = (word_at bytes 0 ≡ platform_tag → ⊥) ⊎ ((word_at bytes 0 ≡ platform_tag) × AreFew bytes × LacksPermission bytes)
-IsNoPlatform (Platform fault) bytes = (word_at bytes 0 ≡ platform_tag) × BreaksRule bytes (shape_rules bytes) fault
+IsNoPlatform NotUnderstood bytes = (word_at bytes 0 ≡ platform_tag → ⊥)
+    ⊎ ((word_at bytes 0 ≡ platform_tag) × AreFew bytes × LacksPermission bytes)
+IsNoPlatform (Platform fault) bytes = (word_at bytes 0 ≡ platform_tag)
+    × BreaksRule bytes (shape_rules bytes) fault
 IsNoPlatform (NeedsEntries count) bytes = ⊥
 IsNoPlatform Memory bytes = ⊥
 
 -- what the read of the platform answers, by what it consumed
-abbrev pub ReadsPlatform : Result (Result PlatformLayout Refusal) FrameFault → Option (List ℕ) → Option (List ℕ) → Type 0
-ReadsPlatform (Ok (Ok layout)) before after = (bytes : List ℕ) × (length bytes ≡ 1336) × IsPlatformFrame bytes layout × Consumes before after bytes
-ReadsPlatform (Ok (Err refusal)) before after = (bytes : List ℕ) × (length bytes ≡ 1336) × IsNoPlatform refusal bytes × Consumes before after bytes
-ReadsPlatform (Err faults.NotUnderstood) before after = (bytes : List ℕ) × (length bytes < 1336) × IsAtEnd after × Consumes before after bytes
+abbrev pub ReadsPlatform : Result (Result PlatformLayout Refusal) FrameFault → Option (List ℕ)
+    → Option (List ℕ) → Type 0
+ReadsPlatform (Ok (Ok layout)) before after = (bytes : List ℕ) × (length bytes ≡ 1336)
+    × IsPlatformFrame bytes layout × Consumes before after bytes
+ReadsPlatform (Ok (Err refusal)) before after = (bytes : List ℕ) × (length bytes ≡ 1336)
+    × IsNoPlatform refusal bytes × Consumes before after bytes
+ReadsPlatform (Err faults.NotUnderstood) before after = (bytes : List ℕ) × (length bytes < 1336)
+    × IsAtEnd after × Consumes before after bytes
 ReadsPlatform (Err faults.Read) before after = Breaks 1336 before after
 ReadsPlatform (Err faults.Write) before after = ⊥

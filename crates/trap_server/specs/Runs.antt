@@ -18,31 +18,48 @@ use Rattle.trap_server.specs.Boot.{EndsAtFirst, IsFirstAnswer}
 use Rattle.trap_server.specs.Steps.{StopsTrap}
 use Rattle.trap_server.specs.Service.{ServesTrap}
 
--- traps that were served in turn, from one state and the hosts' control words to others: the bytes that were read for them, and
--- those that were written
-pub data Serves (old : MonitorState) (hosts : ℕ → ControlWords) : List ℕ → List ℕ → MonitorState → (ℕ → ControlWords) → Type 0 where
+-- traps that were served in turn, from one state and the hosts' control words to others: the bytes
+-- that were read for them, and those that were written
+pub data Serves (old : MonitorState) (hosts : ℕ → ControlWords) : List ℕ → List ℕ → MonitorState
+    → (ℕ → ControlWords) → Type 0 where
   no_trap : Serves old hosts [] [] old hosts
-  next_trap : {read written : List ℕ} {mid : MonitorState} {now : ℕ → ControlWords} → Serves old hosts read written mid now → (trap : Trap) (frame more question answered : List ℕ) (new : MonitorState) (kept : ℕ → ControlWords) → length frame ≡ 352 → IsTrapFrame frame mid.table.layout.harts trap → ServesTrap mid now trap more question answered new kept → Serves old hosts (read ++ (frame ++ more)) (written ++ (question ++ answered)) new kept
+  next_trap : {read written : List ℕ} {mid : MonitorState} {now : ℕ → ControlWords}
+      → Serves old hosts read written mid now
+      → (trap : Trap) (frame more question answered : List ℕ) (new : MonitorState) (kept : ℕ
+      → ControlWords) → length frame ≡ 352 → IsTrapFrame frame mid.table.layout.harts trap
+      → ServesTrap mid now trap more question answered new kept
+      → Serves old hosts (read ++ (frame ++ more)) (written ++ (question ++ answered)) new kept
 
 -- how many they are
-abbrev pub trap_count : {old : MonitorState} {hosts : ℕ → ControlWords} {read written : List ℕ} {new : MonitorState} {kept : ℕ → ControlWords} → Serves old hosts read written new kept → ℕ
+abbrev pub trap_count : {old : MonitorState} {hosts : ℕ
+    → ControlWords} {read written : List ℕ} {new : MonitorState} {kept : ℕ → ControlWords}
+    → Serves old hosts read written new kept → ℕ
 trap_count no_trap = 0
-trap_count (next_trap served trap frame more question answered new kept size is step) = trap_count served + 1
+trap_count (next_trap served trap frame more question answered new kept size is step) =
+    trap_count served + 1
 
--- the words with which the host of each hart came last; where no trap was the host's, those that it had before
-abbrev pub came_last : (hosts : ℕ → ControlWords) {old : MonitorState} {read written : List ℕ} {new : MonitorState} {kept : ℕ → ControlWords} → Serves old hosts read written new kept → ℕ → ControlWords
+-- the words with which the host of each hart came last; where no trap was the host's, those that it
+-- had before
+abbrev pub came_last : (hosts : ℕ
+    → ControlWords) {old : MonitorState} {read written : List ℕ} {new : MonitorState} {kept : ℕ
+    → ControlWords} → Serves old hosts read written new kept → ℕ → ControlWords
 came_last hosts no_trap = hosts
-came_last hosts (next_trap {mid = mid} served trap frame more question answered new kept size is step) = keeping (mid.worlds trap.hart) (came_last hosts served) trap.hart trap.control
+came_last hosts (next_trap {mid = mid} served trap frame more question answered new kept size is
+    step) = keeping (mid.worlds trap.hart) (came_last hosts served) trap.hart trap.control
 
 -- after any traps what is kept is that
 abbrev pub KeepsWhatCame : Type 0
-KeepsWhatCame = (old : MonitorState) (hosts : ℕ → ControlWords) (read written : List ℕ) (new : MonitorState) (kept : ℕ → ControlWords) (served : Serves old hosts read written new kept) → kept ≡ came_last hosts served
+KeepsWhatCame = (old : MonitorState) (hosts : ℕ
+    → ControlWords) (read written : List ℕ) (new : MonitorState) (kept : ℕ
+    → ControlWords) (served : Serves old hosts read written new kept)
+    → kept ≡ came_last hosts served
 
 -- before any trap each host has the words with which it begins
 abbrev pub first_words : ℕ → ControlWords
 first_words hart = first_host_words
 
--- the platform was read and its answer written; then traps were served, and after them these bytes were read and written
+-- the platform was read and its answer written; then traps were served, and after them these bytes
+-- were read and written
 pub record Ran (before after held holds : Option (List ℕ)) (beyond rest : List ℕ) : Type 0 where
   pub layout : PlatformLayout
   pub first : List ℕ
@@ -62,25 +79,35 @@ pub record Ran (before after held holds : Option (List ℕ)) (beyond rest : List
 
 -- why there is no next trap after so many: what came is no frame of one, or there were 2^64 - 1
 abbrev pub RefusesNext : ℕ → MonitorState → List ℕ → Option (List ℕ) → Type 0
-RefusesNext count s beyond after = IsNoTrap beyond s.table.layout.harts after ⊎ ((count ≡ 2 ^ 64 - 1) × (beyond ≡ []))
+RefusesNext count s beyond after = IsNoTrap beyond s.table.layout.harts after
+    ⊎ ((count ≡ 2 ^ 64 - 1) × (beyond ≡ []))
 
--- why the loop ends before the next trap was read, and what was written. A refusal is the last frame. Where a read failed less than a trap was
--- read and nothing written; where a write did, a part of the last frame
+-- why the loop ends before the next trap was read, and what was written. A refusal is the last
+-- frame. Where a read failed less than a trap was read and nothing written; where a write did, a
+-- part of the last frame
 abbrev pub StopsBetween : ServeFault → ℕ → MonitorState → List ℕ → List ℕ → Option (List ℕ) → Type 0
-StopsBetween (faults.Refused NotUnderstood) count s beyond rest after = RefusesNext count s beyond after × (rest ≡ end_bytes NotUnderstood)
+StopsBetween (faults.Refused NotUnderstood) count s beyond rest after =
+    RefusesNext count s beyond after × (rest ≡ end_bytes NotUnderstood)
 StopsBetween (faults.Refused _) count s beyond rest after = ⊥
 StopsBetween faults.Read count s beyond rest after = (length beyond < 352) × (rest ≡ [])
-StopsBetween faults.Write count s beyond rest after = RefusesNext count s beyond after × IsPart rest (end_bytes NotUnderstood)
+StopsBetween faults.Write count s beyond rest after = RefusesNext count s beyond after
+    × IsPart rest (end_bytes NotUnderstood)
 
 -- the next trap was read, and why the loop ends at it
-abbrev pub StopsInside : ServeFault → MonitorState → (ℕ → ControlWords) → List ℕ → List ℕ → Option (List ℕ) → Type 0
+abbrev pub StopsInside : ServeFault → MonitorState → (ℕ → ControlWords) → List ℕ → List ℕ
+    → Option (List ℕ) → Type 0
 StopsInside fault s hosts beyond rest after =
-    (trap : Trap) × (frame read : List ℕ) × (length frame ≡ 352) × IsTrapFrame frame s.table.layout.harts trap × StopsTrap fault s hosts trap read rest after × (beyond ≡ frame ++ read)
+    (trap : Trap) × (frame read : List ℕ) × (length frame ≡ 352)
+    × IsTrapFrame frame s.table.layout.harts trap × StopsTrap fault s hosts trap read rest after
+    × (beyond ≡ frame ++ read)
 
--- the loop ended early, and why: before a trap was read, or after some traps, of which each was served and answered. Then some bytes were read
--- beyond them and some written, before the next trap was read or behind it
-abbrev pub EndsEarly : ServeFault → Option (List ℕ) → Option (List ℕ) → Option (List ℕ) → Option (List ℕ) → Type 0
+-- the loop ended early, and why: before a trap was read, or after some traps, of which each was
+-- served and answered. Then some bytes were read beyond them and some written, before the next trap
+-- was read or behind it
+abbrev pub EndsEarly : ServeFault → Option (List ℕ) → Option (List ℕ) → Option (List ℕ)
+    → Option (List ℕ) → Type 0
 EndsEarly fault before after held holds =
     EndsAtFirst fault before after held holds
     ⊎ ((beyond rest : List ℕ) × (run : Ran before after held holds beyond rest)
-    × (StopsBetween fault run.count run.state beyond rest after ⊎ StopsInside fault run.state run.hosts beyond rest after))
+    × (StopsBetween fault run.count run.state beyond rest after
+    ⊎ StopsInside fault run.state run.hosts beyond rest after))

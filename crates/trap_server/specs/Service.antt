@@ -17,26 +17,34 @@ use Rattle.trap_server.specs.declared.trap.Trap.{Trap}
 use Rattle.trap_server.specs.PageDigest.{ArePages, question_of}
 use Rattle.trap_server.specs.Answered.{IsAnswer, marks_of, no_answer, unmarked}
 
--- a creation that passes its checks has its private pages asked for, and read once, by rising number; nothing else is asked for or read
+-- a creation that passes its checks has its private pages asked for, and read once, by rising
+-- number; nothing else is asked for or read
 abbrev pub AsksFor : Option Create → MonitorState → ℕ → List ℕ → List ℕ → (ℕ → List ℕ) → Type 0
 AsksFor asked s hart question read pages =
-    ((question ≡ []) × (read ≡ []) × ((parts : Create) → Measures asked s.table (s.worlds hart) parts → ⊥))
-    ⊎ ((parts : Create) × Measures asked s.table (s.worlds hart) parts × (question ≡ question_of parts)
-    × ArePages (parts.base / 4096) (parts.text_pages + parts.data_pages) read (pages_from pages (parts.base / 4096) (parts.text_pages + parts.data_pages)))
+    ((question ≡ []) × (read ≡ []) × ((parts : Create)
+    → Measures asked s.table (s.worlds hart) parts → ⊥))
+    ⊎ ((parts : Create) × Measures asked s.table (s.worlds hart) parts
+    × (question ≡ question_of parts)
+    × ArePages (parts.base / 4096) (parts.text_pages + parts.data_pages) read
+    (pages_from pages (parts.base / 4096) (parts.text_pages + parts.data_pages)))
 
--- a call is a step of the monitor, over the pages that were read; then no hart is marked, and each that was is woken
-pub record ServesCall (s : MonitorState) (trap : Trap) (given : ControlWords) (read question answered : List ℕ) (new : MonitorState) : Type 0 where
+-- a call is a step of the monitor, over the pages that were read; then no hart is marked, and each
+-- that was is woken
+pub record ServesCall (s : MonitorState) (trap : Trap) (given : ControlWords)
+    (read question answered : List ℕ) (new : MonitorState) : Type 0 where
   pub pages : ℕ → List ℕ
   pub answer : Answer
   pub cleared : Option PageRange
   pub mid : MonitorState
   pub asks : AsksFor (asked_in (call_of trap.registers)) s trap.hart question read pages
-  pub step : DoesCall (call_of (past_call trap.registers)) pages (with_running s trap.hart (past_call trap.registers)) trap.hart answer cleared mid
+  pub step : DoesCall (call_of (past_call trap.registers)) pages
+      (with_running s trap.hart (past_call trap.registers)) trap.hart answer cleared mid
   pub woken : new ≡ unmarked 4 mid
   pub goes_on : IsAnswer new given trap.hart answer cleared (marks_of mid) answered
 
 -- an interrupt is a step of the monitor
-pub record ServesStop (s : MonitorState) (trap : Trap) (given : ControlWords) (read question answered : List ℕ) (new : MonitorState) : Type 0 where
+pub record ServesStop (s : MonitorState) (trap : Trap) (given : ControlWords)
+    (read question answered : List ℕ) (new : MonitorState) : Type 0 where
   pub mid : MonitorState
   pub nothing_asked : question ≡ []
   pub nothing_read : read ≡ []
@@ -45,13 +53,19 @@ pub record ServesStop (s : MonitorState) (trap : Trap) (given : ControlWords) (r
   pub goes_on : IsAnswer new given trap.hart no_answer None (marks_of mid) answered
 
 -- a trap is served, by what happened; the hart goes on with these control words
-abbrev pub ServesAs : Event → MonitorState → Trap → ControlWords → List ℕ → List ℕ → List ℕ → MonitorState → Type 0
-ServesAs Call s trap given read question answered new = ServesCall s trap given read question answered new
-ServesAs Stop s trap given read question answered new = ServesStop s trap given read question answered new
+abbrev pub ServesAs : Event → MonitorState → Trap → ControlWords → List ℕ → List ℕ → List ℕ
+    → MonitorState → Type 0
+ServesAs Call s trap given read question answered new =
+    ServesCall s trap given read question answered new
+ServesAs Stop s trap given read question answered new =
+    ServesStop s trap given read question answered new
 
--- a trap is served, and each world has its own control words: those that came are kept where they are the host's, and the world
--- that goes on is given its own
-pub record ServesTrap (s : MonitorState) (hosts : ℕ → ControlWords) (trap : Trap) (read question answered : List ℕ) (new : MonitorState) (kept : ℕ → ControlWords) : Type 0 where
+-- a trap is served, and each world has its own control words: those that came are kept where they
+-- are the host's, and the world that goes on is given its own
+pub record ServesTrap (s : MonitorState) (hosts : ℕ
+    → ControlWords) (trap : Trap) (read question answered : List ℕ) (new : MonitorState) (kept : ℕ
+    → ControlWords) : Type 0 where
   pub given : ControlWords
-  pub words : GivesWords hosts trap.hart (s.worlds trap.hart) (new.worlds trap.hart) trap.control kept given
+  pub words : GivesWords hosts trap.hart (s.worlds trap.hart) (new.worlds trap.hart) trap.control
+      kept given
   pub step : ServesAs trap.event s trap given read question answered new

@@ -2,8 +2,8 @@
 use Rattle.std.specs.Prelude.{ℕ, bit_and, bit_or}
 use Rattle.trap_server.specs.declared.words.ControlWords.{ControlWords}
 
--- of mstatus: UXL, bits 33:32, is 2, which says 64 bits. Interrupts are off, bytes in little-endian order, floating point, vectors
--- and extensions off
+-- of mstatus: UXL, bits 33:32, is 2, which says 64 bits. Interrupts are off, bytes in little-endian
+-- order, floating point, vectors and extensions off
 abbrev pub width_64 : ℕ
 width_64 = 0x200000000
 
@@ -15,10 +15,11 @@ monitors_interrupts = 0x88
 abbrev pub hosts_interrupts : ℕ
 hosts_interrupts = 0x222
 
--- the exceptions that the host's own handler has: misaligned, faulty and illegal instructions, loads and stores (bits 0 to 2 and
--- 4 to 7), breakpoints (3), calls of user mode (8), page faults (12, 13 and 15), and those of a guest (10, and 20 to 23). Machine mode
--- keeps calls of supervisor mode (9) and its own (11), double traps (16), software checks (18) and hardware errors (19). Bits 14 and 17
--- are reserved
+-- the exceptions that the host's own handler has: misaligned, faulty and illegal instructions,
+-- loads and stores (bits 0 to 2 and 4 to 7), breakpoints (3), calls of user mode (8), page faults
+-- (12, 13 and 15), and those of a guest (10, and 20 to 23). Machine mode keeps calls of supervisor
+-- mode (9) and its own (11), double traps (16), software checks (18) and hardware errors (19). Bits
+-- 14 and 17 are reserved
 abbrev pub hosts_exceptions : ℕ
 hosts_exceptions = 0xf0b5ff
 
@@ -26,8 +27,8 @@ hosts_exceptions = 0xf0b5ff
 abbrev pub supervisor_mode : ℕ
 supervisor_mode = 0x800
 
--- a host begins in supervisor mode of 64 bits with no table of pages, its interrupts disabled; they, and the exceptions that
--- are its own, go to its handler
+-- a host begins in supervisor mode of 64 bits with no table of pages, its interrupts disabled;
+-- they, and the exceptions that are its own, go to its handler
 abbrev pub first_host_words : ControlWords
 first_host_words = record {
   status = width_64;
@@ -41,8 +42,9 @@ first_host_words = record {
   mode = supervisor_mode;
 }
 
--- an enclave runs in user mode of 64 bits with no table of pages, and every trap goes to machine mode. The monitor's interrupts
--- are enabled, and those of the host's that its host lets in; so they stop it
+-- an enclave runs in user mode of 64 bits with no table of pages, and every trap goes to machine
+-- mode. The monitor's interrupts are enabled, and those of the host's that its host lets in; so
+-- they stop it
 abbrev pub enclave_words : ControlWords → ControlWords
 enclave_words host = record {
   status = width_64;

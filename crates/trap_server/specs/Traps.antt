@@ -1,5 +1,6 @@
 -- The frame of a trap.
-use Rattle.std.specs.Prelude.{◌≡◌, ◌⊎◌, ℕ, ◌+◌, ◌<◌, ◌≤◌, List, [], length, Option, Some, None, Result, Ok, Err}
+use Rattle.std.specs.Prelude.{◌≡◌, ◌⊎◌, ℕ, ◌+◌, ◌<◌, ◌≤◌, List, [], length, Option, Some, None}
+use Rattle.std.specs.Prelude.{Result, Ok, Err}
 use Rattle.std.specs.Io.KnownBytes.{Consumes, IsAtEnd}
 use Rattle.byte_streams.specs.Streams.{WriteFails, one_failure_more}
 use Rattle.sbi_decode.specs.Registers.{RegisterFile, x_of}
@@ -50,10 +51,13 @@ IsNoTrap bytes harts after =
     ⊎ ((0 < length bytes) × (length bytes < 352) × IsAtEnd after)
 
 -- what the next read of a trap answers, by what it consumed
-abbrev pub ReadsTrap : Result (Option Trap) FrameFault → ℕ → Option (List ℕ) → Option (List ℕ) → Type 0
-ReadsTrap (Ok (Some trap)) harts before after = (bytes : List ℕ) × (length bytes ≡ 352) × IsTrapFrame bytes harts trap × Consumes before after bytes
+abbrev pub ReadsTrap : Result (Option Trap) FrameFault → ℕ → Option (List ℕ) → Option (List ℕ)
+    → Type 0
+ReadsTrap (Ok (Some trap)) harts before after = (bytes : List ℕ) × (length bytes ≡ 352)
+    × IsTrapFrame bytes harts trap × Consumes before after bytes
 ReadsTrap (Ok None) harts before after = Consumes before after [] × IsAtEnd after
-ReadsTrap (Err faults.NotUnderstood) harts before after = (bytes : List ℕ) × IsNoTrap bytes harts after × Consumes before after bytes
+ReadsTrap (Err faults.NotUnderstood) harts before after = (bytes : List ℕ)
+    × IsNoTrap bytes harts after × Consumes before after bytes
 ReadsTrap (Err faults.Read) harts before after = Breaks 352 before after
 ReadsTrap (Err faults.Write) harts before after = ⊥
 
@@ -64,5 +68,6 @@ CountsRead _ before after = after ≡ before
 
 -- a write failed, or took none of some bytes, where that is the answer, and otherwise none did
 abbrev pub CountsWrite : {X : Type 0} → Result X FrameFault → ℕ → ℕ → ℕ → ℕ → Type 0
-CountsWrite (Err faults.Write) failures failed stalls stalled = WriteFails failures failed stalls stalled
+CountsWrite (Err faults.Write) failures failed stalls stalled =
+    WriteFails failures failed stalls stalled
 CountsWrite _ failures failed stalls stalled = (failed ≡ failures) × (stalled ≡ stalls)

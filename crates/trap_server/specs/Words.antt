@@ -11,7 +11,8 @@ abbrev pub bytes_of : List ℕ → List ℕ
 bytes_of [] = []
 bytes_of (word ∷ words) = little_bytes 8 word ++ bytes_of words
 
--- the tag of a platform: the word `platform` in ASCII, the first letter in the lowest byte, as each tag
+-- the tag of a platform: the word `platform` in ASCII, the first letter in the lowest byte, as each
+-- tag
 abbrev pub platform_tag : ℕ
 platform_tag = 0x6d726f6674616c70
 

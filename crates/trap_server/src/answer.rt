@@ -3,12 +3,10 @@
 ghost use Rattle.std.specs.Prelude.{◌≡◌, ◌<◌, ◌≤◌, ◌+◌, ◌++◌, length, take};
 ghost use Rattle.trap_server.specs.Answers.{address_at, address_bytes, answer_bytes, cfg_at, cfg_bytes, control_bytes, head_bytes, number_of, pages_of, register_bytes, wake_word};
 
-use crate::frame::{AnswerBytes, TAG_ANSWER, TAG_CONTROL, put_word};
 use crate::ControlWords;
-use pmp_encoding::PageRange;
-use pmp_encoding::Entry;
-use sbi_decode::Registers;
-use sbi_decode::World;
+use crate::frame::{AnswerBytes, TAG_ANSWER, TAG_CONTROL, put_word};
+use pmp_encoding::{Entry, PageRange};
+use sbi_decode::{Registers, World};
 
 /// The front of an answer.
 #[derive(Clone, Copy)]

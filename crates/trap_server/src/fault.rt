@@ -3,8 +3,8 @@
 ghost use Rattle.std.specs.Prelude.{ℕ};
 ghost use Rattle.trap_server.specs.Ends.{CountsRead, CountsWrite, EndsAs, FrameRead, FrameWrite, Refuses};
 
-use byte_streams::{Sink, write_whole};
 use crate::{FrameFault, Refusal, end_frame};
+use byte_streams::{Sink, write_whole};
 
 /// Why the loop ended before its input did.
 #[derive(Clone, Copy, Debug, PartialEq, Eq)]

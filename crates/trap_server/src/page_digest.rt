@@ -6,12 +6,11 @@ ghost use Rattle.trap_server.specs.Words.{word_at};
 ghost use Rattle.trap_server.specs.Traps.{CountsRead, CountsWrite};
 ghost use Rattle.trap_server.specs.PageDigest.{Asks, HasParts, Measures, ReadsPage, question_bytes};
 
-use crate::frame_fault::FrameFault;
 use crate::frame::{ShortBytes, TAG_MEASURE, TAG_PAGE, three_words, word};
 use crate::frame_bytes::read_whole;
+use crate::frame_fault::FrameFault;
 use byte_streams::{Sink, Source, write_whole};
-use measurement::Create;
-use measurement::Measure;
+use measurement::{Create, Measure};
 
 /// The bytes of the frame of a page: its tag, its number, and its own bytes.
 const PAGE_BYTES: usize = 4112;

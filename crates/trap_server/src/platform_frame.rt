@@ -11,9 +11,9 @@ ghost use Rattle.trap_server.specs.Traps.{CountsRead};
 ghost use Rattle.trap_server.specs.Platforms.{AreFew, AreNoRanges, IsNoPlatform, IsPlatformFrame, device_words, ram_in, words_of, ReadsPlatform};
 
 use crate::end::Refusal;
-use crate::frame_fault::FrameFault;
 use crate::frame::{TAG_PLATFORM, word};
 use crate::frame_bytes::read_whole;
+use crate::frame_fault::FrameFault;
 use arrayvec::ArrayVec;
 use byte_streams::Source;
 use platforms::{Platform, PlatformFault};

@@ -9,11 +9,10 @@ ghost use Rattle.trap_server.specs.Ends.{CountsReads, CountsWrites};
 ghost use Rattle.trap_server.specs.Steps.{MayWake, Serves, TakesDigest, Writes};
 
 use crate::fault::{ServeFault, end};
+use crate::{AnswerBytes, Event, Head, HostWords, Trap, digest_of, put_answer};
 use byte_streams::{Sink, Source, write_whole};
-use crate::HostWords;
 use monitor_core::{Answer, Monitor};
 use pmp_encoding::PageRange;
-use crate::{AnswerBytes, Event, Head, Trap, digest_of, put_answer};
 
 /// What stands for the answer where there was no call.
 pub(crate) const NOTHING: Answer = Answer {

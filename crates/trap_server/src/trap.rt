@@ -6,11 +6,11 @@ ghost use Rattle.trap_server.specs.declared.trap.Trap.{Trap as TrapOf};
 ghost use Rattle.trap_server.specs.Words.{word_at};
 ghost use Rattle.trap_server.specs.Traps.{HasControl, HasRegisters, IsTrapFrame, ReadsTrap, CountsRead};
 
-use crate::frame_fault::FrameFault;
+use crate::ControlWords;
 use crate::frame::{TAG_CALL, TAG_CONTROL, TAG_STOP, word};
 use crate::frame_bytes::read_whole;
+use crate::frame_fault::FrameFault;
 use byte_streams::Source;
-use crate::ControlWords;
 use sbi_decode::Registers;
 
 /// The bytes of its frame: its tag, the hart, the registers, and the control words after a tag of their own.

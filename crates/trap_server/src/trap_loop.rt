@@ -10,12 +10,11 @@ ghost use Rattle.trap_server.specs.Runs.{EndsEarly, Ran};
 
 use crate::fault::{ServeFault, end, refuse};
 use crate::service::{NOTHING, serve_trap, write_answer};
+use crate::{HostWords, Refusal, read_platform, read_trap};
 use byte_streams::{Sink, Source};
-use crate::HostWords;
 use monitor_core::Monitor;
 use platforms::{BootFault, Platform};
 use std::alloc::Global;
-use crate::{Refusal, read_platform, read_trap};
 
 /// Boots the monitor on a platform.
 #[inline(never)]

@@ -2,8 +2,7 @@
 
 use crate::command_lines::tasks::{PLAIN, Row, are_tasks};
 use command_line::{Format, Options, Task};
-use pmp_encoding::Limit;
-use pmp_encoding::Xlen;
+use pmp_encoding::{Limit, Xlen};
 
 const PLANS: &[Row<'static>] = &[
     (

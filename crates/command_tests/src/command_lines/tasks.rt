@@ -3,8 +3,7 @@
 use command_line::{
     Answers, Format, Hints, LintKind, Options, TableFormat, Task, request_of_words,
 };
-use pmp_encoding::Limit;
-use pmp_encoding::Xlen;
+use pmp_encoding::{Limit, Xlen};
 use std::alloc::Global;
 use std::process::Abort;
 

@@ -3,11 +3,10 @@
 use byte_streams::Counted;
 use command_line::request_of_words;
 use monitor_cli::{Lent, perform_on_files};
-use program_tasks::Request;
+use program_tasks::{Request, ShownNames};
 use std::alloc::Global;
 use std::process::Abort;
 use std::rt::Files;
-use program_tasks::ShownNames;
 
 /// Does what is asked for, where standard error is no terminal, and answers the status, what was printed and what was said.
 fn done(

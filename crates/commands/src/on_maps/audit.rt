@@ -7,10 +7,9 @@ ghost use Rattle.command_inputs.specs.Inputs.{reading};
 
 use crate::certified_plan::fewest_in;
 use byte_streams::{Sink, Source};
-use command_inputs::{REGISTER_BYTES, answer_status, bytes_in, map_in};
-use command_inputs::Trouble;
-use register_audit::{AuditFault, audit};
+use command_inputs::{REGISTER_BYTES, Trouble, answer_status, bytes_in, map_in};
 use pmp_encoding::Xlen;
+use register_audit::{AuditFault, audit};
 use std::alloc::Global;
 
 /// Audits registers against a map, and answers the status 0 where they mean it and 1 where they don't. With `all` there is a

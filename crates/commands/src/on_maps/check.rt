@@ -11,9 +11,8 @@ use crate::on_maps::verdicts::verdict;
 use byte_streams::{DeviceFault, Sink, Source, write_whole};
 use certificate_check::{CheckRefusal, check_source};
 use certificate_format::Header;
-use command_inputs::{CERTIFICATE_BYTES, map_in};
+use command_inputs::{CERTIFICATE_BYTES, Trouble, map_in};
 use permission_map::PermissionMap;
-use command_inputs::Trouble;
 use std::alloc::Global;
 
 /// What is found of the bytes of a certificate file. They are read to their end, and not held.

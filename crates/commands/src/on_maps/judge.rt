@@ -11,17 +11,14 @@ ghost use Rattle.commands.specs.Judge.{Judges, JudgesAs, JudgesByRegisters, Judg
 use crate::certified_plan::bank_in;
 use crate::expected::tell_first;
 use byte_streams::{DeviceFault, Sink, Source, write_whole};
-use command_inputs::{REGISTER_BYTES, bytes_in, map_in};
-use trace_answers::compare_judged;
-use trace_answers::{Deciders, explain_judged};
-use pmp_encoding::Limit;
+use command_inputs::{REGISTER_BYTES, Trouble, bytes_in, map_in};
+use hart_trace::{AccessJudge, judge_lines};
+use pmp_encoding::{Limit, Xlen};
 use pmp_match::Segments;
 use program_tasks::Answers;
-use command_inputs::Trouble;
 use register_audit::{Ruled, RulesFault, rules_in};
-use pmp_encoding::Xlen;
 use std::alloc::Global;
-use hart_trace::{AccessJudge, judge_lines};
+use trace_answers::{Deciders, compare_judged, explain_judged};
 
 /// Judges a trace.
 #[inline(never)]

@@ -6,10 +6,9 @@ ghost use Rattle.command_inputs.specs.Inputs.{reading};
 ghost use Rattle.commands.specs.Map.{Maps};
 
 use byte_streams::{Sink, Source};
-use command_inputs::{REGISTER_BYTES, answer_status, bytes_in};
-use command_inputs::Trouble;
-use register_audit::{MapOfFault, print_map_of};
+use command_inputs::{REGISTER_BYTES, Trouble, answer_status, bytes_in};
 use pmp_encoding::Xlen;
+use register_audit::{MapOfFault, print_map_of};
 use std::alloc::Global;
 
 /// Prints the map that registers mean, and answers the status 0, or 1 where there is none.

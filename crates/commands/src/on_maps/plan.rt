@@ -10,13 +10,11 @@ ghost use Rattle.pmp_encoding.specs.Widths.{AreReached};
 use crate::certificate_sink::CertificateSink;
 use crate::certified_plan::plan_and_certify;
 use byte_streams::{DeviceFault, Sink, Source};
-use command_inputs::map_in;
-use pmp_encoding::{Limit, PackedEntry};
+use command_inputs::{Trouble, map_in};
+use pmp_encoding::{Limit, PackedEntry, Xlen};
 use printed_lines::{print_plan, room_from};
 use program_tasks::Format;
-use command_inputs::Trouble;
 use register_formats::{print_asm, print_c, print_json};
-use pmp_encoding::Xlen;
 use std::alloc::Global;
 
 /// What is asked of a plan.

@@ -8,17 +8,14 @@ ghost use Rattle.commands.specs.Show.{IsShown, IsText, Shows, ShowsAs, ShowsRegi
 
 use crate::certified_plan::planned_near;
 use byte_streams::{DeviceFault, Sink, Source, write_whole};
-use command_inputs::{MAP_BYTES, REGISTER_BYTES, answer_status, bytes_in, map_by};
+use command_inputs::{MAP_BYTES, REGISTER_BYTES, Trouble, answer_status, bytes_in, map_by};
 use map_lint::push_line_costs;
-use map_table::table_of;
+use map_table::{json_table, picture, table_of};
 use permission_map::{Memory, PermissionMap};
-use pmp_encoding::{Entry, Limit};
+use pmp_encoding::{Entry, Limit, Xlen};
 use program_tasks::TableFormat;
-use command_inputs::Trouble;
 use register_audit::{ListingFault, print_registers};
-use pmp_encoding::Xlen;
 use std::alloc::Global;
-use map_table::{json_table, picture};
 
 /// What is asked of the table of a map.
 #[derive(Clone, Copy)]
