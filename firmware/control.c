@@ -1,7 +1,7 @@
 /*
  * The registers of machine and supervisor mode that decide what a world can do beside the entries. Each is read once after a
  * trap, into the frame that the proved monitor reads, and written once from the frame that it answers with: which world has
- * which words is decided there (crates/control_words), and nothing here. A reader compares the table with the first one of
+ * which words is decided there (crates/trap_server), and nothing here. A reader compares the table with the first one of
  * "Control registers" in firmware/README.md.
  */
 #include "board.h"
