@@ -24,33 +24,36 @@ is_same (HostOf hart) (HostOf other) = hart == other
 is_same (EnclaveOf id) (EnclaveOf other) = id == other
 is_same _ _ = false
 
+-- the host's world
 abbrev pub is_host : World → Bool
 is_host Host = true
 is_host (InEnclave id) = false
 
--- a state with another world of a hart, and with another register set of a runner
+-- a state with another world on a hart
 abbrev pub in_world : MonitorState → ℕ → World → MonitorState
 in_world s hart world = record s { worlds = λ h. if h == hart then world else s.worlds h }
 
+-- a state with another register set of a runner
 abbrev pub with_registers : MonitorState → Runner → RegisterFile → MonitorState
 with_registers s who file = record s {
   registers = λ other. if is_same other who then file
       else s.registers other;
 }
 
--- the hart's registers changed, and an answer put into its a0 and a1
+-- a state with another register set of whoever runs on a hart
 abbrev pub with_running : MonitorState → ℕ → RegisterFile → MonitorState
 with_running s hart file = with_registers s (runner_of hart (s.worlds hart)) file
 
+-- the same with two words put into a0 and a1 of whoever runs on a hart
 abbrev pub answering : MonitorState → ℕ → ℕ → ℕ → MonitorState
 answering s hart first second = with_running s hart
     (with_x (with_x (running_registers s hart) 10 first) 11 second)
 
--- the mark of a hart taken away; every other hart of the platform that is in the host's world
--- marked
+-- a hart is not marked
 abbrev pub without_mark : MonitorState → ℕ → MonitorState
 without_mark s hart = record s { marked = λ h. if h == hart then false else s.marked h }
 
+-- every other hart of the platform that is in the host's world is marked
 abbrev pub marking_others : MonitorState → ℕ → MonitorState
 marking_others s hart = record s {
   marked = λ h. if h == hart then s.marked h

@@ -1,9 +1,9 @@
 //! The program's files: read whole or from their first read on, and written so that they stand whole or not at all.
 //!
-//! For the layer above: [`read_whole`] answers the bytes of a source of bounded length, and [`has_more`] whether it is longer; a [`FileToRead`] is opened at its
-//! first read, and an [`InputToRead`] is one or standard input; a [`CertificateFile`] is a [`WholeSink`], whose bytes come
-//! to stand in their place all at once: it lends what takes them, a [`PartFile`], and not the place. A [`StreamPlace`] is
-//! such a sink too. A call that a signal interrupted is tried again ([`RetryInterrupted`]).
+//! For the layer above: [`read_whole`] answers the bytes of a source of bounded length, and [`has_more`] whether it is
+//! longer; a [`FileToRead`] is opened at its first read, and an [`InputToRead`] is one or standard input; a
+//! [`CertificateFile`] is a [`WholeSink`], whose bytes come to stand in their place all at once: it lends what takes them,
+//! a [`PartFile`], and not the place. A call that a signal interrupted is tried again ([`RetryInterrupted`]).
 //!
 //! ```rust
 //! let bytes = read_whole(rt.alloc(), &mut source, 1 << 20)?;
@@ -16,7 +16,6 @@ mod devices;
 mod part_file;
 mod reason;
 mod same_file;
-mod stream_place;
 mod whole;
 mod whole_sink;
 
@@ -25,6 +24,5 @@ pub use devices::{FileToRead, InputToRead, RetryInterrupted};
 pub use part_file::PartFile;
 pub use reason::{Explained, Reason};
 pub use same_file::{is_same_file, is_same_plain_file};
-pub use stream_place::StreamPlace;
 pub use whole::{has_more, read_whole};
 pub use whole_sink::WholeSink;
