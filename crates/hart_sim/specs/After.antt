@@ -8,7 +8,7 @@ use Rattle.hart_sim.specs.Machines.{state_of, bank_on, IsJudged, KeepsBanksRight
 use Rattle.hart_sim.specs.States.{opening_state}
 use Rattle.hart_sim.specs.Steps.{IsEvent, Step}
 
--- boot made the machine: the platform keeps its rules, the state is the opening_state one, and each
+-- boot made the machine: the platform keeps its rules, the state is the opening one, and each
 -- hart has the fewest entries of its world's view
 pub record IsBooted (platform : PlatformLayout) (machine : Machine) : Type 0 where
   pub rules : IsLayout platform

@@ -55,7 +55,7 @@ pub record IsLeft (platform : PlatformLayout) (hart : ℕ) (events : List (ℕ �
       → LoadsFewest bank (current_view (state_of mid).table ((state_of mid).worlds hart))
   pub stays : bank_on machine hart ≡ bank_on mid hart
 
--- the replies are a run of the small machine, which has no PMP entries, from the opening_state
+-- the replies are a run of the small machine, which has no PMP entries, from the opening
 -- state. On each hart that is not marked the loaded list means the view of the world there, and no
 -- list of any regions in any order that does so is shorter. On each hart, marked or not, the bank
 -- is as its own last event, or boot, left it. Each event kept its promises. Each hart is in the

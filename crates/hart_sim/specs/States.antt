@@ -46,7 +46,7 @@ with_core s core = record s {
 abbrev pub awoken : MachineState → ℕ → MachineState
 awoken s hart = with_core s (without_mark (core_of s) hart)
 
--- the opening_state state of a platform: no enclave, each hart in the host's world, all registers
+-- the opening state of a platform: no enclave, each hart in the host's world, all registers
 -- and bytes zero, no page written
 abbrev pub opening_state : PlatformLayout → MachineState
 opening_state layout =

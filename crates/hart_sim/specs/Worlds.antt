@@ -12,7 +12,7 @@ use Rattle.hart_sim.specs.Steps.{Run}
 abbrev pub AreWorlds : MachineState → Type 0
 AreWorlds s = ArePlaced (core_of s)
 
--- so it is after every run from the opening_state state
+-- so it is after every run from the opening state
 abbrev pub RunsKeepWorlds : Type 0
 RunsKeepWorlds = (layout : PlatformLayout) (events : List (ℕ × Event)) (replies : List Reply)
     (s : MachineState) → Run (opening_state layout) events replies s → AreWorlds s

@@ -22,7 +22,9 @@
 //!
 //! The streams and the events of traces are handed on from the crates below.
 //!
-//! The memory of a modelled machine: a byte at each address of the physical address space, kept by pages.
+//! # Memory
+//!
+//! [`Memory`] has a byte at each address of the physical address space, kept by pages.
 //!
 //! A page that was not written has no bytes of its own and reads as zero. A load and a store stay within one page, as an
 //! aligned access does. Only a store to a page that was not written takes memory.

@@ -5,17 +5,17 @@
 //! order. A task alone is done with the options of a command line that names none; [`perform_request`] does a [`Request`], which
 //! has both, and lets a certificate stand in its place whole. [`perform_and_close`] does the same on an output that is held in
 //! part until its end, and [`perform_on_files`] on the task's own files: it opens what reads at its places, and says behind the end
-//! what helps. The commands, hints, tasks, the program's files, troubles, the texts of maps and platforms and the
-//! printed lines are crates of their own.
+//! what helps. The other commands, tasks, the program's files, the texts of maps and platforms and the printed lines are
+//! crates of their own.
 //!
 //! ```rust
 //! let task = command_of(rt.alloc(), &["pmpmon", "plan", "map.txt"])?;
 //! let status = perform(rt.alloc(), &task, &mut first, &mut second, &mut cert, &mut out, &mut err);
 //! ```
 //!
-//! The command that runs a trace on a machine.
+//! # Running a trace
 //!
-//! For the layer above: [`do_run_as`] boots the platform of a file, runs a trace on its machine, and prints the measurements where
+//! [`do_run_as`] boots the platform of a file, runs a trace on its machine, and prints the measurements where
 //! they are asked for. Its clause has a rule for each way in which it ends, with what was read and written in which order.
 //!
 //! No way to run is inlined: each has its buffers on the stack only while it runs.
@@ -24,13 +24,14 @@
 //! let status = do_run_as(alloc, answers, "board.toml", "a.trace", measure, &mut platform, &mut trace, &mut out)?;
 //! ```
 //!
-//! Hints: what is wrong with the inputs of a task that ended for bad input, behind its one line of trouble.
+//! # Hints
 //!
-//! For the layer above: [`tell_hints`] reads the inputs of a task anew, in their order, and says on standard error of the first that is
+//! What is wrong with the inputs of a task that ended for bad input is said behind its one line of trouble.
+//! [`tell_hints`] reads the inputs of a task anew, in their order, and says on standard error of the first that is
 //! not what it should be each line of its lint, that it is too large, or how many entries it needs. Nothing else is written.
 //!
 //! ```rust
-//! tell_hints(rt.alloc(), &task, &mut first, &mut second, &mut err);
+//! tell_hints(rt.alloc(), &request, &mut first, &mut second, &mut err);
 //! ```
 #![tactic(auto)]
 

@@ -19,7 +19,7 @@ pub record MonitorState : Type 0 where
   pub registers : Runner → RegisterFile
   pub marked : ℕ → Bool
 
--- the opening_monitor state of a platform: no enclave, each hart in the host's world, all registers
+-- the opening state of a platform: no enclave, each hart in the host's world, all registers
 -- zero, no hart marked
 abbrev pub opening_monitor : PlatformLayout → MonitorState
 opening_monitor layout = record {

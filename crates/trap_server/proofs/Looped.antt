@@ -46,7 +46,7 @@ consumed_as before after xs ys e c = subst (Consumes before after) e c
 appended_as : (held holds : Option (List ℕ)) (xs ys : List ℕ) → xs ≡ ys → Appends held holds xs → Appends held holds ys
 appended_as held holds xs ys e c = subst (Appends held holds) e c
 
--- the opening_monitor state
+-- the opening state
 opened_at :
     (layout : PlatformLayout) (first opened : List ℕ) (before after held middle holds : Option (List ℕ)) → length first ≡ 1336 → IsPlatformFrame first layout → Consumes before after first → Appends held middle []
     → IsFirstAnswer layout opened → Appends middle holds opened → Progress 0 (opening_monitor layout) first_words before after held holds

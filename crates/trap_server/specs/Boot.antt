@@ -35,7 +35,7 @@ RefusesFirst Memory read after = (length read ≡ 1336) × (layout : PlatformLay
 abbrev pub others : ℕ → List Bool
 others harts = false ∷ (nat_lt 1 harts ∷ (nat_lt 2 harts ∷ (nat_lt 3 harts ∷ [])))
 
--- the answer to a platform: with which hart 0 goes on in the opening_monitor state, and all others
+-- the answer to a platform: with which hart 0 goes on in the opening state, and all others
 -- load its entries
 abbrev pub IsFirstAnswer : PlatformLayout → List ℕ → Type 0
 IsFirstAnswer layout bytes = IsAnswer (opening_monitor layout) first_host_words 0 no_answer None
@@ -64,7 +64,7 @@ abbrev pub EndsAtFirst : ServeFault → Option (List ℕ) → Option (List ℕ) 
 EndsAtFirst fault before after held holds = (read rest : List ℕ)
     × StopsAtFirst fault read rest after × Consumes before after read × Appends held holds rest
 
--- the platform was read and nothing written, and the monitor is as at its opening_monitor; or the
+-- the platform was read and nothing written, and the monitor is as at its opening; or the
 -- loop ends, and why
 abbrev pub Boots : Result Monitor ServeFault → Option (List ℕ) → Option (List ℕ) → Option (List ℕ)
     → Option (List ℕ) → Type 0

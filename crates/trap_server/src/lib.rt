@@ -7,7 +7,7 @@
 //!
 //! For the layer above: each trap that is served is one step of the monitor (`monitor_core`), and its answer is written
 //! before the next is read. The control words of the host of each hart are kept here while an enclave runs, and each world
-//! goes on with its own (`control_words`). A creation that passes its checks has its pages read once, by rising address, and
+//! goes on with its own. A creation that passes its checks has its pages read once, by rising address, and
 //! measured as they come; nothing else is ever asked for. A frame that is not understood ends the loop with a frame of its
 //! own, and changes nothing.
 //!
@@ -15,7 +15,7 @@
 //! let served = serve_traps(alloc, &mut source, &mut sink);
 //! ```
 //!
-//! The control registers of a hart, by the world that runs on it.
+//! # Control registers, by the world that runs
 //!
 //! Beside the PMP entries these registers decide what a world can do: whether its addresses go through a table of pages,
 //! how wide its registers are, whose handler has its traps, which interrupts reach it. A host writes them as it likes; an
@@ -31,7 +31,7 @@
 //! let words = host_words.given(hart, after);
 //! ```
 //!
-//! The frames between the harts of a board and the monitor.
+//! # Frames between the harts of a board and the monitor
 //!
 //! A frame is words of 64 bits, the lowest byte first. Its first word is a tag, which says what the others are;
 //! `docs/FORMATS.md` has the layouts, under "Frames". Read are the platform ([`read_platform`]), then the traps of its harts
