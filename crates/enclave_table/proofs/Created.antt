@@ -45,29 +45,29 @@ pub fits_from : (limit : Limit) (view : View) (list : List Entry) → IsListOf l
 fits_from limit view list is = (length list, needs_of view list is.fewest, is.room)
 
 pub host_want :
-    (pages : ℕ → List ℕ) (old : EnclaveTable) (world : World) (asked parts : Create) (id : ℕ) (view : View) (refusal : Refusal) → parts ≡ parts_of asked
-    → AllPass (create_checks old world parts) → IsNextId old id → SameView view (host_view (with_enclave old id (Some (fresh pages parts))))
-    → IsWant old.layout.limit view refusal → RefusesBy (create_checks old world (parts_of asked)) (OutgrowsByCreate pages old asked) refusal
-host_want pages old world asked parts id view refusal is passes next same want =
+    (digests : Create → List ℕ) (old : EnclaveTable) (world : World) (asked parts : Create) (id : ℕ) (view : View) (refusal : Refusal) → parts ≡ parts_of asked
+    → AllPass (create_checks old world parts) → IsNextId old id → SameView view (host_view (with_enclave old id (Some (fresh digests parts))))
+    → IsWant old.layout.limit view refusal → RefusesBy (create_checks old world (parts_of asked)) (OutgrowsByCreate digests old asked) refusal
+host_want digests old world asked parts id view refusal is passes next same want =
     let P : Create → Type 0 = λ p. AllPass (create_checks old world p) in
-    let S : Create → Type 0 = λ p. SameView view (host_view (with_enclave old id (Some (fresh pages p)))) in
-    create_host_want pages old world asked id view refusal (subst P is passes) next (subst S is same) want
+    let S : Create → Type 0 = λ p. SameView view (host_view (with_enclave old id (Some (fresh digests p)))) in
+    create_host_want digests old world asked id view refusal (subst P is passes) next (subst S is same) want
 
 pub enclave_want :
-    (pages : ℕ → List ℕ) (old : EnclaveTable) (world : World) (asked parts : Create) (limit : Limit) (refusal : Refusal) → parts ≡ parts_of asked → limit ≡ old.layout.limit
-    → AllPass (create_checks old world parts) → IsWant limit (enclave_view parts) refusal → RefusesBy (create_checks old world (parts_of asked)) (OutgrowsByCreate pages old asked) refusal
-enclave_want pages old world asked parts limit refusal is same passes want =
+    (digests : Create → List ℕ) (old : EnclaveTable) (world : World) (asked parts : Create) (limit : Limit) (refusal : Refusal) → parts ≡ parts_of asked → limit ≡ old.layout.limit
+    → AllPass (create_checks old world parts) → IsWant limit (enclave_view parts) refusal → RefusesBy (create_checks old world (parts_of asked)) (OutgrowsByCreate digests old asked) refusal
+enclave_want digests old world asked parts limit refusal is same passes want =
     let P : Create → Type 0 = λ p. AllPass (create_checks old world p) in
     let W : Create → Type 0 = λ p. IsWant old.layout.limit (enclave_view p) refusal in
     let L : Limit → Type 0 = λ l. IsWant l (enclave_view parts) refusal in
-    create_enclave_want pages old world asked refusal (subst P is passes) (subst W is (subst L same want))
+    create_enclave_want digests old world asked refusal (subst P is passes) (subst W is (subst L same want))
 
 pub creates :
-    (pages : ℕ → List ℕ) (old : EnclaveTable) (world : World) (asked parts : Create) (id : ℕ) (new : EnclaveTable) → parts ≡ parts_of asked
-    → AllPass (create_checks old world parts) → IsNextId old id → new ≡ with_enclave old id (Some (fresh pages parts))
-    → FitsIn old.layout.limit (host_view (with_enclave old id (Some (fresh pages parts)))) → FitsIn old.layout.limit (enclave_view parts)
-    → Creates pages old world asked id new
-creates pages old world asked parts id new is passes next added host enclave =
+    (digests : Create → List ℕ) (old : EnclaveTable) (world : World) (asked parts : Create) (id : ℕ) (new : EnclaveTable) → parts ≡ parts_of asked
+    → AllPass (create_checks old world parts) → IsNextId old id → new ≡ with_enclave old id (Some (fresh digests parts))
+    → FitsIn old.layout.limit (host_view (with_enclave old id (Some (fresh digests parts)))) → FitsIn old.layout.limit (enclave_view parts)
+    → Creates digests old world asked id new
+creates digests old world asked parts id new is passes next added host enclave =
     let P : Create → Type 0 = λ p. AllPass (create_checks old world p) in
     let E : Create → Type 0 = λ p. FitsIn old.layout.limit (enclave_view p) in
     let H : EnclaveTable → Type 0 = λ t. FitsIn t.layout.limit (host_view t) in
@@ -75,7 +75,7 @@ creates pages old world asked parts id new is passes next added host enclave =
     record {
       passes = subst P is passes;
       next = next;
-      added = added ∙ ap (λ p. with_enclave old id (Some (fresh pages p))) is;
+      added = added ∙ ap (λ p. with_enclave old id (Some (fresh digests p))) is;
       host_fits = subst H (sym added) host;
       enclave_fits = subst L (sym added) (subst E is enclave);
     }

@@ -33,57 +33,57 @@ unwanted [] refusal none fails = absurd fails
 unwanted (c ∷ cs) refusal none fails = ⊎_elim (λ here. ap is_want here.0 ∙ none.0) (λ later. unwanted cs refusal none.1 later.1) fails
 
 pub create_fails :
-    (pages : ℕ → List ℕ) (old : EnclaveTable) (world : World) (asked : Create) (refusal : Refusal) → FailsFirst (create_checks old world (parts_of asked)) refusal
-    → RefusesBy (create_checks old world (parts_of asked)) (OutgrowsByCreate pages old asked) refusal
+    (digests : Create → List ℕ) (old : EnclaveTable) (world : World) (asked : Create) (refusal : Refusal) → FailsFirst (create_checks old world (parts_of asked)) refusal
+    → RefusesBy (create_checks old world (parts_of asked)) (OutgrowsByCreate digests old asked) refusal
 unfolding is_want none_want
-create_fails pages old world asked NoEntries fails = absurd (true≢false (unwanted (create_checks old world (parts_of asked)) NoEntries (refl, (refl, (refl, (refl, (refl, (refl, (refl, tt))))))) fails))
-create_fails pages old world asked NoMemory fails = absurd (true≢false (unwanted (create_checks old world (parts_of asked)) NoMemory (refl, (refl, (refl, (refl, (refl, (refl, (refl, tt))))))) fails))
-create_fails pages old world asked NotHost fails = fails
-create_fails pages old world asked NotEnclave fails = fails
-create_fails pages old world asked BadCount fails = fails
-create_fails pages old world asked BadAddress fails = fails
-create_fails pages old world asked BadEntry fails = fails
-create_fails pages old world asked NotRam fails = fails
-create_fails pages old world asked Overlap fails = fails
-create_fails pages old world asked TableFull fails = fails
-create_fails pages old world asked BadId fails = fails
-create_fails pages old world asked BadState fails = fails
-create_fails pages old world asked BadWord fails = fails
+create_fails digests old world asked NoEntries fails = absurd (true≢false (unwanted (create_checks old world (parts_of asked)) NoEntries (refl, (refl, (refl, (refl, (refl, (refl, (refl, tt))))))) fails))
+create_fails digests old world asked NoMemory fails = absurd (true≢false (unwanted (create_checks old world (parts_of asked)) NoMemory (refl, (refl, (refl, (refl, (refl, (refl, (refl, tt))))))) fails))
+create_fails digests old world asked NotHost fails = fails
+create_fails digests old world asked NotEnclave fails = fails
+create_fails digests old world asked BadCount fails = fails
+create_fails digests old world asked BadAddress fails = fails
+create_fails digests old world asked BadEntry fails = fails
+create_fails digests old world asked NotRam fails = fails
+create_fails digests old world asked Overlap fails = fails
+create_fails digests old world asked TableFull fails = fails
+create_fails digests old world asked BadId fails = fails
+create_fails digests old world asked BadState fails = fails
+create_fails digests old world asked BadWord fails = fails
 
 pub create_host_want :
-    (pages : ℕ → List ℕ) (old : EnclaveTable) (world : World) (asked : Create) (id : ℕ) (view : View) (refusal : Refusal) → AllPass (create_checks old world (parts_of asked)) → IsNextId old id
-    → SameView view (host_view (with_enclave old id (Some (fresh pages (parts_of asked))))) → IsWant old.layout.limit view refusal → RefusesBy (create_checks old world (parts_of asked)) (OutgrowsByCreate pages old asked) refusal
-create_host_want pages old world asked id view NoEntries passes next same want =
-    (passes, inl (id, next, more_same old.layout.limit view (host_view (with_enclave old id (Some (fresh pages (parts_of asked))))) same want))
-create_host_want pages old world asked id view NoMemory passes next same want = passes
-create_host_want pages old world asked id view NotHost passes next same want = absurd want
-create_host_want pages old world asked id view NotEnclave passes next same want = absurd want
-create_host_want pages old world asked id view BadCount passes next same want = absurd want
-create_host_want pages old world asked id view BadAddress passes next same want = absurd want
-create_host_want pages old world asked id view BadEntry passes next same want = absurd want
-create_host_want pages old world asked id view NotRam passes next same want = absurd want
-create_host_want pages old world asked id view Overlap passes next same want = absurd want
-create_host_want pages old world asked id view TableFull passes next same want = absurd want
-create_host_want pages old world asked id view BadId passes next same want = absurd want
-create_host_want pages old world asked id view BadState passes next same want = absurd want
-create_host_want pages old world asked id view BadWord passes next same want = absurd want
+    (digests : Create → List ℕ) (old : EnclaveTable) (world : World) (asked : Create) (id : ℕ) (view : View) (refusal : Refusal) → AllPass (create_checks old world (parts_of asked)) → IsNextId old id
+    → SameView view (host_view (with_enclave old id (Some (fresh digests (parts_of asked))))) → IsWant old.layout.limit view refusal → RefusesBy (create_checks old world (parts_of asked)) (OutgrowsByCreate digests old asked) refusal
+create_host_want digests old world asked id view NoEntries passes next same want =
+    (passes, inl (id, next, more_same old.layout.limit view (host_view (with_enclave old id (Some (fresh digests (parts_of asked))))) same want))
+create_host_want digests old world asked id view NoMemory passes next same want = passes
+create_host_want digests old world asked id view NotHost passes next same want = absurd want
+create_host_want digests old world asked id view NotEnclave passes next same want = absurd want
+create_host_want digests old world asked id view BadCount passes next same want = absurd want
+create_host_want digests old world asked id view BadAddress passes next same want = absurd want
+create_host_want digests old world asked id view BadEntry passes next same want = absurd want
+create_host_want digests old world asked id view NotRam passes next same want = absurd want
+create_host_want digests old world asked id view Overlap passes next same want = absurd want
+create_host_want digests old world asked id view TableFull passes next same want = absurd want
+create_host_want digests old world asked id view BadId passes next same want = absurd want
+create_host_want digests old world asked id view BadState passes next same want = absurd want
+create_host_want digests old world asked id view BadWord passes next same want = absurd want
 
 pub create_enclave_want :
-    (pages : ℕ → List ℕ) (old : EnclaveTable) (world : World) (asked : Create) (refusal : Refusal) → AllPass (create_checks old world (parts_of asked))
-    → IsWant old.layout.limit (enclave_view (parts_of asked)) refusal → RefusesBy (create_checks old world (parts_of asked)) (OutgrowsByCreate pages old asked) refusal
-create_enclave_want pages old world asked NoEntries passes want = (passes, inr want)
-create_enclave_want pages old world asked NoMemory passes want = passes
-create_enclave_want pages old world asked NotHost passes want = absurd want
-create_enclave_want pages old world asked NotEnclave passes want = absurd want
-create_enclave_want pages old world asked BadCount passes want = absurd want
-create_enclave_want pages old world asked BadAddress passes want = absurd want
-create_enclave_want pages old world asked BadEntry passes want = absurd want
-create_enclave_want pages old world asked NotRam passes want = absurd want
-create_enclave_want pages old world asked Overlap passes want = absurd want
-create_enclave_want pages old world asked TableFull passes want = absurd want
-create_enclave_want pages old world asked BadId passes want = absurd want
-create_enclave_want pages old world asked BadState passes want = absurd want
-create_enclave_want pages old world asked BadWord passes want = absurd want
+    (digests : Create → List ℕ) (old : EnclaveTable) (world : World) (asked : Create) (refusal : Refusal) → AllPass (create_checks old world (parts_of asked))
+    → IsWant old.layout.limit (enclave_view (parts_of asked)) refusal → RefusesBy (create_checks old world (parts_of asked)) (OutgrowsByCreate digests old asked) refusal
+create_enclave_want digests old world asked NoEntries passes want = (passes, inr want)
+create_enclave_want digests old world asked NoMemory passes want = passes
+create_enclave_want digests old world asked NotHost passes want = absurd want
+create_enclave_want digests old world asked NotEnclave passes want = absurd want
+create_enclave_want digests old world asked BadCount passes want = absurd want
+create_enclave_want digests old world asked BadAddress passes want = absurd want
+create_enclave_want digests old world asked BadEntry passes want = absurd want
+create_enclave_want digests old world asked NotRam passes want = absurd want
+create_enclave_want digests old world asked Overlap passes want = absurd want
+create_enclave_want digests old world asked TableFull passes want = absurd want
+create_enclave_want digests old world asked BadId passes want = absurd want
+create_enclave_want digests old world asked BadState passes want = absurd want
+create_enclave_want digests old world asked BadWord passes want = absurd want
 
 pub destroy_want :
     (old : EnclaveTable) (world : World) (id : ℕ) (view : View) (refusal : Refusal) → AllPass (host_checks MayDestroy old world id)

@@ -7,36 +7,27 @@ use Rattle.enclave_table.specs.Views.{host_view, enclave_view}
 use Rattle.platforms.specs.CheckLists.{AllPass}
 use Rattle.enclave_table.specs.Checks.{create_checks}
 use Rattle.enclave_table.specs.Fewest.{FitsIn, NeedsMore}
-use Rattle.measurement.specs.Digests.{measured}
 use Rattle.enclave_table.specs.declared.enclave.Enclave.{Enclave}
 use Rattle.enclave_table.specs.declared.enclave.Stage.TheVariants.{Fresh}
 use Rattle.measurement.specs.declared.request.Create.{Create}
 
--- the enclave as it is made
-abbrev pub fresh : (ℕ → List ℕ) → Create → Enclave
-fresh pages parts = record { parts = parts; state = Fresh; digest = measured pages parts }
+-- the enclave as it is made, with its digest
+abbrev pub fresh : (Create → List ℕ) → Create → Enclave
+fresh digests parts = record { parts = parts; state = Fresh; digest = digests parts }
 
--- create, where it is not refused: one more enclave under the next id, and it and the host fit
-pub record Creates (pages : ℕ → List ℕ) (old : EnclaveTable) (world : World) (asked : Create)
+-- create, where it is not refused: one more enclave under the next id, with the digest that its
+-- parts have, and it and the host fit
+pub record Creates (digests : Create → List ℕ) (old : EnclaveTable) (world : World) (asked : Create)
     (id : ℕ) (new : EnclaveTable) : Type 0 where
   pub passes : AllPass (create_checks old world (parts_of asked))
   pub next : IsNextId old id
-  pub added : new ≡ with_enclave old id (Some (fresh pages (parts_of asked)))
+  pub added : new ≡ with_enclave old id (Some (fresh digests (parts_of asked)))
   pub host_fits : FitsIn new.layout.limit (host_view new)
   pub enclave_fits : FitsIn new.layout.limit (enclave_view (parts_of asked))
 
 -- the host's view or the enclave's would need more entries than there are
-abbrev pub OutgrowsByCreate : (ℕ → List ℕ) → EnclaveTable → Create → Type 0
-OutgrowsByCreate pages old asked =
+abbrev pub OutgrowsByCreate : (Create → List ℕ) → EnclaveTable → Create → Type 0
+OutgrowsByCreate digests old asked =
     ((id : ℕ) × IsNextId old id × NeedsMore old.layout.limit
-    (host_view (with_enclave old id (Some (fresh pages (parts_of asked))))))
+    (host_view (with_enclave old id (Some (fresh digests (parts_of asked))))))
     ⊎ NeedsMore old.layout.limit (enclave_view (parts_of asked))
-
--- a digest is that of the private pages of a creation, where it passes its checks
-abbrev pub IsMeasured : EnclaveTable → World → Create → List ℕ → (ℕ → List ℕ) → Type 0
-IsMeasured table world asked digest pages = AllPass (create_checks table world (parts_of asked))
-    → digest ≡ measured pages (parts_of asked)
-
--- the enclave as it is made, with that digest
-abbrev pub measured_as : List ℕ → Create → Enclave
-measured_as digest parts = record { parts = parts; state = Fresh; digest = digest }

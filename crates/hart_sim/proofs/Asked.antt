@@ -1,4 +1,6 @@
 -- What an event asks of the monitor, and what it leaves of the monitor's part of the state.
+use Rattle.measurement.specs.Digests.{measured}
+use Rattle.measurement.specs.declared.request.Create.{Create}
 use Rattle.std.proofs.Common.{◌≡◌, inl, inr, ℕ, List, Option, Result, Ok, Err, ap, ◌*◌, Bool, false}
 use Rattle.pmp_match.specs.declared.access.Access.{Access}
 use Rattle.pmp_match.specs.declared.access.Kind.{Kind}
@@ -24,9 +26,9 @@ named s hart words = call_of (calling (awoken s hart) hart words)
 abbrev pub asked : MachineState → ℕ → List ℕ → MonitorState
 asked s hart words = with_running (core_of (awoken s hart)) hart (calling (awoken s hart) hart words)
 
--- the pages that a call may measure
-abbrev pub lent : MachineState → ℕ → List ℕ
-lent s page = bytes_at s.bytes (page * 4096) 4096
+-- what a call may measure: the pages as they are
+abbrev pub lent : MachineState → Create → List ℕ
+lent s = measured (λ page. bytes_at s.bytes (page * 4096) 4096)
 
 -- whether a page is one of those that are to be zero, where there are any
 abbrev pub is_zeroed : Option PageRange → ℕ → Bool

@@ -5,7 +5,7 @@ use Rattle.pmp_encoding.specs.declared.bank.Bank.{Bank}
 use Rattle.permission_map.specs.Views.{SameView}
 use Rattle.monitor_core.specs.Frames.{LoadsAnew}
 use Rattle.monitor_core.specs.Monitors.{kept_by}
-use Rattle.hart_sim.specs.declared.parts.Parts.{Parts}
+use Rattle.hart_sim.specs.declared.parts.MachineParts.{MachineParts}
 use Rattle.hart_sim.specs.Banks.{AreBanksRight, LoadsFewest}
 use Rattle.hart_sim.specs.Frames.{IsOn, KeepsFrame}
 use Rattle.hart_sim.specs.Parts.{AreBanks, state_in, bank_in}
@@ -24,7 +24,7 @@ right_still s new old now table worlds marks banks right = λ i b low off has.
     (right i b (subst (λ t. i < t.layout.harts) table low) (sym (marks i) ∙ off) (sym (banks i) ∙ has))
 
 -- banks, table, worlds and marks stay
-pub frame_still : (old new : Parts) (hart : ℕ) → IsOn old hart → (state_in new).table ≡ (state_in old).table → ((i : ℕ) → (state_in new).worlds i ≡ (state_in old).worlds i) → ((i : ℕ) → (state_in new).marked i ≡ (state_in old).marked i)
+pub frame_still : (old new : MachineParts) (hart : ℕ) → IsOn old hart → (state_in new).table ≡ (state_in old).table → ((i : ℕ) → (state_in new).worlds i ≡ (state_in old).worlds i) → ((i : ℕ) → (state_in new).marked i ≡ (state_in old).marked i)
     → kept_by new.monitor ≡ kept_by old.monitor → new.banks ≡ old.banks → KeepsFrame old new hart
 frame_still old new hart on table worlds marks kept banks = record {
   layout = ap (λ t. t.layout) table;
@@ -36,7 +36,7 @@ frame_still old new hart on table worlds marks kept banks = record {
 }
 
 -- after something that leaves table and world of the hart, and does not mark it
-pub frame_after : (old mid new : Parts) (hart : ℕ) → (state_in mid).table ≡ (state_in old).table → (state_in mid).worlds hart ≡ (state_in old).worlds hart → kept_by mid.monitor ≡ kept_by old.monitor
+pub frame_after : (old mid new : MachineParts) (hart : ℕ) → (state_in mid).table ≡ (state_in old).table → (state_in mid).worlds hart ≡ (state_in old).worlds hart → kept_by mid.monitor ≡ kept_by old.monitor
     → ((state_in old).marked hart ≡ false → (state_in mid).marked hart ≡ false) → KeepsFrame old mid hart → KeepsFrame mid new hart → KeepsFrame old new hart
 frame_after old mid new hart same stood kept awake x y = record {
   layout = y.layout ∙ x.layout;
@@ -48,7 +48,7 @@ frame_after old mid new hart same stood kept awake x y = record {
 }
 
 -- the hart whose mark was taken away has the fewest entries, and each other hart what it had
-pub frame_woken : (old new : Parts) (hart : ℕ) → (state_in old).marked hart ≡ true → AreBanks new.banks (state_in old).table.layout.limit
+pub frame_woken : (old new : MachineParts) (hart : ℕ) → (state_in old).marked hart ≡ true → AreBanks new.banks (state_in old).table.layout.limit
     → (state_in new).table ≡ (state_in old).table → ((i : ℕ) → (state_in new).worlds i ≡ (state_in old).worlds i) → ((i : ℕ) → i ≢ hart → (state_in new).marked i ≡ (state_in old).marked i)
     → kept_by new.monitor ≡ kept_by old.monitor → ((other : ℕ) → other ≢ hart → bank_in new other ≡ bank_in old other)
     → (bank : Bank) × (bank_in new hart ≡ Some bank) × LoadsFewest bank (view_on (state_in old) hart) → KeepsFrame old new hart
@@ -67,7 +67,7 @@ frame_woken old new hart was limited table worlds marks kept others fewest = rec
     same i = same_view (state_in old) (state_in new) i table (worlds i)
 
 -- after the monitor served a call or an interrupt on a hart, and entries were loaded there where it asked for that
-pub frame_served : (old new : Parts) (hart : ℕ) (asked : Bool) → IsOn old hart → hart < 4 → (state_in old).marked hart ≡ false → KeepsOthers (core_of (state_in old)) (core_of (state_in new)) hart
+pub frame_served : (old new : MachineParts) (hart : ℕ) (asked : Bool) → IsOn old hart → hart < 4 → (state_in old).marked hart ≡ false → KeepsOthers (core_of (state_in old)) (core_of (state_in new)) hart
     → LoadsAnew asked (core_of (state_in old)) (core_of (state_in new)) hart → (state_in new).table.layout ≡ (state_in old).table.layout → AreBanks new.banks (state_in new).table.layout.limit
     → ((state_in new).table ≡ (state_in old).table → kept_by new.monitor ≡ kept_by old.monitor) → ((other : ℕ) → other ≢ hart → bank_in new other ≡ bank_in old other)
     → (asked ≡ true → (bank : Bank) × (bank_in new hart ≡ Some bank) × LoadsFewest bank (view_on (state_in new) hart))

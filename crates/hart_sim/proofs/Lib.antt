@@ -10,7 +10,6 @@ mod Layouts
 mod Awake
 mod PrivateBytes
 mod Framed
-mod Running
 mod Wanted
 mod Promised
 mod WorldsKept

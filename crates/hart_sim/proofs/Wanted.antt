@@ -1,4 +1,5 @@
 -- When an event is refused for want of entries, and when out of memory.
+use Rattle.measurement.specs.Digests.{measured}
 use Rattle.std.proofs.Common.{◌≡◌, ◌∙◌, inl, inr, ℕ, Bool, true, false, Option, None, ℤ, pos, Result, Ok, Err, refl, ap, sym, ◌*◌}
 use Rattle.pmp_match.specs.declared.access.Access.{Access}
 use Rattle.pmp_match.specs.declared.access.Kind.{Kind}
@@ -45,14 +46,14 @@ to_answer new hart answer reply refusal told is = ap status_of (sym told.2 ∙ i
 
 pub creates_by_need : CreatesByNeed
 creates_by_need asked s hart reply new pass x =
-    let n = core.creates_by_need asked (λ page. bytes_at s.bytes (page * 4096) 4096) (core_of s) hart x.0 x.1 x.2 pass x.3 in (
+    let n = core.creates_by_need asked (measured (λ page. bytes_at s.bytes (page * 4096) 4096)) (core_of s) hart x.0 x.1 x.2 pass x.3 in (
       (λ is. n.0 (to_answer new hart x.0 reply NoEntries x.5 is)),
       (λ out. elim (n.1 out) [ inl is ↦ inl (to_reply new hart x.0 reply NoEntries x.5 is) | inr is ↦ inr (to_reply new hart x.0 reply NoMemory x.5 is) ]),
     )
 
 pub destroys_by_need : DestroysByNeed
 destroys_by_need id s hart reply new pass x =
-    let n = core.destroys_by_need id (λ page. bytes_at s.bytes (page * 4096) 4096) (core_of s) hart x.0 x.1 x.2 pass x.3 in (
+    let n = core.destroys_by_need id (measured (λ page. bytes_at s.bytes (page * 4096) 4096)) (core_of s) hart x.0 x.1 x.2 pass x.3 in (
       (λ is. n.0 (to_answer new hart x.0 reply NoEntries x.5 is)),
       (λ out. elim (n.1 out) [ inl is ↦ inl (to_reply new hart x.0 reply NoEntries x.5 is) | inr is ↦ inr (to_reply new hart x.0 reply NoMemory x.5 is) ]),
     )

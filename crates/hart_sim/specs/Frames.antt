@@ -1,19 +1,19 @@
 -- What each part of an event on a hart may rely on, and what it keeps.
 use Rattle.std.specs.Prelude.{◌≡◌, ◌≢◌, ℕ, ◌<◌, false}
 use Rattle.monitor_core.specs.Monitors.{kept_by}
-use Rattle.hart_sim.specs.declared.parts.Parts.{Parts}
+use Rattle.hart_sim.specs.declared.parts.MachineParts.{MachineParts}
 use Rattle.hart_sim.specs.Banks.{AreBanksRight}
 use Rattle.hart_sim.specs.Parts.{AreBanks, state_in, bank_in}
 
 -- the hart is one of the platform, and the banks have its limit
-pub record IsOn (parts : Parts) (hart : ℕ) : Type 0 where
+pub record IsOn (parts : MachineParts) (hart : ℕ) : Type 0 where
   pub known : hart < (state_in parts).table.layout.harts
   pub limited : AreBanks parts.banks (state_in parts).table.layout.limit
 
 -- the platform stays, and the banks have its limit still; banks that were right are right, those of
 -- the other harts stay, and so does the hart's own where table and world stay; where the table
 -- stays, so does every list that is kept
-pub record KeepsFrame (old new : Parts) (hart : ℕ) : Type 0 where
+pub record KeepsFrame (old new : MachineParts) (hart : ℕ) : Type 0 where
   pub layout : (state_in new).table.layout ≡ (state_in old).table.layout
   pub limited : AreBanks new.banks (state_in new).table.layout.limit
   pub banks : AreBanksRight (state_in old) (bank_in old)

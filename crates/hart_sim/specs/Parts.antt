@@ -7,7 +7,7 @@ use Rattle.pmp_encoding.specs.Limits.{limit_number}
 use Rattle.monitor_core.specs.Monitors.{state_by}
 use Rattle.monitor_core.specs.States.{MonitorState}
 use Rattle.hart_sim.specs.declared.memory.Memory.{Memory}
-use Rattle.hart_sim.specs.declared.parts.Parts.{Parts}
+use Rattle.hart_sim.specs.declared.parts.MachineParts.{MachineParts}
 use Rattle.hart_sim.specs.Memory.{byte_at, is_written}
 use Rattle.hart_sim.specs.States.{MachineState}
 
@@ -22,11 +22,11 @@ shown core memory = record {
   marked = core.marked;
 }
 
-abbrev pub state_in : Parts → MachineState
+abbrev pub state_in : MachineParts → MachineState
 state_in parts = shown (state_by parts.monitor) parts.memory
 
 -- the bank of a hart
-abbrev pub bank_in : Parts → ℕ → Option Bank
+abbrev pub bank_in : MachineParts → ℕ → Option Bank
 bank_in parts hart = slice_get parts.banks hart
 
 -- there are four banks, and each has as many entries as the platform says

@@ -1,4 +1,5 @@
 -- One step of the machine: what an event on a hart may be answered, and the state that it leaves.
+use Rattle.measurement.specs.Digests.{measured}
 use Rattle.std.specs.Prelude.{◌≡◌, ◌≢◌, ◌⊎◌, ℕ, ◌/◌, ◌%◌, ◌^◌, ◌<◌, false, ◌&&◌, ◌==◌, nat_lt}
 use Rattle.std.specs.Prelude.{if◌then◌else◌, List, [], ◌∷◌, ◌++◌, Option, Result, Ok, Err, ◌*◌}
 use Rattle.pmp_encoding.specs.declared.perm.Perm.{Perm}
@@ -71,7 +72,7 @@ DoesEvent (events.Reg n value) s hart reply new = (reply ≡ replies.Done)
     (with_x (s.registers (runner_of hart (s.worlds hart))) n value)))
 DoesEvent (events.Ecall words) s hart reply new =
     let file = calling s hart words.items in
-    Serves (DoesCall (call_of file) (λ page. bytes_at s.bytes (page * 4096) 4096)
+    Serves (DoesCall (call_of file) (measured (λ page. bytes_at s.bytes (page * 4096) 4096))
     (with_running (core_of s) hart file) hart) s hart reply new
 DoesEvent events.Irq s hart reply new = (core : MonitorState)
     × Interrupts (s.worlds hart) (core_of s) hart core × (new ≡ with_core s core)

@@ -4,7 +4,7 @@ ghost use Rattle.std.specs.Prelude.{◌≡◌, ◌%◌};
 ghost use Rattle.hart_sim.specs.Effects.{ReachesMemory};
 
 use crate::Memory;
-use crate::parts::Parts;
+use crate::parts::MachineParts;
 use hart_trace::Reply;
 use pmp_match::{Access, Kind, judge};
 use std::alloc::Global;
@@ -27,7 +27,7 @@ fn reach(memory: &mut Memory, alloc: Global, access: &Access, value: u64) -> Rep
     }
 }
 
-impl Parts {
+impl MachineParts {
     ghost use Rattle.std.specs.Prelude.{◌≡◌, ◌≢◌, ◌↔◌, ◌<◌, List, false, Result, Err, Some};
     ghost use Rattle.pmp_encoding.specs.declared.bank.Bank.{Bank};
     ghost use Rattle.pmp_encoding.specs.declared.region.Entry.{Entry};

@@ -1,10 +1,10 @@
 //! The answers of calls and interrupts: the world after them, and how many entries its view needs.
 
-use crate::parts::Parts;
+use crate::parts::MachineParts;
 use hart_trace::Reply;
 use monitor_core::{Answer, World};
 
-impl Parts {
+impl MachineParts {
     ghost use Rattle.std.specs.Prelude.{◌≡◌, ◌<◌};
     ghost use Rattle.monitor_core.specs.Answers.{world_number};
     ghost use Rattle.hart_sim.specs.Parts.{state_in};

@@ -1,9 +1,9 @@
 //! The banks: which entries are loaded on a hart, and when.
 
-use crate::parts::Parts;
+use crate::parts::MachineParts;
 use pmp_encoding::Bank;
 
-impl Parts {
+impl MachineParts {
     ghost use Rattle.std.specs.Prelude.{◌≡◌, ◌≢◌, ℕ, ◌<◌, true, false, Some};
     ghost use Rattle.pmp_encoding.specs.declared.bank.Bank.{Bank};
     ghost use Rattle.pmp_encoding.specs.Banks.{HasList};

@@ -2,12 +2,12 @@
 
 use crate::Memory;
 use crate::hart_bank::HartBank;
-use crate::parts::Parts;
+use crate::parts::MachineParts;
 use monitor_core::{BootFault, Monitor, Platform};
 use pmp_encoding::Bank;
 use std::alloc::{AllocError, Global};
 
-impl Parts {
+impl MachineParts {
     ghost use Rattle.std.specs.Prelude.{◌≡◌, IfOk, IfErr};
     ghost use Rattle.enclave_table.specs.Boot.{IsBootFault, opening_table};
     ghost use Rattle.enclave_table.specs.Fewest.{FitsIn};
@@ -18,7 +18,7 @@ impl Parts {
     ghost use Rattle.hart_sim.specs.States.{opening_state};
 
     /// The machine of a platform at boot: no enclave, nothing written, and the host's entries on each hart.
-    pub(crate) fn boot(alloc: Global, platform: Platform) -> Result<Parts, BootFault>
+    pub(crate) fn boot(alloc: Global, platform: Platform) -> Result<MachineParts, BootFault>
         ensures state { IfOk result (λ p. state_in p ≡ opening_state platform) }
         ensures rules { IfOk result (λ _. IsLayout platform) }
         ensures limited { IfOk result (λ p. AreBanks p.banks (state_in p).table.layout.limit) }
@@ -35,7 +35,7 @@ impl Parts {
         let Ok(banks) = four_of(alloc, bank) else {
             return Err(BootFault::Memory);
         };
-        Ok(Parts {
+        Ok(MachineParts {
             alloc,
             monitor,
             memory: Memory::new(alloc),

@@ -1,14 +1,15 @@
 //! Calls to the monitor and interrupts: what the monitor makes of them, done in memory and in the hart's bank.
 
 use crate::call_registers::put_call;
-use crate::parts::Parts;
+use crate::parts::MachineParts;
 use arrayvec::ArrayVec;
 use hart_trace::Reply;
-use monitor_core::{Answer, PageRange};
+use monitor_core::{Answer, MeasuresPages, PageRange};
 
-impl Parts {
+impl MachineParts {
     ghost use Rattle.std.specs.Prelude.{◌≡◌, ◌+◌, ◌^◌, ◌<◌, ◌≤◌, false, IfSome, Option, ◌*◌};
     ghost use Rattle.sbi_decode.specs.Calls.{call_of};
+    ghost use Rattle.measurement.specs.Digests.{measured};
     ghost use Rattle.monitor_core.specs.Changes.{with_running};
     ghost use Rattle.monitor_core.specs.States.{MonitorState};
     ghost use Rattle.monitor_core.specs.Steps.{DoesCall};
@@ -42,12 +43,17 @@ impl Parts {
         ensures frame { KeepsFrame self.old self.new hart }
         ensures served { let s = state_in self.old in let file = calling s hart words.now in
             (pages : Option PageRange) × (core : MonitorState)
-            × DoesCall (call_of file) (λ page. bytes_at s.bytes (page * 4096) 4096)
+            × DoesCall (call_of file) (measured (λ page. bytes_at s.bytes (page * 4096) 4096))
             (with_running (core_of s) hart file) hart result pages core
             × (state_in self.new ≡ zeroing (with_core s core) pages) }
     {
         put_call(&mut self.monitor, hart, words);
-        let served = self.monitor.serve_kept(hart, &self.memory);
+        let served = self.monitor.serve(
+            hart,
+            &MeasuresPages {
+                pages: &self.memory,
+            },
+        );
         self.zero(served.zero);
         self.load_where(hart, served.load);
         served.answer
@@ -62,7 +68,7 @@ impl Parts {
         requires awake { (state_in self.old).marked hart ≡ false }
         ensures frame { KeepsFrame self.old self.new hart }
         ensures step { let s = state_in self.old in let file = calling s hart words.now in
-            Serves (DoesCall (call_of file) (λ page. bytes_at s.bytes (page * 4096) 4096)
+            Serves (DoesCall (call_of file) (measured (λ page. bytes_at s.bytes (page * 4096) 4096))
             (with_running (core_of s) hart file) hart) s hart result (state_in self.new) }
     {
         let answer = self.serve(hart, words);
@@ -90,7 +96,7 @@ impl Parts {
         ensures frame { KeepsFrame self.old self.new hart }
         ensures step { DoesEvent Event.Irq (state_in self.old) hart result (state_in self.new) }
     {
-        let load = self.monitor.interrupt_kept(hart);
+        let load = self.monitor.interrupt(hart);
         self.load_where(hart, load);
         self.told_of_irq(hart)
     }

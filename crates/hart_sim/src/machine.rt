@@ -3,7 +3,7 @@
 ghost use Rattle.monitor_core.specs.Monitors.{state_by};
 ghost use Rattle.hart_sim.specs.Parts.{AreBanks};
 
-use crate::parts::Parts;
+use crate::parts::MachineParts;
 use arrayvec::ArrayVec;
 use hart_trace::{Event, Reply};
 use monitor_core::{BootFault, Platform, Table, World};
@@ -14,7 +14,7 @@ use std::alloc::Global;
 /// A table of enclaves, one to four harts, and memory.
 #[derive(Drop)]
 pub struct Machine {
-    pub(crate) parts: Parts,
+    pub(crate) parts: MachineParts,
     pub ghost limited: { AreBanks parts.banks (state_by parts.monitor).table.layout.limit },
 }
 
@@ -151,7 +151,7 @@ impl Machine {
             (host_view (opening_table platform))) }
         ensures fault { IfErr result (λ fault. IsBootFault platform fault) }
     {
-        match Parts::boot(alloc, platform) {
+        match MachineParts::boot(alloc, platform) {
             Ok(parts) => Ok(Machine { parts }),
             Err(fault) => Err(fault),
         }

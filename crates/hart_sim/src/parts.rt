@@ -7,7 +7,7 @@ use std::alloc::Global;
 
 /// The monitor, memory, and the bank of each of four harts, of which a platform may have fewer.
 #[derive(Drop)]
-pub(crate) struct Parts {
+pub(crate) struct MachineParts {
     pub(crate) alloc: Global,
     pub(crate) monitor: Monitor,
     pub(crate) memory: Memory,

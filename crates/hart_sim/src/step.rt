@@ -1,9 +1,9 @@
 //! An event on a hart: it loads what it has to, and then the event happens.
 
-use crate::parts::Parts;
+use crate::parts::MachineParts;
 use hart_trace::{Event, Reply};
 
-impl Parts {
+impl MachineParts {
     ghost use Rattle.std.specs.Prelude.{◌≡◌, ℕ, ◌<◌, ◌↔◌, List, false, Err, Some};
     ghost use Rattle.pmp_encoding.specs.declared.bank.Bank.{Bank};
     ghost use Rattle.pmp_encoding.specs.declared.region.Entry.{Entry};

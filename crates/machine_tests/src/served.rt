@@ -3,7 +3,7 @@
 
 ghost use Rattle.std.specs.Prelude.{replicate};
 
-use monitor_core::{Monitor, Onward, PageRange, Pages, Platform, Registers, Served, World};
+use monitor_core::{MeasuresPages, Monitor, PageRange, Pages, Platform, Registers, Served, World};
 use pmp_encoding::Perm;
 use std::alloc::Global;
 use std::process::Abort;
@@ -60,31 +60,29 @@ fn served(
 ) -> Served {
     assert!(rt; hart < monitor.harts());
     assert!(rt; !monitor.is_marked(hart));
-    let registers = call_of(0x8040_0000, function, arguments);
-    monitor.serve(hart, &registers, &Zeros {})
+    monitor.put_registers(hart, &call_of(0x8040_0000, function, arguments));
+    monitor.serve(hart, &MeasuresPages { pages: &Zeros {} })
 }
 
-/// An interrupt on such a hart, with this word in a0.
-fn interrupted(rt: &impl Abort, monitor: &mut Monitor, hart: u8, a0: u64) -> Onward {
+/// An interrupt on such a hart, with this word in a0: whether its entries are to be loaded anew.
+fn interrupted(rt: &impl Abort, monitor: &mut Monitor, hart: u8, a0: u64) -> bool {
     assert!(rt; hart < monitor.harts());
     assert!(rt; !monitor.is_marked(hart));
     let mut registers = Registers::new();
     registers.set(A0, a0);
-    monitor.interrupt(hart, &registers)
+    monitor.put_registers(hart, &registers);
+    monitor.interrupt(hart)
 }
 
 /// What a call was answered with, and whether the hart's entries are to be loaded anew.
 fn told(served: &Served) -> (i64, u64, bool) {
-    (
-        served.answer.status,
-        served.answer.value,
-        served.onward.load,
-    )
+    (served.answer.status, served.answer.value, served.load)
 }
 
-/// The program counter, a0 and a1 of what goes on.
-fn pc_a0_a1(onward: &Onward) -> [u64; 3] {
-    let registers = &onward.registers;
+/// The program counter, a0 and a1 of what goes on on a hart.
+fn pc_a0_a1(rt: &impl Abort, monitor: &Monitor, hart: u8) -> [u64; 3] {
+    assert!(rt; hart < 4);
+    let registers = monitor.registers(hart);
     [registers.pc(), registers.get(A0), registers.get(A1)]
 }
 
@@ -110,7 +108,7 @@ fn entered(rt: &impl Abort, monitor: &mut Monitor) {
     created(rt, monitor);
     let served = served(rt, monitor, 0, 2, [1, 0, 0]);
     assert!(rt; told(&served) == (0, 0, true));
-    assert!(rt; pc_a0_a1(&served.onward) == [0x8020_0000, 1, 0]);
+    assert!(rt; pc_a0_a1(rt, monitor, 0) == [0x8020_0000, 1, 0]);
 }
 
 /// A creation marks the other hart, and goes on past the call with the id.
@@ -118,7 +116,7 @@ fn creation_marks(rt: &impl Abort, monitor: &mut Monitor) {
     let served = served(rt, monitor, 0, 0, [0x8020_0000, 1, 0]);
     assert!(rt; told(&served) == (0, 1, true));
     assert!(rt; served.zero == None);
-    assert!(rt; pc_a0_a1(&served.onward) == [0x8040_0004, 0, 1]);
+    assert!(rt; pc_a0_a1(rt, monitor, 0) == [0x8040_0004, 0, 1]);
     assert!(rt; standing(monitor) == (World::Host, 4, false, true));
 }
 
@@ -126,14 +124,15 @@ fn creation_marks(rt: &impl Abort, monitor: &mut Monitor) {
 fn interrupt_stops(rt: &impl Abort, monitor: &mut Monitor) {
     entered(rt, monitor);
     assert!(rt; standing(monitor) == (World::Enclave(1), 1, false, false));
-    let onward = interrupted(rt, monitor, 0, 77);
-    assert!(rt; onward.load);
-    assert!(rt; pc_a0_a1(&onward) == [0x8040_0004, 1, 0]);
+    assert!(rt; interrupted(rt, monitor, 0, 77));
+    assert!(rt; pc_a0_a1(rt, monitor, 0) == [0x8040_0004, 1, 0]);
     assert!(rt; standing(monitor) == (World::Host, 4, false, false));
     let resumed = served(rt, monitor, 1, 4, [1, 0, 0]);
-    assert!(rt; pc_a0_a1(&resumed.onward) == [0, 77, 0]);
+    assert!(rt; told(&resumed) == (0, 0, true));
+    assert!(rt; pc_a0_a1(rt, monitor, 1) == [0, 77, 0]);
     let left = served(rt, monitor, 1, 5, [7, 0, 0]);
-    assert!(rt; pc_a0_a1(&left.onward) == [0x8040_0004, 0, 7]);
+    assert!(rt; told(&left) == (0, 7, true));
+    assert!(rt; pc_a0_a1(rt, monitor, 1) == [0x8040_0004, 0, 7]);
 }
 
 /// A destruction hands out the pages, and the same call again is refused and changes no entries.

@@ -5,6 +5,7 @@ ghost use Rattle.std.specs.List.{list_all};
 ghost use Rattle.measurement.specs.Measured.{digest_of};
 ghost use Rattle.measurement.specs.Requests.{HasCounts, HasPlaces};
 ghost use Rattle.measurement.specs.Digests.{blank_page, layout_of, measured, pages_from};
+ghost use Rattle.measurement.specs.declared.request.Create.{Create};
 
 use crate::request::Create;
 use crate::{Layout, Measure};
@@ -98,4 +99,46 @@ pub fn enclave_digest<P: Pages>(
     let digest = taken(pages, parts);
     *last = Some(BlankDigest { layout, digest });
     digest
+}
+
+/// Who knows as what an enclave is measured that is about to be created.
+pub trait Digests {
+    /// The digest of an enclave with these parts.
+    ghost digest_of: { Self → Create → List ℕ };
+
+    /// The digest of an enclave with these parts. The last digest of blank pages is kept for the next one.
+    fn digest(&self, last: &mut Option<BlankDigest>, parts: &Create) -> [u8; 32]
+        requires counts { HasCounts parts.now }
+        requires places { HasPlaces parts.now }
+        ensures { result ≡ digest_of self.now parts.now };
+}
+
+/// What measures the private pages when it is asked, as they are then.
+#[derive(Drop)]
+pub struct MeasuresPages<'a, P> {
+    /// What tells the bytes of the pages.
+    pub pages: &'a P,
+}
+
+impl<P: Pages> Digests for MeasuresPages<'_, P> {
+    ghost digest_of = { λ m. measured (P.bytes_of m.pages.now) };
+
+    fn digest(&self, last: &mut Option<BlankDigest>, parts: &Create) -> [u8; 32] {
+        enclave_digest(last, self.pages, parts)
+    }
+}
+
+/// A digest that was taken before it is asked for.
+#[derive(Drop)]
+pub struct TakenDigest {
+    /// Its bytes.
+    pub bytes: [u8; 32],
+}
+
+impl Digests for TakenDigest {
+    ghost digest_of = { λ taken parts. taken.bytes };
+
+    fn digest(&self, _last: &mut Option<BlankDigest>, _parts: &Create) -> [u8; 32] {
+        self.bytes
+    }
 }

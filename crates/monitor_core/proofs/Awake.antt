@@ -1,4 +1,5 @@
 -- A hart that is not marked is not marked after a call or an interrupt of its own.
+use Rattle.measurement.specs.declared.request.Create.{Create}
 use Rattle.std.proofs.Common.{◌≡◌, ◌∙◌, inl, inr, ℕ, List, false, ◌&&◌, ◌||◌, nat_lt, if◌then◌else◌, Option, Some, None, refl, ap}
 use Rattle.std.proofs.lemmas.Bool.{eq-eqb}
 use Rattle.sbi_decode.specs.declared.world.World.{World}
@@ -21,24 +22,24 @@ own_mark s hart awake =
     let hosts = nat_lt hart s.table.layout.harts && is_host (s.worlds hart) in
     ap (λ t. if t then s.marked hart else (hosts || s.marked hart)) (eq-eqb hart hart refl) ∙ awake
 
-pub call_leaves_awake : (call : Option Call) (pages : ℕ → List ℕ) (s : MonitorState) (hart : ℕ) (answer : Answer) (zero : Option PageRange) (new : MonitorState) → Off s hart → DoesCall call pages s hart answer zero new → Off new hart
-call_leaves_awake None pages s hart answer zero new awake x = ap (λ y. y.marked hart) x.state ∙ awake
-call_leaves_awake (Some (calls.Create base text_pages data_pages shared_base shared_count entry_offset)) pages s hart answer zero new awake (inl x) =
+pub call_leaves_awake : (call : Option Call) (digests : Create → List ℕ) (s : MonitorState) (hart : ℕ) (answer : Answer) (zero : Option PageRange) (new : MonitorState) → Off s hart → DoesCall call digests s hart answer zero new → Off new hart
+call_leaves_awake None digests s hart answer zero new awake x = ap (λ y. y.marked hart) x.state ∙ awake
+call_leaves_awake (Some (calls.Create base text_pages data_pages shared_base shared_count entry_offset)) digests s hart answer zero new awake (inl x) =
     ap (λ y. y.marked hart) x.3.state ∙ own_mark (answering (record s { table = x.1 }) hart 0 x.0) hart awake
-call_leaves_awake (Some (calls.Create base text_pages data_pages shared_base shared_count entry_offset)) pages s hart answer zero new awake (inr x) = ap (λ y. y.marked hart) x.2.state ∙ awake
-call_leaves_awake (Some (calls.Destroy id)) pages s hart answer zero new awake (inl x) =
+call_leaves_awake (Some (calls.Create base text_pages data_pages shared_base shared_count entry_offset)) digests s hart answer zero new awake (inr x) = ap (λ y. y.marked hart) x.2.state ∙ awake
+call_leaves_awake (Some (calls.Destroy id)) digests s hart answer zero new awake (inl x) =
     ap (λ y. y.marked hart) x.3.state ∙ own_mark (answering (record s { table = x.1 }) hart 0 0) hart awake
-call_leaves_awake (Some (calls.Destroy id)) pages s hart answer zero new awake (inr x) = ap (λ y. y.marked hart) x.2.state ∙ awake
-call_leaves_awake (Some (calls.Run id)) pages s hart answer zero new awake (inl x) = ap (λ y. y.marked hart) x.4.state ∙ awake
-call_leaves_awake (Some (calls.Run id)) pages s hart answer zero new awake (inr x) = ap (λ y. y.marked hart) x.2.state ∙ awake
-call_leaves_awake (Some calls.Stop) pages s hart answer zero new awake (inl x) = ap (λ y. y.marked hart) x.3.state ∙ awake
-call_leaves_awake (Some calls.Stop) pages s hart answer zero new awake (inr x) = ap (λ y. y.marked hart) x.2.state ∙ awake
-call_leaves_awake (Some (calls.Resume id)) pages s hart answer zero new awake (inl x) = ap (λ y. y.marked hart) x.4.state ∙ awake
-call_leaves_awake (Some (calls.Resume id)) pages s hart answer zero new awake (inr x) = ap (λ y. y.marked hart) x.2.state ∙ awake
-call_leaves_awake (Some (calls.Exit value)) pages s hart answer zero new awake (inl x) = ap (λ y. y.marked hart) x.3.state ∙ awake
-call_leaves_awake (Some (calls.Exit value)) pages s hart answer zero new awake (inr x) = ap (λ y. y.marked hart) x.2.state ∙ awake
-call_leaves_awake (Some (calls.Measure id k)) pages s hart answer zero new awake (inl x) = ap (λ y. y.marked hart) x.2.state ∙ awake
-call_leaves_awake (Some (calls.Measure id k)) pages s hart answer zero new awake (inr x) = ap (λ y. y.marked hart) x.2.state ∙ awake
+call_leaves_awake (Some (calls.Destroy id)) digests s hart answer zero new awake (inr x) = ap (λ y. y.marked hart) x.2.state ∙ awake
+call_leaves_awake (Some (calls.Run id)) digests s hart answer zero new awake (inl x) = ap (λ y. y.marked hart) x.4.state ∙ awake
+call_leaves_awake (Some (calls.Run id)) digests s hart answer zero new awake (inr x) = ap (λ y. y.marked hart) x.2.state ∙ awake
+call_leaves_awake (Some calls.Stop) digests s hart answer zero new awake (inl x) = ap (λ y. y.marked hart) x.3.state ∙ awake
+call_leaves_awake (Some calls.Stop) digests s hart answer zero new awake (inr x) = ap (λ y. y.marked hart) x.2.state ∙ awake
+call_leaves_awake (Some (calls.Resume id)) digests s hart answer zero new awake (inl x) = ap (λ y. y.marked hart) x.4.state ∙ awake
+call_leaves_awake (Some (calls.Resume id)) digests s hart answer zero new awake (inr x) = ap (λ y. y.marked hart) x.2.state ∙ awake
+call_leaves_awake (Some (calls.Exit value)) digests s hart answer zero new awake (inl x) = ap (λ y. y.marked hart) x.3.state ∙ awake
+call_leaves_awake (Some (calls.Exit value)) digests s hart answer zero new awake (inr x) = ap (λ y. y.marked hart) x.2.state ∙ awake
+call_leaves_awake (Some (calls.Measure id k)) digests s hart answer zero new awake (inl x) = ap (λ y. y.marked hart) x.2.state ∙ awake
+call_leaves_awake (Some (calls.Measure id k)) digests s hart answer zero new awake (inr x) = ap (λ y. y.marked hart) x.2.state ∙ awake
 
 pub interrupt_leaves_awake : (world : World) (s : MonitorState) (hart : ℕ) (new : MonitorState) → Off s hart → Interrupts world s hart new → Off new hart
 interrupt_leaves_awake Host s hart new awake x = ap (λ y. y.marked hart) x ∙ awake

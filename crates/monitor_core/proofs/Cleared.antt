@@ -1,4 +1,5 @@
 -- The pages that are to be made zero are memory, and none is the monitor's.
+use Rattle.measurement.specs.declared.request.Create.{Create}
 use Rattle.std.proofs.Common.{◌≡◌, inl, inr, ℕ, ◌||◌, Bool, true, List, Option, IfSome, ap, sym, subst, arith}
 use Rattle.pmp_encoding.specs.declared.pages.PageRange.{PageRange}
 use Rattle.enclave_table.specs.Enclaves.{EnclaveTable, Live}
@@ -26,10 +27,10 @@ private_clears table id e t live =
       not_monitor = λ page is. sound.not_monitor page (first_is (is_private e.parts page) (is_shared e.parts page) is);
     }
 
-pub call_clears_memory : (call : Option Call) (pages : ℕ → List ℕ) (s : MonitorState) (hart : ℕ) (answer : Answer) (zero : Option PageRange) (new : MonitorState) → IsTable s.table → DoesCall call pages s hart answer zero new → IfSome zero (λ range. ClearsMemory s.table.layout range)
-call_clears_memory call pages s hart answer zero new t x =
+pub call_clears_memory : (call : Option Call) (digests : Create → List ℕ) (s : MonitorState) (hart : ℕ) (answer : Answer) (zero : Option PageRange) (new : MonitorState) → IsTable s.table → DoesCall call digests s hart answer zero new → IfSome zero (λ range. ClearsMemory s.table.layout range)
+call_clears_memory call digests s hart answer zero new t x =
     let of = λ (o : Option PageRange). IfSome o (λ range. ClearsMemory s.table.layout range) in
-    elim (cleared call pages s hart answer zero new x) [
+    elim (cleared call digests s hart answer zero new x) [
       | inl none ↦ subst of (sym none) tt
       | inr some ↦ subst of (sym some.1) (subst (ClearsMemory s.table.layout) (sym some.2.own) (private_clears s.table some.2.id some.2.enclave t some.2.live))
     ]

@@ -11,7 +11,7 @@ use Rattle.sbi_decode.specs.declared.world.World.TheVariants.{Host, Enclave as I
 use Rattle.enclave_table.proofs.Places.{live_place, set_other}
 use Rattle.monitor_core.specs.States.{opening_monitor}
 use Rattle.monitor_core.specs.Changes.{is_host}
-use Rattle.monitor_core.specs.declared.parts.Parts.{Parts}
+use Rattle.monitor_core.specs.declared.parts.MonitorParts.{MonitorParts}
 use Rattle.monitor_core.specs.Parts.{is_run, is_running, is_current, world_in, state_in, HoldsTogether}
 use Rattle.monitor_core.specs.Worlds.{ArePlaced}
 use Rattle.monitor_core.proofs.Held.{held_from}
@@ -58,7 +58,7 @@ current_other table id slot Host above other is = tt
 current_other table id slot (InEnclave k) above other is = (is.0, set_other table.enclaves id k slot above (λ e. other (ap InEnclave e)) ∙ is.1, is.2)
 
 -- each hart of the parts is where it may be
-pub placed_from : (parts : Parts) → HoldsTogether parts.table parts.worlds parts.marked → ArePlaced (state_in parts)
+pub placed_from : (parts : MonitorParts) → HoldsTogether parts.table parts.worlds parts.marked → ArePlaced (state_in parts)
 placed_from parts w = record {
   current = λ i low. current_from parts.table.table (world_in parts.worlds i) (w.current i);
   alone = λ i j id low also at there. w.alone i j id at there;

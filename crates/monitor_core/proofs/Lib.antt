@@ -17,5 +17,6 @@ pub mod Framed
 pub mod Marks
 pub mod Blank
 pub mod Put
+pub mod Running
 pub mod Switched
 pub mod Loaded

@@ -14,7 +14,7 @@ use Rattle.enclave_table.specs.declared.life.Leaving.{Leaving}
 use Rattle.enclave_table.specs.declared.life.Leaving.TheVariants.{Stop, Exit}
 use Rattle.enclave_table.specs.Checks.{state_before}
 use Rattle.enclave_table.specs.Lives.{Enters, Leaves, Turns, state_after}
-use Rattle.enclave_table.specs.Create.{measured_as}
+use Rattle.enclave_table.specs.Create.{fresh}
 use Rattle.enclave_table.specs.Destroy.{Destroys}
 use Rattle.measurement.specs.declared.request.Create.{Create}
 use Rattle.pmp_encoding.specs.declared.pages.PageRange.{PageRange}
@@ -163,9 +163,9 @@ gone_runs_nowhere kept worlds marks world id range table w d i is =
     d.passes.1.1.0 now.0 now.1 now.2
 
 -- an enclave that is made is not Running, and none is where one was
-pub made_rests : (digest : List ℕ) (parts : Create) (e : Enclave) → ◌≡◌ {A = Option Enclave} (Some (measured_as digest parts)) (Some e) → e.state ≢ Running
-made_rests digest parts e put runs =
-    let same = same_Some (measured_as digest parts) e put in
+pub made_rests : (digests : Create → List ℕ) (parts : Create) (e : Enclave) → ◌≡◌ {A = Option Enclave} (Some (fresh digests parts)) (Some e) → e.state ≢ Running
+made_rests digests parts e put runs =
+    let same = same_Some (fresh digests parts) e put in
     let z : Fresh ≡ Running = ap (λ g. g.state) same ∙ runs in cc
 
 pub none_rests : (e : Enclave) → None ≡ Some e → e.state ≢ Running

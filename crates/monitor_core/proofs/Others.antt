@@ -1,4 +1,5 @@
 -- What a call or an interrupt on one hart leaves of the others.
+use Rattle.measurement.specs.declared.request.Create.{Create}
 use Rattle.std.proofs.Common.{◌≡◌, ◌≢◌, ◌∙◌, inl, inr, ℕ, ◌<◌, ◌≤◌, Bool, true, false, ◌&&◌, ◌||◌, ◌==◌, nat_lt, if◌then◌else◌, List, Option, Some, None, refl, ap, ap₂, sym, subst, arith}
 use Rattle.std.proofs.lemmas.Bool.{ne_eqb, lt-ltb}
 use Rattle.pmp_encoding.specs.declared.pages.PageRange.{PageRange}
@@ -92,28 +93,28 @@ left : (s new : MonitorState) (hart id : ℕ) (leaving : Leaving) (table : Encla
 left s new hart id leaving table low w l is worlds marks =
     moved s new hart id l.turned.0 _ Host l.turned.1 (λ i other under at. other (w.alone i hart id under low at l.left)) (is ∙ l.turned.2) worlds marks
 
-pub others_call : (call : Option Call) (pages : ℕ → List ℕ) (s : MonitorState) (hart : ℕ) (answer : Answer) (zero : Option PageRange) (new : MonitorState) → hart < s.table.layout.harts → ArePlaced s → DoesCall call pages s hart answer zero new → KeepsOthers s new hart
-others_call None pages s hart answer zero new low w x = others_stay s new _ hart x.state refl refl refl
-others_call (Some (calls.Create base text_pages data_pages shared_base shared_count entry_offset)) pages s hart answer zero new low w (inl x) =
+pub others_call : (call : Option Call) (digests : Create → List ℕ) (s : MonitorState) (hart : ℕ) (answer : Answer) (zero : Option PageRange) (new : MonitorState) → hart < s.table.layout.harts → ArePlaced s → DoesCall call digests s hart answer zero new → KeepsOthers s new hart
+others_call None digests s hart answer zero new low w x = others_stay s new _ hart x.state refl refl refl
+others_call (Some (calls.Create base text_pages data_pages shared_base shared_count entry_offset)) digests s hart answer zero new low w (inl x) =
     owned s new hart x.0 _ x.1.layout.harts x.2.next.free.0 (ap (λ t. t.layout.harts) x.2.added) (free_nowhere s x.0 w x.2.next.free.2)
     (ap (λ y. y.table) x.3.state ∙ x.2.added) (λ i. ap (λ y. y.worlds i) x.3.state) (λ i. ap (λ y. y.marked i) x.3.state)
-others_call (Some (calls.Create base text_pages data_pages shared_base shared_count entry_offset)) pages s hart answer zero new low w (inr x) = others_stay s new _ hart x.2.state refl refl refl
-others_call (Some (calls.Destroy id)) pages s hart answer zero new low w (inl x) =
+others_call (Some (calls.Create base text_pages data_pages shared_base shared_count entry_offset)) digests s hart answer zero new low w (inr x) = others_stay s new _ hart x.2.state refl refl refl
+others_call (Some (calls.Destroy id)) digests s hart answer zero new low w (inl x) =
     let g = x.2.passes.1.0 in
     owned s new hart id None x.1.layout.harts (live_above s.table.enclaves id g.0 g.1) (ap (λ t. t.layout.harts) x.2.removed)
     (λ i under is. let now : IsCurrent s.table (InEnclave id) = subst (IsCurrent s.table) is (w.current i under) in x.2.passes.1.1.0 now.0 now.1 now.2)
     (ap (λ y. y.table) x.3.state ∙ x.2.removed) (λ i. ap (λ y. y.worlds i) x.3.state) (λ i. ap (λ y. y.marked i) x.3.state)
-others_call (Some (calls.Destroy id)) pages s hart answer zero new low w (inr x) = others_stay s new _ hart x.2.state refl refl refl
-others_call (Some (calls.Run id)) pages s hart answer zero new low w x = enters FirstRun s hart id answer zero new w x
-others_call (Some calls.Stop) pages s hart answer zero new low w (inl x) =
+others_call (Some (calls.Destroy id)) digests s hart answer zero new low w (inr x) = others_stay s new _ hart x.2.state refl refl refl
+others_call (Some (calls.Run id)) digests s hart answer zero new low w x = enters FirstRun s hart id answer zero new w x
+others_call (Some calls.Stop) digests s hart answer zero new low w (inl x) =
     left s new hart x.0 Stop x.1 low w x.2 (ap (λ y. y.table) x.3.state) (λ i. ap (λ y. y.worlds i) x.3.state) (λ i. ap (λ y. y.marked i) x.3.state)
-others_call (Some calls.Stop) pages s hart answer zero new low w (inr x) = others_stay s new _ hart x.2.state refl refl refl
-others_call (Some (calls.Resume id)) pages s hart answer zero new low w x = enters Resume s hart id answer zero new w x
-others_call (Some (calls.Exit value)) pages s hart answer zero new low w (inl x) =
+others_call (Some calls.Stop) digests s hart answer zero new low w (inr x) = others_stay s new _ hart x.2.state refl refl refl
+others_call (Some (calls.Resume id)) digests s hart answer zero new low w x = enters Resume s hart id answer zero new w x
+others_call (Some (calls.Exit value)) digests s hart answer zero new low w (inl x) =
     left s new hart x.0 Exit x.1 low w x.2 (ap (λ y. y.table) x.3.state) (λ i. ap (λ y. y.worlds i) x.3.state) (λ i. ap (λ y. y.marked i) x.3.state)
-others_call (Some (calls.Exit value)) pages s hart answer zero new low w (inr x) = others_stay s new _ hart x.2.state refl refl refl
-others_call (Some (calls.Measure id k)) pages s hart answer zero new low w (inl x) = others_stay s new _ hart x.2.state refl refl refl
-others_call (Some (calls.Measure id k)) pages s hart answer zero new low w (inr x) = others_stay s new _ hart x.2.state refl refl refl
+others_call (Some (calls.Exit value)) digests s hart answer zero new low w (inr x) = others_stay s new _ hart x.2.state refl refl refl
+others_call (Some (calls.Measure id k)) digests s hart answer zero new low w (inl x) = others_stay s new _ hart x.2.state refl refl refl
+others_call (Some (calls.Measure id k)) digests s hart answer zero new low w (inr x) = others_stay s new _ hart x.2.state refl refl refl
 
 pub others_irq : (world : World) (s : MonitorState) (hart : ℕ) (new : MonitorState) → s.worlds hart ≡ world → hart < s.table.layout.harts → ArePlaced s → Interrupts world s hart new → KeepsOthers s new hart
 others_irq Host s hart new at low w x = others_stay s new s hart x refl refl refl

@@ -1,4 +1,5 @@
 -- What becomes of registers over a call and an interrupt.
+use Rattle.measurement.specs.declared.request.Create.{Create}
 use Rattle.std.proofs.Common.{◌≡◌, ◌≢◌, ◌∙◌, inl, inr, ℕ, ◌≤◌, List, Option, Some, None, ◌==◌, if◌then◌else◌, refl, ap, sym, subst}
 use Rattle.std.proofs.lemmas.Bool.{eq-eqb, eqb-true, both_ways}
 use Rattle.std.proofs.lemmas.Option.{same_Some}
@@ -154,33 +155,33 @@ stopped e = cc
 there : (s n : MonitorState) (hart id : ℕ) → n.worlds hart ≡ (in_world s hart (InEnclave id)).worlds hart → n.worlds hart ≡ InEnclave id
 there s n hart id is = is ∙ ap (λ b. if b then InEnclave id else s.worlds hart) (eq-eqb hart hart refl)
 
-pub call_keeps_registers : (call : Option Call) (pages : ℕ → List ℕ) (s : MonitorState) (hart : ℕ) (answer : Answer) (zero : Option PageRange) (n : MonitorState) → DoesCall call pages s hart answer zero n → KeepsRegisters s hart n
-call_keeps_registers None pages s hart answer zero n x = putting_keeps_registers s n hart _ x.state
-call_keeps_registers (Some (calls.Create base text_pages data_pages shared_base shared_count entry_offset)) pages s hart answer zero n (inl x) =
+pub call_keeps_registers : (call : Option Call) (digests : Create → List ℕ) (s : MonitorState) (hart : ℕ) (answer : Answer) (zero : Option PageRange) (n : MonitorState) → DoesCall call digests s hart answer zero n → KeepsRegisters s hart n
+call_keeps_registers None digests s hart answer zero n x = putting_keeps_registers s n hart _ x.state
+call_keeps_registers (Some (calls.Create base text_pages data_pages shared_base shared_count entry_offset)) digests s hart answer zero n (inl x) =
     created s n hart x.0 x.1 _ x.2.next.free.0 refl x.2.added x.3.state
-call_keeps_registers (Some (calls.Create base text_pages data_pages shared_base shared_count entry_offset)) pages s hart answer zero n (inr x) = putting_keeps_registers s n hart _ x.2.state
-call_keeps_registers (Some (calls.Destroy id)) pages s hart answer zero n (inl x) =
+call_keeps_registers (Some (calls.Create base text_pages data_pages shared_base shared_count entry_offset)) digests s hart answer zero n (inr x) = putting_keeps_registers s n hart _ x.2.state
+call_keeps_registers (Some (calls.Destroy id)) digests s hart answer zero n (inl x) =
     let g = x.2.passes.1.0 in destroyed s n hart id x.1 g.0 x.2.passes.0 g.1 x.2.removed x.3.state
-call_keeps_registers (Some (calls.Destroy id)) pages s hart answer zero n (inr x) = putting_keeps_registers s n hart _ x.2.state
-call_keeps_registers (Some (calls.Run id)) pages s hart answer zero n (inl x) =
+call_keeps_registers (Some (calls.Destroy id)) digests s hart answer zero n (inr x) = putting_keeps_registers s n hart _ x.2.state
+call_keeps_registers (Some (calls.Run id)) digests s hart answer zero n (inl x) =
     let file = first_registers id x.0.parts in
     entered s n hart id x.0 _ x.2 refl (there s n hart id (ap (λ y. y.worlds hart) x.4.state)) (ap (λ y. y.table) x.4.state ∙ x.3.turned.2)
     (λ who other. ap (λ y. y.registers who) x.4.state ∙ ap (λ b. if b then file else s.registers who) (same_not who (EnclaveOf id) other))
     (inl (x.3.passes.1.1.0 x.0 x.2, ap (λ y. y.registers (EnclaveOf id)) x.4.state ∙ ap (λ b. if b then file else s.registers (EnclaveOf id)) (same_self (EnclaveOf id))))
-call_keeps_registers (Some (calls.Run id)) pages s hart answer zero n (inr x) = putting_keeps_registers s n hart _ x.2.state
-call_keeps_registers (Some calls.Stop) pages s hart answer zero n (inl x) =
+call_keeps_registers (Some (calls.Run id)) digests s hart answer zero n (inr x) = putting_keeps_registers s n hart _ x.2.state
+call_keeps_registers (Some calls.Stop) digests s hart answer zero n (inl x) =
     left s (answering (record s { table = x.1 }) hart 0 0) n hart x.0 1 0 _ x.1 x.2 refl (λ who other. put_other (record s { table = x.1 }) hart _ who (λ same. other (same ∙ ap (runner_of hart) x.2.left))) x.3.state (λ file is. inl is) (λ e. absurd (stopped e))
-call_keeps_registers (Some calls.Stop) pages s hart answer zero n (inr x) = putting_keeps_registers s n hart _ x.2.state
-call_keeps_registers (Some (calls.Resume id)) pages s hart answer zero n (inl x) =
+call_keeps_registers (Some calls.Stop) digests s hart answer zero n (inr x) = putting_keeps_registers s n hart _ x.2.state
+call_keeps_registers (Some (calls.Resume id)) digests s hart answer zero n (inl x) =
     entered s n hart id x.0 _ x.2 refl (there s n hart id (ap (λ y. y.worlds hart) x.4.state)) (ap (λ y. y.table) x.4.state ∙ x.3.turned.2)
     (λ who other. ap (λ y. y.registers who) x.4.state) (inr (x.3.passes.1.1.0 x.0 x.2, ap (λ y. y.registers (EnclaveOf id)) x.4.state))
-call_keeps_registers (Some (calls.Resume id)) pages s hart answer zero n (inr x) = putting_keeps_registers s n hart _ x.2.state
-call_keeps_registers (Some (calls.Exit value)) pages s hart answer zero n (inl x) =
+call_keeps_registers (Some (calls.Resume id)) digests s hart answer zero n (inr x) = putting_keeps_registers s n hart _ x.2.state
+call_keeps_registers (Some (calls.Exit value)) digests s hart answer zero n (inl x) =
     left s (with_registers (record s { table = x.1 }) (EnclaveOf x.0) zeros) n hart x.0 0 value _ x.1 x.2 refl (λ who other. ap (λ b. if b then zeros else s.registers who) (same_not who (EnclaveOf x.0) other)) x.3.state (λ file is. inr (value, is))
     (λ e. ap (λ b. if b then zeros else s.registers (EnclaveOf x.0)) (same_self (EnclaveOf x.0)))
-call_keeps_registers (Some (calls.Exit value)) pages s hart answer zero n (inr x) = putting_keeps_registers s n hart _ x.2.state
-call_keeps_registers (Some (calls.Measure id k)) pages s hart answer zero n (inl x) = putting_keeps_registers s n hart _ x.2.state
-call_keeps_registers (Some (calls.Measure id k)) pages s hart answer zero n (inr x) = putting_keeps_registers s n hart _ x.2.state
+call_keeps_registers (Some (calls.Exit value)) digests s hart answer zero n (inr x) = putting_keeps_registers s n hart _ x.2.state
+call_keeps_registers (Some (calls.Measure id k)) digests s hart answer zero n (inl x) = putting_keeps_registers s n hart _ x.2.state
+call_keeps_registers (Some (calls.Measure id k)) digests s hart answer zero n (inr x) = putting_keeps_registers s n hart _ x.2.state
 
 pub interrupt_keeps_registers : (world : World) (s : MonitorState) (hart : ℕ) (n : MonitorState) → s.worlds hart ≡ world → Interrupts world s hart n → KeepsRegisters s hart n
 interrupt_keeps_registers Host s hart n at x = marking_keeps_registers s n hart (ap (λ y. y.table) x) (ap (λ y. y.worlds hart) x) (ap (λ y. y.registers) x)

@@ -81,34 +81,34 @@ one_next table id other n m = omega (arith, n.smallest other m.free, m.smallest 
 abbrev ExactlyWhere : Type 0 → Answer → Type 0
 ExactlyWhere More answer = (IsAnsweredBy answer NoEntries → More) × (More → IsAnsweredBy answer NoEntries ⊎ IsAnsweredBy answer NoMemory)
 
-create_refused : (asked : Create) (pages : ℕ → List ℕ) (s : MonitorState) (hart : ℕ) (answer : Answer) (refusal : Refusal) → AllPass (create_checks s.table (s.worlds hart) (parts_of asked))
-    → RefusesBy (create_checks s.table (s.worlds hart) (parts_of asked)) (OutgrowsByCreate pages s.table asked) refusal → IsAnsweredBy answer refusal → ExactlyWhere (OutgrowsByCreate pages s.table asked) answer
-create_refused asked pages s hart answer NoEntries pass why x = ((λ is. why.1), (λ out. inl x))
-create_refused asked pages s hart answer NoMemory pass why x = ((λ is. absurd (not_both answer x is)), (λ out. inr x))
-create_refused asked pages s hart answer NotHost pass why x = absurd (none_fails (create_checks s.table (s.worlds hart) (parts_of asked)) NotHost pass why)
-create_refused asked pages s hart answer NotEnclave pass why x = absurd (none_fails (create_checks s.table (s.worlds hart) (parts_of asked)) NotEnclave pass why)
-create_refused asked pages s hart answer BadCount pass why x = absurd (none_fails (create_checks s.table (s.worlds hart) (parts_of asked)) BadCount pass why)
-create_refused asked pages s hart answer BadAddress pass why x = absurd (none_fails (create_checks s.table (s.worlds hart) (parts_of asked)) BadAddress pass why)
-create_refused asked pages s hart answer BadEntry pass why x = absurd (none_fails (create_checks s.table (s.worlds hart) (parts_of asked)) BadEntry pass why)
-create_refused asked pages s hart answer NotRam pass why x = absurd (none_fails (create_checks s.table (s.worlds hart) (parts_of asked)) NotRam pass why)
-create_refused asked pages s hart answer Overlap pass why x = absurd (none_fails (create_checks s.table (s.worlds hart) (parts_of asked)) Overlap pass why)
-create_refused asked pages s hart answer TableFull pass why x = absurd (none_fails (create_checks s.table (s.worlds hart) (parts_of asked)) TableFull pass why)
-create_refused asked pages s hart answer BadId pass why x = absurd (none_fails (create_checks s.table (s.worlds hart) (parts_of asked)) BadId pass why)
-create_refused asked pages s hart answer BadState pass why x = absurd (none_fails (create_checks s.table (s.worlds hart) (parts_of asked)) BadState pass why)
-create_refused asked pages s hart answer BadWord pass why x = absurd (none_fails (create_checks s.table (s.worlds hart) (parts_of asked)) BadWord pass why)
+create_refused : (asked : Create) (digests : Create → List ℕ) (s : MonitorState) (hart : ℕ) (answer : Answer) (refusal : Refusal) → AllPass (create_checks s.table (s.worlds hart) (parts_of asked))
+    → RefusesBy (create_checks s.table (s.worlds hart) (parts_of asked)) (OutgrowsByCreate digests s.table asked) refusal → IsAnsweredBy answer refusal → ExactlyWhere (OutgrowsByCreate digests s.table asked) answer
+create_refused asked digests s hart answer NoEntries pass why x = ((λ is. why.1), (λ out. inl x))
+create_refused asked digests s hart answer NoMemory pass why x = ((λ is. absurd (not_both answer x is)), (λ out. inr x))
+create_refused asked digests s hart answer NotHost pass why x = absurd (none_fails (create_checks s.table (s.worlds hart) (parts_of asked)) NotHost pass why)
+create_refused asked digests s hart answer NotEnclave pass why x = absurd (none_fails (create_checks s.table (s.worlds hart) (parts_of asked)) NotEnclave pass why)
+create_refused asked digests s hart answer BadCount pass why x = absurd (none_fails (create_checks s.table (s.worlds hart) (parts_of asked)) BadCount pass why)
+create_refused asked digests s hart answer BadAddress pass why x = absurd (none_fails (create_checks s.table (s.worlds hart) (parts_of asked)) BadAddress pass why)
+create_refused asked digests s hart answer BadEntry pass why x = absurd (none_fails (create_checks s.table (s.worlds hart) (parts_of asked)) BadEntry pass why)
+create_refused asked digests s hart answer NotRam pass why x = absurd (none_fails (create_checks s.table (s.worlds hart) (parts_of asked)) NotRam pass why)
+create_refused asked digests s hart answer Overlap pass why x = absurd (none_fails (create_checks s.table (s.worlds hart) (parts_of asked)) Overlap pass why)
+create_refused asked digests s hart answer TableFull pass why x = absurd (none_fails (create_checks s.table (s.worlds hart) (parts_of asked)) TableFull pass why)
+create_refused asked digests s hart answer BadId pass why x = absurd (none_fails (create_checks s.table (s.worlds hart) (parts_of asked)) BadId pass why)
+create_refused asked digests s hart answer BadState pass why x = absurd (none_fails (create_checks s.table (s.worlds hart) (parts_of asked)) BadState pass why)
+create_refused asked digests s hart answer BadWord pass why x = absurd (none_fails (create_checks s.table (s.worlds hart) (parts_of asked)) BadWord pass why)
 
-pub creates_by_need : (asked : Create) (pages : ℕ → List ℕ) (s : MonitorState) (hart : ℕ) (answer : Answer) (zero : Option PageRange) (new : MonitorState) → AllPass (create_checks s.table (s.worlds hart) (parts_of asked)) → DoesCall (creates_of asked) pages s hart answer zero new
-    → ExactlyWhere (OutgrowsByCreate pages s.table asked) answer
-creates_by_need asked pages s hart answer zero new pass (inr x) = create_refused asked pages s hart answer x.0 pass x.1 (refused_says _ s hart answer zero new x.2)
-creates_by_need asked pages s hart answer zero new pass (inl x) = (
+pub creates_by_need : (asked : Create) (digests : Create → List ℕ) (s : MonitorState) (hart : ℕ) (answer : Answer) (zero : Option PageRange) (new : MonitorState) → AllPass (create_checks s.table (s.worlds hart) (parts_of asked)) → DoesCall (creates_of asked) digests s hart answer zero new
+    → ExactlyWhere (OutgrowsByCreate digests s.table asked) answer
+creates_by_need asked digests s hart answer zero new pass (inr x) = create_refused asked digests s hart answer x.0 pass x.1 (refused_says _ s hart answer zero new x.2)
+creates_by_need asked digests s hart answer zero new pass (inl x) = (
   (λ is. absurd (not_refused NoEntries answer (done_says _ _ _ answer zero new x.3) is)),
   (λ out. absurd (elim out [
     | inl host ↦
-        let made = with_enclave s.table x.0 (Some (fresh pages (parts_of asked))) in
+        let made = with_enclave s.table x.0 (Some (fresh digests (parts_of asked))) in
         let same : x.0 ≡ host.0 = one_next s.table x.0 host.0 x.2.next host.1 in
         fits_not_more s.table.layout.limit (host_view made)
         (subst (λ t. FitsIn t.layout.limit (host_view t)) x.2.added x.2.host_fits)
-        (subst (λ n. NeedsMore s.table.layout.limit (host_view (with_enclave s.table n (Some (fresh pages (parts_of asked)))))) (sym same) host.2)
+        (subst (λ n. NeedsMore s.table.layout.limit (host_view (with_enclave s.table n (Some (fresh digests (parts_of asked)))))) (sym same) host.2)
     | inr own ↦ fits_not_more s.table.layout.limit (enclave_view (parts_of asked)) (subst (λ t. FitsIn t.layout.limit (enclave_view (parts_of asked))) x.2.added x.2.enclave_fits) own
   ])),
 )
@@ -129,10 +129,10 @@ destroy_refused id s hart answer BadId pass why x = absurd (none_fails (host_che
 destroy_refused id s hart answer BadState pass why x = absurd (none_fails (host_checks MayDestroy s.table (s.worlds hart) id) BadState pass why)
 destroy_refused id s hart answer BadWord pass why x = absurd (none_fails (host_checks MayDestroy s.table (s.worlds hart) id) BadWord pass why)
 
-pub destroys_by_need : (id : ℕ) (pages : ℕ → List ℕ) (s : MonitorState) (hart : ℕ) (answer : Answer) (zero : Option PageRange) (new : MonitorState) → AllPass (host_checks MayDestroy s.table (s.worlds hart) id) → DoesCall (Some (calls.Destroy id)) pages s hart answer zero new
+pub destroys_by_need : (id : ℕ) (digests : Create → List ℕ) (s : MonitorState) (hart : ℕ) (answer : Answer) (zero : Option PageRange) (new : MonitorState) → AllPass (host_checks MayDestroy s.table (s.worlds hart) id) → DoesCall (Some (calls.Destroy id)) digests s hart answer zero new
     → ExactlyWhere (NeedsMore s.table.layout.limit (host_view (with_enclave s.table id None))) answer
-destroys_by_need id pages s hart answer zero new pass (inr x) = destroy_refused id s hart answer x.0 pass x.1 (refused_says _ s hart answer zero new x.2)
-destroys_by_need id pages s hart answer zero new pass (inl x) = (
+destroys_by_need id digests s hart answer zero new pass (inr x) = destroy_refused id s hart answer x.0 pass x.1 (refused_says _ s hart answer zero new x.2)
+destroys_by_need id digests s hart answer zero new pass (inl x) = (
   (λ is. absurd (not_refused NoEntries answer (done_says _ _ _ answer zero new x.3) is)),
   (λ out. absurd (fits_not_more s.table.layout.limit (host_view (with_enclave s.table id None)) (subst (λ t. FitsIn t.layout.limit (host_view t)) x.2.removed x.2.host_fits) out)),
 )
@@ -213,12 +213,12 @@ fails_other [] refusal o x = absurd x
 fails_other (check ∷ checks) refusal o (inl x) = subst IsOther (sym x.0) o.0
 fails_other (check ∷ checks) refusal o (inr x) = fails_other checks refusal o.1 x.1
 
--- the host's view of the table with the new enclave is the one with its private pages closed
-closes : (pages : ℕ → List ℕ) (table : EnclaveTable) (id : ℕ) (parts : Create) → IsTable table → IsNextId table id → SameView (closed_view table parts) (host_view (with_enclave table id (Some (fresh pages parts))))
-closes pages table id parts t next = host_added table id (fresh pages parts) (free_place table id t next.free.0 next.free.1) next.free.2
+-- the host's view of the table with the new enclave is the one with its private digests closed
+closes : (digests : Create → List ℕ) (table : EnclaveTable) (id : ℕ) (parts : Create) → IsTable table → IsNextId table id → SameView (closed_view table parts) (host_view (with_enclave table id (Some (fresh digests parts))))
+closes digests table id parts t next = host_added table id (fresh digests parts) (free_place table id t next.free.0 next.free.1) next.free.2
 
-opens : (pages : ℕ → List ℕ) (table : EnclaveTable) (id : ℕ) (parts : Create) → IsTable table → IsNextId table id → SameView (host_view (with_enclave table id (Some (fresh pages parts)))) (closed_view table parts)
-opens pages table id parts t next page small = sym (closes pages table id parts t next page small)
+opens : (digests : Create → List ℕ) (table : EnclaveTable) (id : ℕ) (parts : Create) → IsTable table → IsNextId table id → SameView (host_view (with_enclave table id (Some (fresh digests parts)))) (closed_view table parts)
+opens digests table id parts t next page small = sym (closes digests table id parts t next page small)
 
 -- a call that succeeded or failed another check, which it then does not pass
 otherwise : (call : Option Call) (table : EnclaveTable) (world : World) (answer : Answer) → ((wants_of call table world).0 → (wants_of call table world).1 → ⊥) → Neither answer → ByNeed call table world answer
@@ -230,35 +230,35 @@ create_failed asked s hart answer refusal why other x =
     otherwise (creates_of asked) s.table (s.worlds hart) answer (λ pass out. none_fails (create_checks s.table (s.worlds hart) (parts_of asked)) refusal pass why) (checked refusal answer other x)
 
 -- a creation that is refused, by its refusal
-create_by_need : (asked : Create) (pages : ℕ → List ℕ) (s : MonitorState) (hart : ℕ) (answer : Answer) (refusal : Refusal) → IsTable s.table → RefusesBy (create_checks s.table (s.worlds hart) (parts_of asked)) (OutgrowsByCreate pages s.table asked) refusal
+create_by_need : (asked : Create) (digests : Create → List ℕ) (s : MonitorState) (hart : ℕ) (answer : Answer) (refusal : Refusal) → IsTable s.table → RefusesBy (create_checks s.table (s.worlds hart) (parts_of asked)) (OutgrowsByCreate digests s.table asked) refusal
     → IsAnsweredBy answer refusal → ByNeed (creates_of asked) s.table (s.worlds hart) answer
-create_by_need asked pages s hart answer NoEntries t why x = record {
+create_by_need asked digests s hart answer NoEntries t why x = record {
   entries = λ is. (
     why.0,
     elim why.1 [
-      | inl host ↦ inl (more_same s.table.layout.limit (host_view (with_enclave s.table host.0 (Some (fresh pages (parts_of asked))))) (closed_view s.table (parts_of asked)) (opens pages s.table host.0 (parts_of asked) t host.1) host.2)
+      | inl host ↦ inl (more_same s.table.layout.limit (host_view (with_enclave s.table host.0 (Some (fresh digests (parts_of asked))))) (closed_view s.table (parts_of asked)) (opens digests s.table host.0 (parts_of asked) t host.1) host.2)
       | inr own ↦ inr own
     ],
   );
   outgrown = λ pass out. inl x;
   memory = λ is. absurd (not_both answer is x);
 }
-create_by_need asked pages s hart answer NoMemory t why x = record {
+create_by_need asked digests s hart answer NoMemory t why x = record {
   entries = λ is. absurd (not_both answer x is);
   outgrown = λ pass out. inr x;
   memory = λ is. why;
 }
-create_by_need asked pages s hart answer NotHost t why x = create_failed asked s hart answer NotHost why tt x
-create_by_need asked pages s hart answer NotEnclave t why x = create_failed asked s hart answer NotEnclave why tt x
-create_by_need asked pages s hart answer BadCount t why x = create_failed asked s hart answer BadCount why tt x
-create_by_need asked pages s hart answer BadAddress t why x = create_failed asked s hart answer BadAddress why tt x
-create_by_need asked pages s hart answer BadEntry t why x = create_failed asked s hart answer BadEntry why tt x
-create_by_need asked pages s hart answer NotRam t why x = create_failed asked s hart answer NotRam why tt x
-create_by_need asked pages s hart answer Overlap t why x = create_failed asked s hart answer Overlap why tt x
-create_by_need asked pages s hart answer TableFull t why x = create_failed asked s hart answer TableFull why tt x
-create_by_need asked pages s hart answer BadId t why x = create_failed asked s hart answer BadId why tt x
-create_by_need asked pages s hart answer BadState t why x = create_failed asked s hart answer BadState why tt x
-create_by_need asked pages s hart answer BadWord t why x = create_failed asked s hart answer BadWord why tt x
+create_by_need asked digests s hart answer NotHost t why x = create_failed asked s hart answer NotHost why tt x
+create_by_need asked digests s hart answer NotEnclave t why x = create_failed asked s hart answer NotEnclave why tt x
+create_by_need asked digests s hart answer BadCount t why x = create_failed asked s hart answer BadCount why tt x
+create_by_need asked digests s hart answer BadAddress t why x = create_failed asked s hart answer BadAddress why tt x
+create_by_need asked digests s hart answer BadEntry t why x = create_failed asked s hart answer BadEntry why tt x
+create_by_need asked digests s hart answer NotRam t why x = create_failed asked s hart answer NotRam why tt x
+create_by_need asked digests s hart answer Overlap t why x = create_failed asked s hart answer Overlap why tt x
+create_by_need asked digests s hart answer TableFull t why x = create_failed asked s hart answer TableFull why tt x
+create_by_need asked digests s hart answer BadId t why x = create_failed asked s hart answer BadId why tt x
+create_by_need asked digests s hart answer BadState t why x = create_failed asked s hart answer BadState why tt x
+create_by_need asked digests s hart answer BadWord t why x = create_failed asked s hart answer BadWord why tt x
 
 destroy_failed : (id : ℕ) (s : MonitorState) (hart : ℕ) (answer : Answer) (refusal : Refusal) → FailsFirst (host_checks MayDestroy s.table (s.worlds hart) id) refusal → IsOther refusal
     → IsAnsweredBy answer refusal → ByNeed (Some (calls.Destroy id)) s.table (s.worlds hart) answer
@@ -295,33 +295,33 @@ refused_other : (call : Option Call) (checks : List (Refusal × Type 0)) (s : Mo
 refused_other call checks s hart answer refusal none others why x =
     never call s.table (s.worlds hart) answer none (checked refusal answer (fails_other checks refusal others why) x)
 
-pub call_refused_by_need : (call : Option Call) (pages : ℕ → List ℕ) (s : MonitorState) (hart : ℕ) (answer : Answer) (zero : Option PageRange) (new : MonitorState) → IsTable s.table → DoesCall call pages s hart answer zero new → ByNeed call s.table (s.worlds hart) answer
-call_refused_by_need None pages s hart answer zero new t x =
+pub call_refused_by_need : (call : Option Call) (digests : Create → List ℕ) (s : MonitorState) (hart : ℕ) (answer : Answer) (zero : Option PageRange) (new : MonitorState) → IsTable s.table → DoesCall call digests s hart answer zero new → ByNeed call s.table (s.worlds hart) answer
+call_refused_by_need None digests s hart answer zero new t x =
     never None s.table (s.worlds hart) answer (λ none. none) (numbered 2 answer (λ e. let z : 1 ≡ 107 = e in omega (arith, z)) (λ e. let z : 1 ≡ 108 = e in omega (arith, z)) (refused_says 2 s hart answer zero new x))
-call_refused_by_need (Some (calls.Create base text_pages data_pages shared_base shared_count entry_offset)) pages s hart answer zero new t (inl x) =
+call_refused_by_need (Some (calls.Create base text_pages data_pages shared_base shared_count entry_offset)) digests s hart answer zero new t (inl x) =
     let asked : Create = record { base = base; text_pages = text_pages; data_pages = data_pages; shared_base = shared_base; shared_count = shared_count; entry_offset = entry_offset } in
     let parts = parts_of asked in
-    let made = with_enclave s.table x.0 (Some (fresh pages parts)) in
+    let made = with_enclave s.table x.0 (Some (fresh digests parts)) in
     otherwise (creates_of asked) s.table (s.worlds hart) answer
     (λ pass out. elim out [
-      | inl host ↦ fits_not_more s.table.layout.limit (host_view made) (subst (λ t. FitsIn t.layout.limit (host_view t)) x.2.added x.2.host_fits) (more_same s.table.layout.limit (closed_view s.table parts) (host_view made) (closes pages s.table x.0 parts t x.2.next) host)
+      | inl host ↦ fits_not_more s.table.layout.limit (host_view made) (subst (λ t. FitsIn t.layout.limit (host_view t)) x.2.added x.2.host_fits) (more_same s.table.layout.limit (closed_view s.table parts) (host_view made) (closes digests s.table x.0 parts t x.2.next) host)
       | inr own ↦ fits_not_more s.table.layout.limit (enclave_view parts) (subst (λ t. FitsIn t.layout.limit (enclave_view parts)) x.2.added x.2.enclave_fits) own
     ])
     (well answer (done_says _ _ _ answer zero new x.3))
-call_refused_by_need (Some (calls.Create base text_pages data_pages shared_base shared_count entry_offset)) pages s hart answer zero new t (inr x) =
+call_refused_by_need (Some (calls.Create base text_pages data_pages shared_base shared_count entry_offset)) digests s hart answer zero new t (inr x) =
     let asked : Create = record { base = base; text_pages = text_pages; data_pages = data_pages; shared_base = shared_base; shared_count = shared_count; entry_offset = entry_offset } in
-    create_by_need asked pages s hart answer x.0 t x.1 (refused_says _ s hart answer zero new x.2)
-call_refused_by_need (Some (calls.Destroy id)) pages s hart answer zero new t (inl x) =
+    create_by_need asked digests s hart answer x.0 t x.1 (refused_says _ s hart answer zero new x.2)
+call_refused_by_need (Some (calls.Destroy id)) digests s hart answer zero new t (inl x) =
     otherwise (Some (calls.Destroy id)) s.table (s.worlds hart) answer
     (λ pass out. fits_not_more s.table.layout.limit (host_view (with_enclave s.table id None)) (subst (λ t. FitsIn t.layout.limit (host_view t)) x.2.removed x.2.host_fits) out) (well answer (done_says _ _ _ answer zero new x.3))
-call_refused_by_need (Some (calls.Destroy id)) pages s hart answer zero new t (inr x) = destroy_by_need id s hart answer x.0 x.1 (refused_says _ s hart answer zero new x.2)
-call_refused_by_need (Some (calls.Run id)) pages s hart answer zero new t (inl x) = never (Some (calls.Run id)) s.table (s.worlds hart) answer (λ none. none) (well answer (done_says _ _ _ answer zero new x.4))
-call_refused_by_need (Some (calls.Run id)) pages s hart answer zero new t (inr x) = refused_other (Some (calls.Run id)) (host_checks (λ state. state ≡ Fresh) s.table (s.worlds hart) id) s hart answer x.0 (λ none. none) (tt, (tt, (tt, tt))) x.1 (refused_says _ s hart answer zero new x.2)
-call_refused_by_need (Some calls.Stop) pages s hart answer zero new t (inl x) = never (Some calls.Stop) s.table (s.worlds hart) answer (λ none. none) (well answer (done_says _ _ _ answer zero new x.3))
-call_refused_by_need (Some calls.Stop) pages s hart answer zero new t (inr x) = refused_other (Some calls.Stop) (leave_checks (s.worlds hart)) s hart answer x.0 (λ none. none) (tt, tt) x.1 (refused_says _ s hart answer zero new x.2)
-call_refused_by_need (Some (calls.Resume id)) pages s hart answer zero new t (inl x) = never (Some (calls.Resume id)) s.table (s.worlds hart) answer (λ none. none) (well answer (done_says _ _ _ answer zero new x.4))
-call_refused_by_need (Some (calls.Resume id)) pages s hart answer zero new t (inr x) = refused_other (Some (calls.Resume id)) (host_checks (λ state. state ≡ Stopped) s.table (s.worlds hart) id) s hart answer x.0 (λ none. none) (tt, (tt, (tt, tt))) x.1 (refused_says _ s hart answer zero new x.2)
-call_refused_by_need (Some (calls.Exit value)) pages s hart answer zero new t (inl x) = never (Some (calls.Exit value)) s.table (s.worlds hart) answer (λ none. none) (well answer (done_says _ _ _ answer zero new x.3))
-call_refused_by_need (Some (calls.Exit value)) pages s hart answer zero new t (inr x) = refused_other (Some (calls.Exit value)) (leave_checks (s.worlds hart)) s hart answer x.0 (λ none. none) (tt, tt) x.1 (refused_says _ s hart answer zero new x.2)
-call_refused_by_need (Some (calls.Measure id k)) pages s hart answer zero new t (inl x) = never (Some (calls.Measure id k)) s.table (s.worlds hart) answer (λ none. none) (well answer (done_says _ _ _ answer zero new x.2))
-call_refused_by_need (Some (calls.Measure id k)) pages s hart answer zero new t (inr x) = refused_other (Some (calls.Measure id k)) (word_checks s.table id k) s hart answer x.0 (λ none. none) (tt, (tt, tt)) x.1 (refused_says _ s hart answer zero new x.2)
+call_refused_by_need (Some (calls.Destroy id)) digests s hart answer zero new t (inr x) = destroy_by_need id s hart answer x.0 x.1 (refused_says _ s hart answer zero new x.2)
+call_refused_by_need (Some (calls.Run id)) digests s hart answer zero new t (inl x) = never (Some (calls.Run id)) s.table (s.worlds hart) answer (λ none. none) (well answer (done_says _ _ _ answer zero new x.4))
+call_refused_by_need (Some (calls.Run id)) digests s hart answer zero new t (inr x) = refused_other (Some (calls.Run id)) (host_checks (λ state. state ≡ Fresh) s.table (s.worlds hart) id) s hart answer x.0 (λ none. none) (tt, (tt, (tt, tt))) x.1 (refused_says _ s hart answer zero new x.2)
+call_refused_by_need (Some calls.Stop) digests s hart answer zero new t (inl x) = never (Some calls.Stop) s.table (s.worlds hart) answer (λ none. none) (well answer (done_says _ _ _ answer zero new x.3))
+call_refused_by_need (Some calls.Stop) digests s hart answer zero new t (inr x) = refused_other (Some calls.Stop) (leave_checks (s.worlds hart)) s hart answer x.0 (λ none. none) (tt, tt) x.1 (refused_says _ s hart answer zero new x.2)
+call_refused_by_need (Some (calls.Resume id)) digests s hart answer zero new t (inl x) = never (Some (calls.Resume id)) s.table (s.worlds hart) answer (λ none. none) (well answer (done_says _ _ _ answer zero new x.4))
+call_refused_by_need (Some (calls.Resume id)) digests s hart answer zero new t (inr x) = refused_other (Some (calls.Resume id)) (host_checks (λ state. state ≡ Stopped) s.table (s.worlds hart) id) s hart answer x.0 (λ none. none) (tt, (tt, (tt, tt))) x.1 (refused_says _ s hart answer zero new x.2)
+call_refused_by_need (Some (calls.Exit value)) digests s hart answer zero new t (inl x) = never (Some (calls.Exit value)) s.table (s.worlds hart) answer (λ none. none) (well answer (done_says _ _ _ answer zero new x.3))
+call_refused_by_need (Some (calls.Exit value)) digests s hart answer zero new t (inr x) = refused_other (Some (calls.Exit value)) (leave_checks (s.worlds hart)) s hart answer x.0 (λ none. none) (tt, tt) x.1 (refused_says _ s hart answer zero new x.2)
+call_refused_by_need (Some (calls.Measure id k)) digests s hart answer zero new t (inl x) = never (Some (calls.Measure id k)) s.table (s.worlds hart) answer (λ none. none) (well answer (done_says _ _ _ answer zero new x.2))
+call_refused_by_need (Some (calls.Measure id k)) digests s hart answer zero new t (inr x) = refused_other (Some (calls.Measure id k)) (word_checks s.table id k) s hart answer x.0 (λ none. none) (tt, (tt, tt)) x.1 (refused_says _ s hart answer zero new x.2)

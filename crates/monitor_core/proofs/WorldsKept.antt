@@ -191,33 +191,33 @@ enters FirstRun s hart id answer cleared n low awake (inl x) w =
 enters Resume s hart id answer cleared n low awake (inl x) w =
     entered s n hart id Resume x.1 low awake x.3 (ap (λ y. y.table) x.4.state) (λ h under. ap (λ y. y.worlds h) x.4.state) (λ h under. ap (λ y. y.marked h) x.4.state) w
 
-pub call_keeps_worlds : (call : Option Call) (pages : ℕ → List ℕ) (s : MonitorState) (hart : ℕ) (answer : Answer) (cleared : Option PageRange) (n : MonitorState) → hart < s.table.layout.harts → s.marked hart ≡ false → DoesCall call pages s hart answer cleared n → ArePlaced s → ArePlaced n
-call_keeps_worlds None pages s hart answer cleared n low awake x w = refused s n _ x.state refl refl refl w
-call_keeps_worlds (Some (calls.Create base text_pages data_pages shared_base shared_count entry_offset)) pages s hart answer cleared n low awake (inl x) w =
+pub call_keeps_worlds : (call : Option Call) (digests : Create → List ℕ) (s : MonitorState) (hart : ℕ) (answer : Answer) (cleared : Option PageRange) (n : MonitorState) → hart < s.table.layout.harts → s.marked hart ≡ false → DoesCall call digests s hart answer cleared n → ArePlaced s → ArePlaced n
+call_keeps_worlds None digests s hart answer cleared n low awake x w = refused s n _ x.state refl refl refl w
+call_keeps_worlds (Some (calls.Create base text_pages data_pages shared_base shared_count entry_offset)) digests s hart answer cleared n low awake (inl x) w =
     let asked : Create = record { base = base; text_pages = text_pages; data_pages = data_pages; shared_base = shared_base; shared_count = shared_count; entry_offset = entry_offset } in
-    let made = fresh (pages) (parts_of asked) in
+    let made = fresh (digests) (parts_of asked) in
     owned s n hart x.0 (Some made) x.1.layout.harts low x.2.next.free.0 x.2.passes.0
     (λ e live runs. let z : None ≡ Some e = sym x.2.next.free.2 ∙ live in absurd cc)
     (λ e put runs. let same = same_Some made e put in let z : Fresh ≡ Running = ap (λ g. g.state) same ∙ runs in absurd cc)
     (ap (λ y. y.table) x.3.state ∙ x.2.added) (λ h under. ap (λ y. y.worlds h) x.3.state) (λ h under. ap (λ y. y.marked h) x.3.state) w
-call_keeps_worlds (Some (calls.Create base text_pages data_pages shared_base shared_count entry_offset)) pages s hart answer cleared n low awake (inr x) w = refused s n _ x.2.state refl refl refl w
-call_keeps_worlds (Some (calls.Destroy id)) pages s hart answer cleared n low awake (inl x) w =
+call_keeps_worlds (Some (calls.Create base text_pages data_pages shared_base shared_count entry_offset)) digests s hart answer cleared n low awake (inr x) w = refused s n _ x.2.state refl refl refl w
+call_keeps_worlds (Some (calls.Destroy id)) digests s hart answer cleared n low awake (inl x) w =
     let g = x.2.passes.1.0 in
     owned s n hart id None x.1.layout.harts low (live_above s.table.enclaves id g.0 g.1) x.2.passes.0
     (λ e live runs. x.2.passes.1.1.0 e live runs)
     (λ e put runs. let z : None ≡ Some e = put in absurd cc)
     (ap (λ y. y.table) x.3.state ∙ x.2.removed) (λ h under. ap (λ y. y.worlds h) x.3.state) (λ h under. ap (λ y. y.marked h) x.3.state) w
-call_keeps_worlds (Some (calls.Destroy id)) pages s hart answer cleared n low awake (inr x) w = refused s n _ x.2.state refl refl refl w
-call_keeps_worlds (Some (calls.Run id)) pages s hart answer cleared n low awake x w = enters FirstRun s hart id answer cleared n low awake x w
-call_keeps_worlds (Some calls.Stop) pages s hart answer cleared n low awake (inl x) w =
+call_keeps_worlds (Some (calls.Destroy id)) digests s hart answer cleared n low awake (inr x) w = refused s n _ x.2.state refl refl refl w
+call_keeps_worlds (Some (calls.Run id)) digests s hart answer cleared n low awake x w = enters FirstRun s hart id answer cleared n low awake x w
+call_keeps_worlds (Some calls.Stop) digests s hart answer cleared n low awake (inl x) w =
     left_behind s n hart x.0 Stop x.1 low awake x.2 (ap (λ y. y.table) x.3.state) (λ h under. ap (λ y. y.worlds h) x.3.state) (λ h under. ap (λ y. y.marked h) x.3.state) w
-call_keeps_worlds (Some calls.Stop) pages s hart answer cleared n low awake (inr x) w = refused s n _ x.2.state refl refl refl w
-call_keeps_worlds (Some (calls.Resume id)) pages s hart answer cleared n low awake x w = enters Resume s hart id answer cleared n low awake x w
-call_keeps_worlds (Some (calls.Exit value)) pages s hart answer cleared n low awake (inl x) w =
+call_keeps_worlds (Some calls.Stop) digests s hart answer cleared n low awake (inr x) w = refused s n _ x.2.state refl refl refl w
+call_keeps_worlds (Some (calls.Resume id)) digests s hart answer cleared n low awake x w = enters Resume s hart id answer cleared n low awake x w
+call_keeps_worlds (Some (calls.Exit value)) digests s hart answer cleared n low awake (inl x) w =
     left_behind s n hart x.0 Exit x.1 low awake x.2 (ap (λ y. y.table) x.3.state) (λ h under. ap (λ y. y.worlds h) x.3.state) (λ h under. ap (λ y. y.marked h) x.3.state) w
-call_keeps_worlds (Some (calls.Exit value)) pages s hart answer cleared n low awake (inr x) w = refused s n _ x.2.state refl refl refl w
-call_keeps_worlds (Some (calls.Measure id k)) pages s hart answer cleared n low awake (inl x) w = refused s n _ x.2.state refl refl refl w
-call_keeps_worlds (Some (calls.Measure id k)) pages s hart answer cleared n low awake (inr x) w = refused s n _ x.2.state refl refl refl w
+call_keeps_worlds (Some (calls.Exit value)) digests s hart answer cleared n low awake (inr x) w = refused s n _ x.2.state refl refl refl w
+call_keeps_worlds (Some (calls.Measure id k)) digests s hart answer cleared n low awake (inl x) w = refused s n _ x.2.state refl refl refl w
+call_keeps_worlds (Some (calls.Measure id k)) digests s hart answer cleared n low awake (inr x) w = refused s n _ x.2.state refl refl refl w
 
 pub interrupt_keeps_worlds : (world : World) (s : MonitorState) (hart : ℕ) (n : MonitorState) → s.worlds hart ≡ world → hart < s.table.layout.harts → s.marked hart ≡ false → Interrupts world s hart n → ArePlaced s → ArePlaced n
 interrupt_keeps_worlds Host s hart n at low awake x w = worlds_same s n x w

@@ -3,20 +3,20 @@ use Rattle.std.specs.Prelude.{◌≡◌, ◌≢◌, ℕ, ◌+◌, ◌^◌, ◌<�
 use Rattle.pmp_encoding.specs.Views.{in_range, SameView}
 use Rattle.pmp_encoding.specs.declared.pages.PageRange.{PageRange}
 use Rattle.platforms.specs.Platform.{PlatformLayout, is_ram}
-use Rattle.monitor_core.specs.declared.parts.Parts.{Parts}
+use Rattle.monitor_core.specs.declared.parts.MonitorParts.{MonitorParts}
 use Rattle.monitor_core.specs.Parts.{HoldsTogether}
 use Rattle.monitor_core.specs.States.{MonitorState}
 use Rattle.enclave_table.specs.Views.{current_view}
 use Rattle.platforms.specs.Ranges.{has_page}
 
 -- the hart is one of the platform, and the parts belong together
-pub record IsOn (parts : Parts) (hart : ℕ) : Type 0 where
+pub record IsOn (parts : MonitorParts) (hart : ℕ) : Type 0 where
   pub known : hart < parts.table.table.layout.harts
   pub whole : HoldsTogether parts.table parts.worlds parts.marked
 
 -- the parts still belong together, the platform stays, and where the table stays, so does every
 -- list that is kept
-pub record KeepsFrame (old new : Parts) : Type 0 where
+pub record KeepsFrame (old new : MonitorParts) : Type 0 where
   pub whole : HoldsTogether new.table new.worlds new.marked
   pub layout : new.table.table.layout ≡ old.table.table.layout
   pub lists : new.table.table ≡ old.table.table → new.table ≡ old.table

@@ -8,7 +8,7 @@ use Rattle.enclave_table.specs.declared.enclave.Stage.{Stage}
 use Rattle.enclave_table.specs.declared.enclave.Stage.TheVariants.{Running}
 use Rattle.sbi_decode.specs.declared.world.World.{World}
 use Rattle.sbi_decode.specs.declared.world.World.TheVariants.{Host, Enclave as InEnclave}
-use Rattle.monitor_core.specs.declared.parts.Parts.{Parts}
+use Rattle.monitor_core.specs.declared.parts.MonitorParts.{MonitorParts}
 use Rattle.monitor_core.specs.Changes.{is_host}
 use Rattle.monitor_core.specs.RegisterSets.{registers_in}
 use Rattle.monitor_core.specs.States.{MonitorState}
@@ -21,7 +21,7 @@ abbrev pub mark_in : List Bool → ℕ → Bool
 mark_in marked hart = slice_index_or marked hart false
 
 -- the state that the parts show
-abbrev pub state_in : Parts → MonitorState
+abbrev pub state_in : MonitorParts → MonitorState
 state_in parts = record {
   table = parts.table.table;
   worlds = world_in parts.worlds;

@@ -52,18 +52,18 @@ abbrev pub Refused : (Refusal → Type 0) → MonitorState → ℕ → Answer �
 Refused Why s hart answer zero new = (refusal : Refusal) × Why refusal
     × Refuses (refusal_number refusal) s hart answer zero new
 
--- the call that the registers name is done or refused, and an unknown one is refused; create
--- measures these pages. Create: one more enclave, and the other harts are to load the host's new
--- entries. Destroy: one fewer, its private pages are to be made zero, its registers are zero, and
--- the other harts as for create. Run: the enclave goes on at its entry and with its id, and the
+-- the call that the registers name is done or refused, and an unknown one is refused. Create: one
+-- more enclave, whose digest is the one that its parts have, and the other harts are to load the
+-- host's new entries. Destroy: one fewer, its private pages are to be made zero, its registers are
+-- zero, and the other harts as for create. Run: the enclave goes on at its entry and with its id, and the
 -- host's registers wait. Resume: it goes on as it was stopped. Stop: the enclave will go on with 0
 -- in a0 and a1, and the host goes on with 1 and 0 there. Exit: the enclave's registers are zero,
 -- and the host goes on with 0 and the value. Measure: a word of the digest
-abbrev pub DoesCall : Option Call → (ℕ → List ℕ) → MonitorState → ℕ → Answer → Option PageRange
+abbrev pub DoesCall : Option Call → (Create → List ℕ) → MonitorState → ℕ → Answer → Option PageRange
     → MonitorState → Type 0
-DoesCall None pages s hart answer zero new = Refuses 2 s hart answer zero new
+DoesCall None digests s hart answer zero new = Refuses 2 s hart answer zero new
 DoesCall (Some (calls.Create base text_pages data_pages shared_base shared_count entry_offset))
-    pages s hart answer zero new =
+    digests s hart answer zero new =
     let asked : Create = record {
       base = base;
       text_pages = text_pages;
@@ -72,12 +72,12 @@ DoesCall (Some (calls.Create base text_pages data_pages shared_base shared_count
       shared_count = shared_count;
       entry_offset = entry_offset;
     } in
-    ((id : ℕ) × (table : EnclaveTable) × Creates pages s.table (s.worlds hart) asked id table
+    ((id : ℕ) × (table : EnclaveTable) × Creates digests s.table (s.worlds hart) asked id table
     × Done (marking_others (answering (record s { table = table }) hart 0 id) hart) id None answer
     zero new)
     ⊎ Refused (RefusesBy (create_checks s.table (s.worlds hart) (parts_of asked))
-    (OutgrowsByCreate pages s.table asked)) s hart answer zero new
-DoesCall (Some (calls.Destroy id)) pages s hart answer zero new =
+    (OutgrowsByCreate digests s.table asked)) s hart answer zero new
+DoesCall (Some (calls.Destroy id)) digests s hart answer zero new =
     ((range : PageRange) × (table : EnclaveTable) × Destroys s.table (s.worlds hart) id range table
     × Done (marking_others (answering
     (with_registers (record s { table = table }) (EnclaveOf id) zeros) hart 0 0) hart) 0
@@ -85,30 +85,30 @@ DoesCall (Some (calls.Destroy id)) pages s hart answer zero new =
     ⊎ Refused (RefusesBy (host_checks MayDestroy s.table (s.worlds hart) id)
     (NeedsMore s.table.layout.limit (host_view (with_enclave s.table id None)))) s hart answer
     zero new
-DoesCall (Some (calls.Run id)) pages s hart answer zero new =
+DoesCall (Some (calls.Run id)) digests s hart answer zero new =
     ((e : Enclave) × (table : EnclaveTable) × Live s.table id e
     × Enters s.table (s.worlds hart) id Fresh table
     × Done (in_world (with_registers (record s { table = table }) (EnclaveOf id)
     (first_registers id e.parts)) hart (InEnclave id)) 0 None answer zero new)
     ⊎ Refused (FailsFirst (host_checks (λ state. state ≡ Fresh) s.table (s.worlds hart) id)) s hart
     answer zero new
-DoesCall (Some calls.Stop) pages s hart answer zero new =
+DoesCall (Some calls.Stop) digests s hart answer zero new =
     ((id : ℕ) × (table : EnclaveTable) × Leaves s.table (s.worlds hart) Stopped id table
     × Done (back_to_host (answering (record s { table = table }) hart 0 0) hart 1 0) 0 None answer
     zero new)
     ⊎ Refused (FailsFirst (leave_checks (s.worlds hart))) s hart answer zero new
-DoesCall (Some (calls.Resume id)) pages s hart answer zero new =
+DoesCall (Some (calls.Resume id)) digests s hart answer zero new =
     ((e : Enclave) × (table : EnclaveTable) × Live s.table id e
     × Enters s.table (s.worlds hart) id Stopped table
     × Done (in_world (record s { table = table }) hart (InEnclave id)) 0 None answer zero new)
     ⊎ Refused (FailsFirst (host_checks (λ state. state ≡ Stopped) s.table (s.worlds hart) id)) s
     hart answer zero new
-DoesCall (Some (calls.Exit value)) pages s hart answer zero new =
+DoesCall (Some (calls.Exit value)) digests s hart answer zero new =
     ((id : ℕ) × (table : EnclaveTable) × Leaves s.table (s.worlds hart) Exited id table
     × Done (back_to_host (with_registers (record s { table = table }) (EnclaveOf id) zeros) hart 0
     value) value None answer zero new)
     ⊎ Refused (FailsFirst (leave_checks (s.worlds hart))) s hart answer zero new
-DoesCall (Some (calls.Measure id k)) pages s hart answer zero new =
+DoesCall (Some (calls.Measure id k)) digests s hart answer zero new =
     ((word : ℕ) × AnswersWord s.table id k word
     × Done (answering s hart 0 word) word None answer zero new)
     ⊎ Refused (FailsFirst (word_checks s.table id k)) s hart answer zero new

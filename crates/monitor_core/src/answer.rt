@@ -1,10 +1,9 @@
-//! What a call is answered with, and what goes on after it.
+//! What a call is answered with, and what its caller is to do before the hart goes on.
 
 ghost use Rattle.std.specs.Prelude.{◌≡◌, ◌≤◌, ◌-◌, ◌^◌, pos};
 ghost use Rattle.monitor_core.specs.Answers.{below_zero};
 
 use pmp_encoding::PageRange;
-use sbi_decode::Registers;
 
 /// The answer of a call, which its caller finds in a0 and a1 when it goes on.
 #[derive(Clone, Copy)]
@@ -15,22 +14,14 @@ pub struct Answer {
     pub value: u64,
 }
 
-/// What goes on on a hart after a call or an interrupt.
-#[derive(Clone, Copy)]
-pub struct Onward {
-    /// The registers of the world that runs there now.
-    pub registers: Registers,
-    /// Whether the hart's entries are to be loaded anew before it does.
-    pub load: bool,
-}
-
-/// How a call was served.
+/// How a call was served. The registers that go on are the monitor's.
 #[derive(Clone, Copy)]
 pub struct Served {
     pub answer: Answer,
     /// The pages whose every byte is to be made zero before any hart goes on.
     pub zero: Option<PageRange>,
-    pub onward: Onward,
+    /// Whether the hart's entries are to be loaded anew before it goes on.
+    pub load: bool,
 }
 
 impl Answer {

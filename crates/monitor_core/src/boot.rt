@@ -1,12 +1,12 @@
 //! The monitor as it is at boot.
 
-use crate::parts::Parts;
+use crate::parts::MonitorParts;
 use crate::register_sets::RegisterSets;
 use enclave_table::{Table, World};
 use platforms::{BootFault, Platform};
 use std::alloc::Global;
 
-impl Parts {
+impl MonitorParts {
     ghost use Rattle.std.specs.Prelude.{◌≡◌, IfOk, IfErr};
     ghost use Rattle.enclave_table.specs.Boot.{IsBootFault, opening_table};
     ghost use Rattle.enclave_table.specs.Fewest.{FitsIn};
@@ -15,7 +15,7 @@ impl Parts {
     ghost use Rattle.monitor_core.specs.States.{opening_monitor};
 
     /// The parts of a platform at boot: no enclave, each hart in the host's world, all registers zero, no hart marked.
-    pub(crate) fn boot(alloc: Global, platform: Platform) -> Result<Parts, BootFault>
+    pub(crate) fn boot(alloc: Global, platform: Platform) -> Result<MonitorParts, BootFault>
         ensures state { IfOk result (λ p. state_in p ≡ opening_monitor platform) }
         ensures whole { IfOk result (λ p. HoldsTogether p.table p.worlds p.marked) }
         ensures fits { IfOk result (λ _. FitsIn platform.limit
@@ -30,7 +30,7 @@ impl Parts {
         let Ok(registers) = RegisterSets::new(alloc) else {
             return Err(BootFault::Memory);
         };
-        Ok(Parts {
+        Ok(MonitorParts {
             table,
             worlds: [World::Host; 4],
             registers,

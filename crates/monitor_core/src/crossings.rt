@@ -1,12 +1,11 @@
 //! The ways between the host and an enclave: run, resume, stop, exit, and the timer.
 
-use crate::answer::Answer;
+use crate::answer::{Answer, Served};
 use crate::call_registers::first_registers;
-use crate::outcome::Outcome;
-use crate::parts::Parts;
+use crate::parts::MonitorParts;
 use enclave_table::{Entering, Leaving, Refusal, World};
 
-impl Parts {
+impl MonitorParts {
     ghost use Rattle.std.specs.Prelude.{◌≡◌, ℕ, ◌+◌, ◌<◌, ◌≤◌, false, IfErr, OnOk, OnErr, Some, []};
     ghost use Rattle.enclave_table.specs.Checks.{leave_checks};
     ghost use Rattle.enclave_table.specs.Lives.{Leaves, state_after};
@@ -29,13 +28,13 @@ impl Parts {
         ensures marks { self.new.marked ≡ self.old.marked }
     {
         match entering {
-            Entering::Run => self.put_saved(id, first_registers(pc, id)),
+            Entering::Run => self.put_saved(id, &first_registers(pc, id)),
             Entering::Resume => {}
         }
     }
 
     /// Run and resume: an enclave goes on on a hart.
-    pub(crate) fn enter(&mut self, hart: u8, id: u64, entering: Entering) -> Outcome
+    pub(crate) fn enter(&mut self, hart: u8, id: u64, entering: Entering) -> Served
         requires on { IsOn self.old hart }
         requires awake { (state_in self.old).marked hart ≡ false }
         ensures frame { KeepsFrame self.old self.new }
@@ -54,7 +53,7 @@ impl Parts {
         };
         self.prepare(id, entering, pc);
         self.go_to(hart, World::Enclave(id));
-        Outcome {
+        Served {
             answer: Answer::done(0),
             zero: None,
             load: true,
@@ -85,10 +84,10 @@ impl Parts {
     }
 
     /// An enclave ends itself with a value for the host.
-    pub(crate) fn exit(&mut self, hart: u8, value: u64) -> Outcome
+    pub(crate) fn exit(&mut self, hart: u8, value: u64) -> Served
         requires on { IsOn self.old hart }
         ensures frame { KeepsFrame self.old self.new }
-        ensures step { DoesCall (Some (calls.Exit value)) (λ page. []) (state_in self.old) hart
+        ensures step { DoesCall (Some (calls.Exit value)) (λ parts. []) (state_in self.old) hart
             result.answer result.zero (state_in self.new) }
         ensures load { LoadsAnew result.load (state_in self.old) (state_in self.new) hart }
     {
@@ -100,7 +99,7 @@ impl Parts {
                 let Ok(()) = self.leave(hart, Leaving::Exit, 0, value) else {
                     unreachable!();
                 };
-                Outcome {
+                Served {
                     answer: Answer::done(value),
                     zero: None,
                     load: true,
@@ -110,10 +109,10 @@ impl Parts {
     }
 
     /// An enclave stops itself.
-    pub(crate) fn stop(&mut self, hart: u8) -> Outcome
+    pub(crate) fn stop(&mut self, hart: u8) -> Served
         requires on { IsOn self.old hart }
         ensures frame { KeepsFrame self.old self.new }
-        ensures step { DoesCall (Some calls.Stop) (λ page. []) (state_in self.old) hart
+        ensures step { DoesCall (Some calls.Stop) (λ parts. []) (state_in self.old) hart
             result.answer result.zero (state_in self.new) }
         ensures load { LoadsAnew result.load (state_in self.old) (state_in self.new) hart }
     {
@@ -124,7 +123,7 @@ impl Parts {
                 let Ok(()) = self.leave(hart, Leaving::Stop, 1, 0) else {
                     unreachable!();
                 };
-                Outcome {
+                Served {
                     answer: Answer::done(0),
                     zero: None,
                     load: true,

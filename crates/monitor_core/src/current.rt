@@ -1,10 +1,10 @@
 //! The entries of the view of the world that runs on a hart.
 
-use crate::parts::Parts;
+use crate::parts::MonitorParts;
 use enclave_table::World;
 use pmp_encoding::Entry;
 
-impl Parts {
+impl MonitorParts {
     ghost use Rattle.std.specs.Prelude.{◌≡◌, ◌<◌};
     ghost use Rattle.enclave_table.specs.Fewest.{IsListOf};
     ghost use Rattle.monitor_core.specs.Monitors.{list_of};

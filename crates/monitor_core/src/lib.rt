@@ -1,11 +1,11 @@
 //! The monitor on one to four harts, without memory, traces or a hart's simulated registers.
 //!
 //! A [`Monitor`] is booted for a platform. It keeps the table of enclaves, the world that runs on each hart, the registers
-//! of every host and enclave, and which harts are marked. [`Monitor::serve`] takes the registers of a hart that made a
-//! call, and the pages to measure; it gives back the call's answer, the registers that go on, and the pages that the caller
-//! makes zero before they do. [`Monitor::interrupt`] does the same for the timer. [`Monitor::serve_kept`] and
-//! [`Monitor::interrupt_kept`] do so where the registers stand in the monitor, and copy none. [`Monitor::entries`] are the
-//! PMP entries that a hart is to have.
+//! of every host and enclave, and which harts are marked. [`Monitor::serve`] serves the call that the world on a hart made,
+//! by its registers; it gives back the call's answer, and the pages that the caller makes zero before the hart goes on.
+//! [`Monitor::interrupt`] does the same for the timer. Who knows the digest of an enclave that is created is lent to it:
+//! memory, whose pages are measured then, or a digest that was taken before. [`Monitor::entries`] are the PMP entries that a
+//! hart is to have.
 //!
 //! For the layer above: each call is a step of the small machine in `specs/Steps`, which has no PMP entries and no bytes in
 //! it. On every state the entries of a hart mean what its world may do, and no list of entries of any regions in any order
@@ -16,10 +16,12 @@
 //!
 //! ```text
 //! let mut monitor = Monitor::boot(alloc, platform)?;
-//! let served = monitor.serve(hart, registers, &pages);
-//! if served.onward.load {
+//! monitor.put_registers(hart, &registers);
+//! let served = monitor.serve(hart, &MeasuresPages { pages: &memory });
+//! if served.load {
 //!     load(monitor.entries(hart));
 //! }
+//! go_on(monitor.registers(hart));
 //! ```
 #![tactic(auto)]
 
@@ -30,20 +32,17 @@ mod calls;
 mod crossings;
 mod current;
 mod laws;
-mod measured_calls;
 mod monitor;
-mod outcome;
 mod ownership;
 mod parts;
 mod refused;
 mod register_sets;
 
-pub use answer::{Answer, Onward, Served};
+pub use answer::{Answer, Served};
 pub use enclave_table::{Table, World};
 pub use laws::loading_law;
-pub use measurement::{Create, Pages};
+pub use measurement::{Create, Digests, MeasuresPages, Pages, TakenDigest};
 pub use monitor::Monitor;
-pub use outcome::Outcome;
 pub use platforms::{BootFault, Platform};
 pub use pmp_encoding::{Entry, PageRange};
 pub use sbi_decode::Registers;

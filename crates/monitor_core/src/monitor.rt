@@ -2,11 +2,10 @@
 
 ghost use Rattle.monitor_core.specs.Parts.{HoldsTogether};
 
-use crate::answer::{Onward, Served};
-use crate::outcome::Outcome;
-use crate::parts::Parts;
+use crate::answer::Served;
+use crate::parts::MonitorParts;
 use enclave_table::{Table, World};
-use measurement::{Create, Pages};
+use measurement::{Create, Digests};
 use platforms::{BootFault, Platform};
 use pmp_encoding::Entry;
 use sbi_decode::{Call, Registers, decode};
@@ -15,7 +14,7 @@ use std::alloc::Global;
 /// The table of enclaves, the worlds on one to four harts with their registers, and the harts that are marked.
 #[derive(Drop)]
 pub struct Monitor {
-    pub(crate) parts: Parts,
+    pub(crate) parts: MonitorParts,
     pub ghost whole: { HoldsTogether parts.table parts.worlds parts.marked },
 }
 
@@ -23,7 +22,7 @@ impl Monitor {
     ghost use Rattle.std.specs.Prelude.{◌≡◌, ◌<◌, ◌≤◌, ℕ, List, false, length, IfOk, IfErr, IfSome, IfNone};
     ghost use Rattle.measurement.specs.Requests.{HasCounts, HasPlaces};
     ghost use Rattle.measurement.specs.declared.request.Create.{Create as CreateParts};
-    ghost use Rattle.monitor_core.specs.Measured.{IsMeasuredFor, IsOfPages, Measures, asked_in};
+    ghost use Rattle.monitor_core.specs.Measured.{Measures, asked_in};
     ghost use Rattle.pmp_encoding.specs.Limits.{limit_number};
     ghost use Rattle.pmp_match.specs.Meaning.{IsFewest, Needs};
     ghost use Rattle.enclave_table.specs.Boot.{IsBootFault, opening_table};
@@ -52,7 +51,7 @@ impl Monitor {
             (host_view (opening_table platform))) }
         ensures fault { IfErr result (λ fault. IsBootFault platform fault) }
     {
-        match Parts::boot(alloc, platform) {
+        match MonitorParts::boot(alloc, platform) {
             Ok(parts) => {
                 parts.table.cite_invariant();
                 Ok(Monitor { parts })
@@ -165,7 +164,7 @@ impl Monitor {
         ensures state { state_by self.new ≡ with_running (state_by self.old) hart registers.now }
         ensures kept { kept_by self.new ≡ kept_by self.old }
     {
-        self.parts.put_running(hart, *registers);
+        self.parts.put_running(hart, registers);
     }
 
     /// A register of the world that runs on a hart is set, by its number below 32. Nothing else changes.
@@ -179,42 +178,15 @@ impl Monitor {
         self.parts.set_register(hart, n, value);
     }
 
-    /// The call that a hart with these registers made. The caller then makes the pages in `zero` zero, loads the entries
-    /// of the hart where it is asked to, and stops every other hart that is marked now until it was woken; then the
-    /// registers go on.
-    pub fn serve<P: Pages>(&mut self, hart: u8, registers: &Registers, pages: &P) -> Served
-        requires hart { hart < (state_by self.old).table.layout.harts }
-        requires awake { (state_by self.old).marked hart ≡ false }
-        ensures step { let file = past_call registers.now in
-            DoesCall (call_of file) (P.bytes_of pages.now)
-            (with_running (state_by self.old) hart file) hart result.answer result.zero
-            (state_by self.new) }
-        ensures registers { result.onward.registers
-            ≡ running_registers (state_by self.new) hart }
-        ensures load { LoadsAnew result.onward.load (state_by self.old) (state_by self.new) hart }
-        ensures others { KeepsOthers (state_by self.old) (state_by self.new) hart }
-        ensures zeroed { IfSome result.zero (λ range.
-            ClearsMemory (state_by self.old).table.layout range) }
-        ensures awake { (state_by self.new).marked hart ≡ false }
-        ensures platform { (state_by self.new).table.layout ≡ (state_by self.old).table.layout }
-        ensures lists { (state_by self.new).table ≡ (state_by self.old).table
-            → kept_by self.new ≡ kept_by self.old }
-        ensures need { let s = state_by self.old in
-            IsRefusedByNeed (call_of registers.now) s.table (s.worlds hart)
-            (λ refusal. result.answer.status ≡ below_zero (refusal_number refusal)) }
-    {
-        self.parts.table.cite_invariant();
-        self.parts.serve(hart, registers, pages)
-    }
-
-    /// The call that a hart made whose registers stand here, as [`Monitor::serve`] serves it. Those that go on are
-    /// [`Monitor::registers`].
-    pub fn serve_kept<P: Pages>(&mut self, hart: u8, pages: &P) -> Outcome
+    /// The call that the world on a hart made, by its registers ([`Monitor::put_registers`]). The caller then makes the pages
+    /// in `zero` zero, loads the entries of the hart where it is asked to, and stops every other hart that is marked now
+    /// until it was woken; then the hart goes on with [`Monitor::registers`].
+    pub fn serve<D: Digests>(&mut self, hart: u8, digests: &D) -> Served
         requires hart { hart < (state_by self.old).table.layout.harts }
         requires awake { (state_by self.old).marked hart ≡ false }
         ensures step { let s = state_by self.old in
             let file = past_call (running_registers s hart) in
-            DoesCall (call_of file) (P.bytes_of pages.now) (with_running s hart file) hart
+            DoesCall (call_of file) (D.digest_of digests.now) (with_running s hart file) hart
             result.answer result.zero (state_by self.new) }
         ensures load { LoadsAnew result.load (state_by self.old) (state_by self.new) hart }
         ensures others { KeepsOthers (state_by self.old) (state_by self.new) hart }
@@ -229,11 +201,11 @@ impl Monitor {
             (λ refusal. result.answer.status ≡ below_zero (refusal_number refusal)) }
     {
         self.parts.table.cite_invariant();
-        self.parts.serve_kept(hart, pages)
+        self.parts.serve(hart, digests)
     }
 
     /// The parts of the enclave that these registers ask for, as they are kept, where the call is a creation that passes each
-    /// check but those for entries and memory: its private pages are to be measured for [`Monitor::serve_measured`].
+    /// check but those for entries and memory: its private pages are to be measured for [`Monitor::serve`].
     #[tactic(auto, unfolding(crate::specs::Monitors::state_by, crate::specs::Monitors::kept_by))]
     pub fn measures(&self, hart: u8, registers: &Registers) -> Option<Create>
         requires { hart < 4 }
@@ -270,57 +242,9 @@ impl Monitor {
         )
     }
 
-    /// The call that a hart with these registers made, as [`Monitor::serve`] serves it, where the pages were measured before.
-    /// The digest is looked at only where [`Monitor::measures`] gives parts.
-    pub fn serve_measured(&mut self, hart: u8, registers: &Registers, digest: &[u8; 32]) -> Served
-        requires hart { hart < (state_by self.old).table.layout.harts }
-        requires awake { (state_by self.old).marked hart ≡ false }
-        ensures step { let file = past_call registers.now in let s = state_by self.old in
-            (pages : ℕ → List ℕ)
-            → IsMeasuredFor (asked_in (call_of file)) s.table (s.worlds hart) digest.now pages
-            → DoesCall (call_of file) pages (with_running s hart file) hart
-            result.answer result.zero (state_by self.new) }
-        ensures registers { result.onward.registers
-            ≡ running_registers (state_by self.new) hart }
-        ensures load { LoadsAnew result.onward.load (state_by self.old) (state_by self.new) hart }
-        ensures others { IsOfPages (state_by self.old) hart registers.now digest.now
-            → KeepsOthers (state_by self.old) (state_by self.new) hart }
-        ensures zeroed { IsOfPages (state_by self.old) hart registers.now digest.now
-            → IfSome result.zero (ClearsMemory (state_by self.old).table.layout) }
-        ensures awake { IsOfPages (state_by self.old) hart registers.now digest.now
-            → (state_by self.new).marked hart ≡ false }
-        ensures platform { (state_by self.new).table.layout ≡ (state_by self.old).table.layout }
-        ensures lists { (state_by self.new).table ≡ (state_by self.old).table
-            → kept_by self.new ≡ kept_by self.old }
-        ensures need { let s = state_by self.old in IsOfPages s hart registers.now digest.now
-            → IsRefusedByNeed (call_of registers.now) s.table (s.worlds hart)
-            (λ refusal. result.answer.status ≡ below_zero (refusal_number refusal)) }
-    {
-        self.parts.table.cite_invariant();
-        self.parts.serve_measured(hart, registers, digest)
-    }
-
-    /// The timer's interrupt on a hart with these registers: an enclave is stopped, and the host goes on there. In the
-    /// host's world nothing but the registers changes.
-    pub fn interrupt(&mut self, hart: u8, registers: &Registers) -> Onward
-        requires hart { hart < (state_by self.old).table.layout.harts }
-        requires awake { (state_by self.old).marked hart ≡ false }
-        ensures step { let s = with_running (state_by self.old) hart registers.now in
-            Interrupts (s.worlds hart) s hart (state_by self.new) }
-        ensures registers { result.registers ≡ running_registers (state_by self.new) hart }
-        ensures load { LoadsAnew result.load (state_by self.old) (state_by self.new) hart }
-        ensures others { KeepsOthers (state_by self.old) (state_by self.new) hart }
-        ensures awake { (state_by self.new).marked hart ≡ false }
-        ensures platform { (state_by self.new).table.layout ≡ (state_by self.old).table.layout }
-        ensures lists { (state_by self.new).table ≡ (state_by self.old).table
-            → kept_by self.new ≡ kept_by self.old }
-    {
-        self.parts.interrupt(hart, registers)
-    }
-
-    /// The timer's interrupt on a hart whose registers stand here, as [`Monitor::interrupt`] serves it. It answers whether
-    /// the hart's entries are to be loaded anew before it goes on.
-    pub fn interrupt_kept(&mut self, hart: u8) -> bool
+    /// The timer's interrupt on a hart: an enclave is stopped, with the registers that it has, and the host goes on there. In
+    /// the host's world nothing changes. It answers whether the hart's entries are to be loaded anew before it goes on.
+    pub fn interrupt(&mut self, hart: u8) -> bool
         requires hart { hart < (state_by self.old).table.layout.harts }
         requires awake { (state_by self.old).marked hart ≡ false }
         ensures step { let s = state_by self.old in

@@ -1,11 +1,10 @@
 //! The calls on what enclaves own: create, destroy, and a word of a digest.
 
-use crate::answer::Answer;
-use crate::outcome::Outcome;
-use crate::parts::Parts;
-use measurement::{Create, Pages};
+use crate::answer::{Answer, Served};
+use crate::parts::MonitorParts;
+use measurement::{Create, Digests};
 
-impl Parts {
+impl MonitorParts {
     ghost use Rattle.std.specs.Prelude.{◌≡◌, ◌<◌, Some, []};
     ghost use Rattle.monitor_core.specs.Changes.{answering, marking_others};
     ghost use Rattle.monitor_core.specs.Frames.{IsOn, KeepsFrame, LoadsAnew};
@@ -25,21 +24,21 @@ impl Parts {
         self.mark_others(hart);
     }
 
-    /// Creates an enclave.
-    pub(crate) fn create<P: Pages>(&mut self, hart: u8, pages: &P, asked: Create) -> Outcome
+    /// Creates an enclave, with the digest that its parts have.
+    pub(crate) fn create<D: Digests>(&mut self, hart: u8, digests: &D, asked: Create) -> Served
         requires on { IsOn self.old hart }
         ensures frame { KeepsFrame self.old self.new }
         ensures step { DoesCall (Some (calls.Create asked.base asked.text_pages asked.data_pages
-            asked.shared_base asked.shared_count asked.entry_offset)) (P.bytes_of pages.now)
+            asked.shared_base asked.shared_count asked.entry_offset)) (D.digest_of digests.now)
             (state_in self.old) hart result.answer result.zero (state_in self.new) }
         ensures load { LoadsAnew result.load (state_in self.old) (state_in self.new) hart }
     {
         self.table.cite_invariant();
         let world = self.world(hart);
-        match self.table.create(world, pages, asked) {
+        match self.table.create_by(world, digests, asked) {
             Ok(id) => {
                 self.answer_and_mark(hart, 0, id);
-                Outcome {
+                Served {
                     answer: Answer::done(id),
                     zero: None,
                     load: true,
@@ -50,10 +49,10 @@ impl Parts {
     }
 
     /// Destroys an enclave, whose private pages are to be made zero.
-    pub(crate) fn destroy(&mut self, hart: u8, id: u64) -> Outcome
+    pub(crate) fn destroy(&mut self, hart: u8, id: u64) -> Served
         requires on { IsOn self.old hart }
         ensures frame { KeepsFrame self.old self.new }
-        ensures step { DoesCall (Some (calls.Destroy id)) (λ page. []) (state_in self.old) hart
+        ensures step { DoesCall (Some (calls.Destroy id)) (λ parts. []) (state_in self.old) hart
             result.answer result.zero (state_in self.new) }
         ensures load { LoadsAnew result.load (state_in self.old) (state_in self.new) hart }
     {
@@ -63,7 +62,7 @@ impl Parts {
             Ok(range) => {
                 self.drop_registers(id);
                 self.answer_and_mark(hart, 0, 0);
-                Outcome {
+                Served {
                     answer: Answer::done(0),
                     zero: Some(range),
                     load: true,
@@ -74,17 +73,17 @@ impl Parts {
     }
 
     /// A word of an enclave's digest.
-    pub(crate) fn measure(&mut self, hart: u8, id: u64, k: u64) -> Outcome
+    pub(crate) fn measure(&mut self, hart: u8, id: u64, k: u64) -> Served
         requires on { IsOn self.old hart }
         ensures frame { KeepsFrame self.old self.new }
-        ensures step { DoesCall (Some (calls.Measure id k)) (λ page. []) (state_in self.old) hart
+        ensures step { DoesCall (Some (calls.Measure id k)) (λ parts. []) (state_in self.old) hart
             result.answer result.zero (state_in self.new) }
         ensures load { LoadsAnew result.load (state_in self.old) (state_in self.new) hart }
     {
         match self.table.word(id, k) {
             Ok(word) => {
                 self.answer(hart, 0, word);
-                Outcome {
+                Served {
                     answer: Answer::done(word),
                     zero: None,
                     load: false,

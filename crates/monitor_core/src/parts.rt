@@ -6,14 +6,14 @@ use sbi_decode::Registers;
 
 /// The table of enclaves, the world that runs on each hart, all registers, and the harts that are marked.
 #[derive(Drop)]
-pub(crate) struct Parts {
+pub(crate) struct MonitorParts {
     pub(crate) table: Table,
     pub(crate) worlds: [World; 4],
     pub(crate) registers: RegisterSets,
     pub(crate) marked: [bool; 4],
 }
 
-impl Parts {
+impl MonitorParts {
     ghost use Rattle.std.specs.Prelude.{◌≡◌, ◌≤◌, ◌<◌, ℕ, false, slice_set};
     ghost use Rattle.sbi_decode.specs.Runners.{EnclaveOf};
     ghost use Rattle.monitor_core.specs.Changes.{in_world, is_host, with_registers, with_running, with_x, answering, past_call, without_mark, marking_others};
@@ -49,10 +49,10 @@ impl Parts {
     }
 
     /// The registers of the world that runs on a hart are these now.
-    pub(crate) fn put_running(&mut self, hart: u8, registers: Registers)
+    pub(crate) fn put_running(&mut self, hart: u8, registers: &Registers)
         requires hart { hart < 4 }
         requires whole { HoldsTogether self.old.table self.old.worlds self.old.marked }
-        ensures state { state_in self.new ≡ with_running (state_in self.old) hart registers }
+        ensures state { state_in self.new ≡ with_running (state_in self.old) hart registers.now }
         ensures table { self.new.table ≡ self.old.table }
         ensures worlds { self.new.worlds ≡ self.old.worlds }
         ensures marks { self.new.marked ≡ self.old.marked }
@@ -60,21 +60,6 @@ impl Parts {
         self.table.cite_invariant();
         let world = self.world(hart);
         self.registers.set(hart, world, registers);
-    }
-
-    /// The registers of the world that runs on a hart are those that made a call, past its instruction.
-    pub(crate) fn put_past_call(&mut self, hart: u8, registers: &Registers)
-        requires hart { hart < 4 }
-        requires whole { HoldsTogether self.old.table self.old.worlds self.old.marked }
-        ensures state { state_in self.new
-            ≡ with_running (state_in self.old) hart (past_call registers.now) }
-        ensures table { self.new.table ≡ self.old.table }
-        ensures worlds { self.new.worlds ≡ self.old.worlds }
-        ensures marks { self.new.marked ≡ self.old.marked }
-    {
-        self.table.cite_invariant();
-        let world = self.world(hart);
-        self.registers.set_past_call(hart, world, registers);
     }
 
     /// The registers of the world that runs on a hart are past the instruction of a call.
@@ -123,11 +108,11 @@ impl Parts {
     }
 
     /// The registers that an enclave is to go on with.
-    pub(crate) fn put_saved(&mut self, id: u64, registers: Registers)
+    pub(crate) fn put_saved(&mut self, id: u64, registers: &Registers)
         requires low { 1 ≤ id }
         requires high { id ≤ 64 }
         ensures state { state_in self.new
-            ≡ with_registers (state_in self.old) (EnclaveOf id) registers }
+            ≡ with_registers (state_in self.old) (EnclaveOf id) registers.now }
         ensures table { self.new.table ≡ self.old.table }
         ensures worlds { self.new.worlds ≡ self.old.worlds }
         ensures marks { self.new.marked ≡ self.old.marked }
@@ -145,7 +130,7 @@ impl Parts {
         ensures worlds { self.new.worlds ≡ self.old.worlds }
         ensures marks { self.new.marked ≡ self.old.marked }
     {
-        self.put_saved(id, Registers::new());
+        self.put_saved(id, &Registers::new());
     }
 
     /// Another world runs on a hart now, with the registers that it has.

@@ -1,11 +1,10 @@
 //! Calls that are refused.
 
-use crate::answer::{Answer, word_below_zero};
-use crate::outcome::Outcome;
-use crate::parts::Parts;
+use crate::answer::{Answer, Served, word_below_zero};
+use crate::parts::MonitorParts;
 use enclave_table::Refusal;
 
-impl Parts {
+impl MonitorParts {
     ghost use Rattle.std.specs.Prelude.{◌≡◌, ◌<◌, ◌≤◌};
     ghost use Rattle.enclave_table.specs.Refusals.{refusal_number};
     ghost use Rattle.monitor_core.specs.Frames.{IsOn, KeepsFrame, LoadsAnew};
@@ -13,7 +12,7 @@ impl Parts {
     ghost use Rattle.monitor_core.specs.Steps.{Refuses};
 
     /// A call is refused with a number below zero.
-    pub(crate) fn refuse(&mut self, hart: u8, number: u64) -> Outcome
+    pub(crate) fn refuse(&mut self, hart: u8, number: u64) -> Served
         requires on { IsOn self.old hart }
         requires low { 1 ≤ number }
         requires high { number ≤ 112 }
@@ -23,7 +22,7 @@ impl Parts {
         ensures load { LoadsAnew result.load (state_in self.old) (state_in self.new) hart }
     {
         self.answer(hart, word_below_zero(number), 0);
-        Outcome {
+        Served {
             answer: Answer::refused(number),
             zero: None,
             load: false,
@@ -31,7 +30,7 @@ impl Parts {
     }
 
     /// A call is refused, and this is why.
-    pub(crate) fn refuse_for(&mut self, hart: u8, refusal: Refusal) -> Outcome
+    pub(crate) fn refuse_for(&mut self, hart: u8, refusal: Refusal) -> Served
         requires on { IsOn self.old hart }
         ensures frame { KeepsFrame self.old self.new }
         ensures step { Refuses (refusal_number refusal) (state_in self.old) hart result.answer

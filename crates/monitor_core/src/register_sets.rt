@@ -59,16 +59,16 @@ impl RegisterSets {
     }
 
     /// Sets the registers of the host on this hart, or of the enclave.
-    pub(crate) fn set(&mut self, hart: u8, world: World, registers: Registers)
+    pub(crate) fn set(&mut self, hart: u8, world: World, registers: &Registers)
         requires hart { hart < 4 }
         requires world { IsWorld world }
         ensures { (who : Runner) → registers_in self.new who
-            ≡ (if is_same who (runner_of hart world) then registers
+            ≡ (if is_same who (runner_of hart world) then registers.now
             else registers_in self.old who) }
     {
         match world {
-            World::Host => self.hosts[hart as usize] = registers,
-            World::Enclave(id) => self.enclaves[id as usize - 1] = registers,
+            World::Host => self.hosts[hart as usize] = *registers,
+            World::Enclave(id) => self.enclaves[id as usize - 1] = *registers,
         }
     }
 
@@ -85,26 +85,6 @@ impl RegisterSets {
         match world {
             World::Host => self.hosts[hart as usize].set(n as usize, value),
             World::Enclave(id) => self.enclaves[id as usize - 1].set(n as usize, value),
-        }
-    }
-
-    /// Makes the registers of the host on this hart, or of the enclave, those that made a call, past its instruction.
-    pub(crate) fn set_past_call(&mut self, hart: u8, world: World, registers: &Registers)
-        requires hart { hart < 4 }
-        requires world { IsWorld world }
-        ensures { (who : Runner) → registers_in self.new who
-            ≡ (if is_same who (runner_of hart world) then past_call registers.now
-            else registers_in self.old who) }
-    {
-        match world {
-            World::Host => {
-                self.hosts[hart as usize] = *registers;
-                go_past_call(&mut self.hosts[hart as usize]);
-            }
-            World::Enclave(id) => {
-                self.enclaves[id as usize - 1] = *registers;
-                go_past_call(&mut self.enclaves[id as usize - 1]);
-            }
         }
     }
 

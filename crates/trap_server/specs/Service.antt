@@ -1,7 +1,8 @@
 -- How a trap is served.
 use Rattle.std.specs.Prelude.{◌≡◌, ◌⊎◌, ℕ, ◌+◌, ◌/◌, List, [], Option, None}
 use Rattle.pmp_encoding.specs.declared.pages.PageRange.{PageRange}
-use Rattle.measurement.specs.Digests.{pages_from}
+use Rattle.measurement.specs.Digests.{layout_of}
+use Rattle.measurement.specs.Measured.{digest_of}
 use Rattle.measurement.specs.declared.request.Create.{Create}
 use Rattle.sbi_decode.specs.Calls.{call_of}
 use Rattle.monitor_core.specs.declared.answer.Answer.{Answer}
@@ -18,26 +19,26 @@ use Rattle.trap_server.specs.PageDigest.{ArePages, question_of}
 use Rattle.trap_server.specs.Answered.{IsAnswer, marks_of, no_answer, unmarked}
 
 -- a creation that passes its checks has its private pages asked for, and read once, by rising
--- number; nothing else is asked for or read
-abbrev pub AsksFor : Option Create → MonitorState → ℕ → List ℕ → List ℕ → (ℕ → List ℕ) → Type 0
-AsksFor asked s hart question read pages =
+-- number, and the digest is that of its layout and these pages; nothing else is asked for or read
+abbrev pub AsksFor : Option Create → MonitorState → ℕ → List ℕ → List ℕ → List ℕ → Type 0
+AsksFor asked s hart question read digest =
     ((question ≡ []) × (read ≡ []) × ((parts : Create)
     → Measures asked s.table (s.worlds hart) parts → ⊥))
     ⊎ ((parts : Create) × Measures asked s.table (s.worlds hart) parts
-    × (question ≡ question_of parts)
-    × ArePages (parts.base / 4096) (parts.text_pages + parts.data_pages) read
-    (pages_from pages (parts.base / 4096) (parts.text_pages + parts.data_pages)))
+    × (question ≡ question_of parts) × (pages : List (List ℕ))
+    × ArePages (parts.base / 4096) (parts.text_pages + parts.data_pages) read pages
+    × (digest ≡ digest_of (layout_of parts) pages))
 
--- a call is a step of the monitor, over the pages that were read; then no hart is marked, and each
--- that was is woken
+-- a call is a step of the monitor, in which a creation gets the digest of the pages that were read;
+-- then no hart is marked, and each that was is woken
 pub record ServesCall (s : MonitorState) (trap : Trap) (given : ControlWords)
     (read question answered : List ℕ) (new : MonitorState) : Type 0 where
-  pub pages : ℕ → List ℕ
+  pub digest : List ℕ
   pub answer : Answer
   pub cleared : Option PageRange
   pub mid : MonitorState
-  pub asks : AsksFor (asked_in (call_of trap.registers)) s trap.hart question read pages
-  pub step : DoesCall (call_of (past_call trap.registers)) pages
+  pub asks : AsksFor (asked_in (call_of trap.registers)) s trap.hart question read digest
+  pub step : DoesCall (call_of (past_call trap.registers)) (λ parts. digest)
       (with_running s trap.hart (past_call trap.registers)) trap.hart answer cleared mid
   pub woken : new ≡ unmarked 4 mid
   pub goes_on : IsAnswer new given trap.hart answer cleared (marks_of mid) answered

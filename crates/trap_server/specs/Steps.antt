@@ -17,7 +17,7 @@ use Rattle.trap_server.specs.PageDigest.{BreaksAtPage, StopsAtPage, question_of}
 use Rattle.trap_server.specs.declared.trap.Event.TheVariants.{Call}
 use Rattle.trap_server.specs.declared.end.Refusal.TheVariants.{NotUnderstood}
 use Rattle.sbi_decode.specs.Calls.{call_of}
-use Rattle.monitor_core.specs.Measured.{IsMeasuredFor, Measures, asked_in}
+use Rattle.monitor_core.specs.Measured.{Measures, asked_in}
 use Rattle.trap_server.specs.Service.{AsksFor, ServesTrap}
 
 -- a hart is woken by another only where both are in the host's world
@@ -73,9 +73,8 @@ Serves (Err fault) trap old hosts new kept before after held holds =
 abbrev pub TakesDigest : Result (List ℕ) ServeFault → MonitorState → Trap → Option (List ℕ)
     → Option (List ℕ) → Option (List ℕ) → Option (List ℕ) → Type 0
 TakesDigest (Ok digest) s trap before after held holds =
-    (question read : List ℕ) × (pages : ℕ → List ℕ)
-    × AsksFor (asked_in (call_of trap.registers)) s trap.hart question read pages
-    × IsMeasuredFor (asked_in (call_of trap.registers)) s.table (s.worlds trap.hart) digest pages
+    (question read : List ℕ)
+    × AsksFor (asked_in (call_of trap.registers)) s trap.hart question read digest
     × Consumes before after read × Appends held holds question
 TakesDigest (Err fault) s trap before after held holds =
     (read rest : List ℕ) × ((hosts : ℕ → ControlWords)

@@ -11,7 +11,7 @@ ghost use Rattle.trap_server.specs.Steps.{MayWake, Serves, TakesDigest, Writes};
 use crate::fault::{ServeFault, end};
 use crate::{AnswerBytes, Event, Head, HostWords, Trap, digest_of, put_answer};
 use byte_streams::{Sink, Source, write_whole};
-use monitor_core::{Answer, Monitor};
+use monitor_core::{Answer, Monitor, TakenDigest};
 use pmp_encoding::PageRange;
 
 /// What stands for the answer where there was no call.
@@ -170,13 +170,15 @@ fn serve_call<R: Source, W: Sink>(
     ensures writes { CountsWrites result (W.failures sink.old) (W.failures sink.new)
         (W.stalls sink.old) (W.stalls sink.new) }
 {
+    // (there are at most four: a fact for the proof)
     let _most = monitor.harts();
     keep_words(monitor, hosts, trap);
     let digest = match measured(monitor, trap, source, sink) {
         Ok(digest) => digest,
         Err(fault) => return Err(fault),
     };
-    let served = monitor.serve_measured(trap.hart, &trap.registers, &digest);
+    monitor.put_registers(trap.hart, &trap.registers);
+    let served = monitor.serve(trap.hart, &TakenDigest { bytes: digest });
     monitor.cite_invariant();
     let woken = wake_all(monitor);
     write_answer(
@@ -209,9 +211,11 @@ fn serve_stop<W: Sink>(
     ensures writes { CountsWrites result (W.failures sink.old) (W.failures sink.new)
         (W.stalls sink.old) (W.stalls sink.new) }
 {
+    // (there are at most four: a fact for the proof)
     let _most = monitor.harts();
     keep_words(monitor, hosts, trap);
-    let _onward = monitor.interrupt(trap.hart, &trap.registers);
+    monitor.put_registers(trap.hart, &trap.registers);
+    let _load = monitor.interrupt(trap.hart);
     let woken = wake_all(monitor);
     write_answer(monitor, hosts, trap.hart, NOTHING, None, woken, sink)
 }
