@@ -27,7 +27,7 @@ write_answer-requires-clause-woken g c =
     let taken = c.in-Ok.ensures.digest in
     let said = c.serve-served.result in
     let put = c.put_registers.ensures.state in
-    let step = call_there s (state_by c.put_registers.new.monitor) mid hart c.args.trap.now.registers (λ parts. c.in-Ok.digest) said.answer said.zero put c.serve-served.ensures.step in
+    let step = call_there s (state_by c.put_registers.new.self) mid hart c.args.trap.now.registers (λ parts. c.in-Ok.digest) said.answer said.zero put c.serve-served.ensures.step in
     may_wake mid (state_by c.wake_all-woken.new.monitor) hart c.wake_all-woken.result c.wake_all-woken.ensures.state c.wake_all-woken.ensures.marks
     (λ other known marked.
     let before = subst (λ t. other < t.harts) (c.serve-served.ensures.platform ∙ ap (λ (x : MonitorState). x.table.layout) put) known in (
@@ -59,7 +59,7 @@ returns-clause-served g c =
         cleared = said.zero;
         mid = mid;
         asks = taken.2;
-        step = call_there s (state_by c.put_registers.new.monitor) mid trap.hart trap.registers (λ parts. c.in-Ok.digest) said.answer said.zero put c.serve-served.ensures.step;
+        step = call_there s (state_by c.put_registers.new.self) mid trap.hart trap.registers (λ parts. c.in-Ok.digest) said.answer said.zero put c.serve-served.ensures.step;
         woken = c.wake_all-woken.ensures.state;
         goes_on = subst (λ (w : List Bool). IsAnswer new given trap.hart said.answer said.zero w bytes) c.wake_all-woken.ensures.marks is;
       });
