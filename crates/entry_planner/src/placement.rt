@@ -10,7 +10,7 @@ use std::alloc::AllocError;
 
 /// An aligned block of 2^log2 pages.
 #[derive(Clone, Copy)]
-pub struct Pages {
+pub struct PageBlock {
     pub first: u64,
     pub log2: u32,
 }
@@ -25,15 +25,15 @@ ghost use Rattle.entry_planner.specs.Placement.{ArePages, IsBlockOf, IsOwn, plac
 ghost use Rattle.entry_planner.specs.Plans.{costs_in, split_cost};
 ghost use Rattle.entry_planner.specs.Shelves.{is_free};
 
-impl Pages {
-    fn lower(self) -> Pages
+impl PageBlock {
+    fn lower(self) -> PageBlock
         requires split { 0 < self.log2 }
         requires pages { ArePages self.log2 self.first }
         ensures first { result.first ≡ self.first }
         ensures log2 { result.log2 + 1 ≡ self.log2 }
         ensures pages { ArePages result.log2 result.first }
     {
-        Pages {
+        PageBlock {
             first: self.first,
             log2: self.log2 - 1,
         }
@@ -41,7 +41,7 @@ impl Pages {
 
     /// One of the parts that are left where a block is halved so often, by how many come before it.
     #[inline(always)]
-    fn part(self, levels: u32, place: u64) -> Pages
+    fn part(self, levels: u32, place: u64) -> PageBlock
         requires levels { levels ≤ self.log2 }
         requires place { place < 2 ^ levels }
         requires pages { ArePages self.log2 self.first }
@@ -50,20 +50,20 @@ impl Pages {
         ensures pages { ArePages result.log2 result.first }
     {
         let log2 = self.log2 - levels;
-        Pages {
+        PageBlock {
             first: self.first + place * pages_of(log2),
             log2,
         }
     }
 
-    fn upper(self) -> Pages
+    fn upper(self) -> PageBlock
         requires split { 0 < self.log2 }
         requires pages { ArePages self.log2 self.first }
         ensures first { result.first ≡ self.first + 2 ^ (self.log2 - 1) }
         ensures log2 { result.log2 + 1 ≡ self.log2 }
         ensures pages { ArePages result.log2 result.first }
     {
-        Pages {
+        PageBlock {
             first: self.first + pages_of(self.log2 - 1),
             log2: self.log2 - 1,
         }
@@ -87,7 +87,7 @@ fn chosen(cost: SplitCost, inherited: Perm) -> Perm
 
 /// The entry that gives a block a permission.
 #[inline(always)]
-fn entry_of(pages: Pages, perm: Perm) -> Entry
+fn entry_of(pages: PageBlock, perm: Perm) -> Entry
     requires { ArePages pages.log2 pages.first }
     ensures { IsBlockOf pages.log2 pages.first perm result }
 {
@@ -102,7 +102,7 @@ fn entry_of(pages: Pages, perm: Perm) -> Entry
 
 /// The entry that gives a block another permission than the inherited one.
 #[inline(always)]
-fn own_entry(pages: Pages, inherited: Perm, perm: Perm) -> Option<PackedEntry>
+fn own_entry(pages: PageBlock, inherited: Perm, perm: Perm) -> Option<PackedEntry>
     requires { ArePages pages.log2 pages.first }
     ensures some { IfSome result (λ e. IsOwn pages.log2 pages.first inherited perm (e ∷ [])) }
     ensures none { IfNone result (IsOwn pages.log2 pages.first inherited perm []) }
@@ -117,7 +117,12 @@ fn own_entry(pages: Pages, inherited: Perm, perm: Perm) -> Option<PackedEntry>
 /// Adds the entry that gives a block another permission than the inherited one, which goes before that of the upper half where
 /// this is the lower.
 #[inline(always)]
-fn turn(pages: Pages, inherited: Perm, perm: Perm, entries: &mut Shelves) -> Result<(), AllocError>
+fn turn(
+    pages: PageBlock,
+    inherited: Perm,
+    perm: Perm,
+    entries: &mut Shelves,
+) -> Result<(), AllocError>
     requires { ArePages pages.log2 pages.first }
     ensures { OnOk result (AddsOwn pages.log2 pages.first inherited perm entries.old entries.new) }
 {
@@ -130,7 +135,7 @@ fn turn(pages: Pages, inherited: Perm, perm: Perm, entries: &mut Shelves) -> Res
 /// The same for the half beside the next block of a chain: no entry of its size has a higher address.
 #[inline(always)]
 fn turn_beside(
-    pages: Pages,
+    pages: PageBlock,
     inherited: Perm,
     perm: Perm,
     entries: &mut Shelves,
@@ -169,7 +174,7 @@ fn place_beside(place: u64) -> u64
 fn place_chain<'a, H: Halving>(
     chain: Chain,
     smallest: &H,
-    pages: Pages,
+    pages: PageBlock,
     inherited: Perm,
     costs: &'a [PackedCost],
     entries: &mut Shelves,
@@ -216,7 +221,7 @@ fn place_chain<'a, H: Halving>(
 #[cycle(placing)]
 pub fn place<'a, H: Halving>(
     block: &H,
-    pages: Pages,
+    pages: PageBlock,
     inherited: Perm,
     costs: &'a [PackedCost],
     entries: &mut Shelves,

@@ -17,7 +17,7 @@ use crate::costs::add_costs;
 use crate::order::in_order;
 use crate::packed_cost::PackedCost;
 use crate::packed_plan::PackedPlan;
-use crate::placement::{Pages, place};
+use crate::placement::{PageBlock, place};
 use crate::planned::Plan;
 use crate::shelves::Shelves;
 use permission_map::{Memory, PermissionMap};
@@ -38,7 +38,7 @@ fn entries_of<H: Halving>(
     ensures order { IfOk result (λ v. AreInOrder v.items) }
 {
     let mut placed = Shelves::with_room(alloc, least)?;
-    let space = Pages { first: 0, log2: 44 };
+    let space = PageBlock { first: 0, log2: 44 };
     let _ = place(root, space, Perm::NoAccess, costs, &mut placed)?;
     Ok(in_order(alloc, placed))
 }

@@ -1,5 +1,4 @@
 -- What an event asks of the monitor, and what it leaves of the monitor's part of the state.
-use Rattle.measurement.specs.Digests.{measured}
 use Rattle.measurement.specs.declared.request.Create.{Create}
 use Rattle.std.proofs.Common.{◌≡◌, inl, inr, ℕ, List, Option, Result, Ok, Err, ap, ◌*◌, Bool, false}
 use Rattle.pmp_match.specs.declared.access.Access.{Access}
@@ -15,7 +14,7 @@ pub use Rattle.hart_sim.specs.States.{awoken}
 use Rattle.hart_sim.specs.States.{MachineState, core_of}
 use Rattle.hart_sim.specs.Changes.{calling}
 use Rattle.hart_sim.specs.Steps.{Accesses, TakesEffect}
-use Rattle.hart_sim.specs.Memory.{bytes_at, in_range}
+use Rattle.hart_sim.specs.Memory.{in_range, measured_in}
 use Rattle.pmp_encoding.specs.declared.pages.PageRange.{PageRange}
 use Rattle.std.specs.Prelude.{unwrap_or, option_map}
 
@@ -28,7 +27,7 @@ asked s hart words = with_running (core_of (awoken s hart)) hart (calling (awoke
 
 -- what a call may measure: the pages as they are
 abbrev pub lent : MachineState → Create → List ℕ
-lent s = measured (λ page. bytes_at s.bytes (page * 4096) 4096)
+lent s = measured_in s.bytes
 
 -- whether a page is one of those that are to be zero, where there are any
 abbrev pub is_zeroed : Option PageRange → ℕ → Bool

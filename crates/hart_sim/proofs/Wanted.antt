@@ -1,5 +1,4 @@
 -- When an event is refused for want of entries, and when out of memory.
-use Rattle.measurement.specs.Digests.{measured}
 use Rattle.std.proofs.Common.{◌≡◌, ◌∙◌, inl, inr, ℕ, Bool, true, false, Option, None, ℤ, pos, Result, Ok, Err, refl, ap, sym, ◌*◌}
 use Rattle.pmp_match.specs.declared.access.Access.{Access}
 use Rattle.pmp_match.specs.declared.access.Kind.{Kind}
@@ -25,7 +24,7 @@ use Rattle.hart_sim.specs.States.{MachineState, core_of, view_on}
 use Rattle.hart_sim.specs.Steps.{Step, Accesses, TakesEffect, verdict}
 use Rattle.hart_sim.specs.Wants.{IsAnsweredBy, CreatesByNeed, DestroysByNeed, RefusesByNeed}
 use Rattle.hart_sim.proofs.Asked.{awoken, named, asked, lent}
-use Rattle.hart_sim.specs.Memory.{bytes_at}
+use Rattle.hart_sim.specs.Memory.{measured_in}
 
 -- the answer has the status of a refusal
 abbrev Says : Answer → Refusal → Type 0
@@ -46,14 +45,14 @@ to_answer new hart answer reply refusal told is = ap status_of (sym told.2 ∙ i
 
 pub creates_by_need : CreatesByNeed
 creates_by_need asked s hart reply new pass x =
-    let n = core.creates_by_need asked (measured (λ page. bytes_at s.bytes (page * 4096) 4096)) (core_of s) hart x.0 x.1 x.2 pass x.3 in (
+    let n = core.creates_by_need asked (measured_in s.bytes) (core_of s) hart x.0 x.1 x.2 pass x.3 in (
       (λ is. n.0 (to_answer new hart x.0 reply NoEntries x.5 is)),
       (λ out. elim (n.1 out) [ inl is ↦ inl (to_reply new hart x.0 reply NoEntries x.5 is) | inr is ↦ inr (to_reply new hart x.0 reply NoMemory x.5 is) ]),
     )
 
 pub destroys_by_need : DestroysByNeed
 destroys_by_need id s hart reply new pass x =
-    let n = core.destroys_by_need id (measured (λ page. bytes_at s.bytes (page * 4096) 4096)) (core_of s) hart x.0 x.1 x.2 pass x.3 in (
+    let n = core.destroys_by_need id (measured_in s.bytes) (core_of s) hart x.0 x.1 x.2 pass x.3 in (
       (λ is. n.0 (to_answer new hart x.0 reply NoEntries x.5 is)),
       (λ out. elim (n.1 out) [ inl is ↦ inl (to_reply new hart x.0 reply NoEntries x.5 is) | inr is ↦ inr (to_reply new hart x.0 reply NoMemory x.5 is) ]),
     )

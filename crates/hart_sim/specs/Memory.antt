@@ -1,6 +1,8 @@
 -- Memory: a byte at each address, and the pages that were written.
 use Rattle.std.specs.Prelude.{ℕ, zero, suc, ◌+◌, ◌-◌, ◌*◌, ◌/◌, ◌%◌, Bool, if◌then◌else◌, List, []}
 use Rattle.std.specs.Prelude.{◌∷◌, is_some}
+use Rattle.measurement.specs.Digests.{measured}
+use Rattle.measurement.specs.declared.request.Create.{Create}
 use Rattle.pmp_encoding.specs.Registers.{byte_of}
 pub use Rattle.permission_map.specs.Runs.{in_range}
 use Rattle.hart_sim.specs.declared.memory.Memory.{Memory}
@@ -10,6 +12,10 @@ use Rattle.hart_sim.specs.Groups.{byte_in, page_in}
 unfoldable pub bytes_at : (ℕ → ℕ) → ℕ → ℕ → List ℕ
 bytes_at memory address zero = []
 bytes_at memory address (suc count) = memory address ∷ bytes_at memory (address + 1) count
+
+-- the digest that an enclave gets which is created: that of its private pages as they are in memory
+abbrev pub measured_in : (ℕ → ℕ) → Create → List ℕ
+measured_in memory = measured (λ page. bytes_at memory (page * 4096) 4096)
 
 -- the number that bytes are, the lowest first
 abbrev pub number_of_bytes : List ℕ → ℕ

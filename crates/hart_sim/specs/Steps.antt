@@ -1,5 +1,4 @@
 -- One step of the machine: what an event on a hart may be answered, and the state that it leaves.
-use Rattle.measurement.specs.Digests.{measured}
 use Rattle.std.specs.Prelude.{◌≡◌, ◌≢◌, ◌⊎◌, ℕ, ◌/◌, ◌%◌, ◌^◌, ◌<◌, false, ◌&&◌, ◌==◌, nat_lt}
 use Rattle.std.specs.Prelude.{if◌then◌else◌, List, [], ◌∷◌, ◌++◌, Option, Result, Ok, Err, ◌*◌}
 use Rattle.pmp_encoding.specs.declared.perm.Perm.{Perm}
@@ -22,7 +21,7 @@ use Rattle.hart_trace.specs.declared.event.Event.{Event}
 use Rattle.hart_trace.specs.declared.event.Event.TheVariants as events
 use Rattle.hart_trace.specs.declared.reply.Reply.{Reply}
 use Rattle.hart_trace.specs.declared.reply.Reply.TheVariants as replies
-use Rattle.hart_sim.specs.Memory.{bytes_at, number_of_bytes}
+use Rattle.hart_sim.specs.Memory.{bytes_at, measured_in, number_of_bytes}
 use Rattle.hart_sim.specs.States.{MachineState, awoken, core_of, with_core}
 use Rattle.hart_sim.specs.Changes.{with_x, calling, storing, zeroing}
 use Rattle.hart_sim.specs.Replies.{RepliesWith}
@@ -72,8 +71,8 @@ DoesEvent (events.Reg n value) s hart reply new = (reply ≡ replies.Done)
     (with_x (s.registers (runner_of hart (s.worlds hart))) n value)))
 DoesEvent (events.Ecall words) s hart reply new =
     let file = calling s hart words.items in
-    Serves (DoesCall (call_of file) (measured (λ page. bytes_at s.bytes (page * 4096) 4096))
-    (with_running (core_of s) hart file) hart) s hart reply new
+    Serves (DoesCall (call_of file) (measured_in s.bytes) (with_running (core_of s) hart file) hart)
+    s hart reply new
 DoesEvent events.Irq s hart reply new = (core : MonitorState)
     × Interrupts (s.worlds hart) (core_of s) hart core × (new ≡ with_core s core)
     × RepliesWith replies.Irq new hart reply

@@ -1,5 +1,4 @@
 -- When a creation or a destruction is refused for want of entries.
-use Rattle.measurement.specs.Digests.{measured}
 use Rattle.std.specs.Prelude.{◌≡◌, ◌⊎◌, ℕ, None, Some, ◌*◌}
 use Rattle.measurement.specs.Requests.{parts_of}
 use Rattle.enclave_table.specs.Enclaves.{with_enclave}
@@ -24,7 +23,7 @@ use Rattle.hart_trace.specs.declared.reply.Reply.TheVariants as replies
 use Rattle.hart_sim.specs.States.{MachineState, core_of}
 use Rattle.hart_sim.specs.Changes.{calling}
 use Rattle.hart_sim.specs.Steps.{Serves}
-use Rattle.hart_sim.specs.Memory.{bytes_at}
+use Rattle.hart_sim.specs.Memory.{measured_in}
 
 -- a call was answered with this refusal
 abbrev pub IsAnsweredBy : Reply → Refusal → Type 0
@@ -44,15 +43,15 @@ CreatesByNeed =
     → AllPass (create_checks s.table (s.worlds hart) (parts_of asked))
     → Serves (DoesCall (Some (calls.Create asked.base asked.text_pages asked.data_pages
     asked.shared_base asked.shared_count asked.entry_offset))
-    (measured (λ page. bytes_at s.bytes (page * 4096) 4096)) (core_of s) hart) s hart reply new
-    → IsRefusedExactlyWhere (OutgrowsByCreate (measured (λ page. bytes_at s.bytes (page * 4096) 4096)) s.table
+    (measured_in s.bytes) (core_of s) hart) s hart reply new
+    → IsRefusedExactlyWhere (OutgrowsByCreate (measured_in s.bytes) s.table
     asked) reply
 
 abbrev pub DestroysByNeed : Type 0
 DestroysByNeed =
     (id : ℕ) (s : MachineState) (hart : ℕ) (reply : Reply) (new : MachineState)
     → AllPass (host_checks MayDestroy s.table (s.worlds hart) id)
-    → Serves (DoesCall (Some (calls.Destroy id)) (measured (λ page. bytes_at s.bytes (page * 4096) 4096))
+    → Serves (DoesCall (Some (calls.Destroy id)) (measured_in s.bytes)
     (core_of s) hart) s hart reply new
     → IsRefusedExactlyWhere (NeedsMore s.table.layout.limit
     (host_view (with_enclave s.table id None))) reply

@@ -9,7 +9,6 @@ use monitor_core::{Answer, MeasuresPages, PageRange};
 impl MachineParts {
     ghost use Rattle.std.specs.Prelude.{◌≡◌, ◌+◌, ◌^◌, ◌<◌, ◌≤◌, false, IfSome, Option, ◌*◌};
     ghost use Rattle.sbi_decode.specs.Calls.{call_of};
-    ghost use Rattle.measurement.specs.Digests.{measured};
     ghost use Rattle.monitor_core.specs.Changes.{with_running};
     ghost use Rattle.monitor_core.specs.States.{MonitorState};
     ghost use Rattle.monitor_core.specs.Steps.{DoesCall};
@@ -21,7 +20,7 @@ impl MachineParts {
     ghost use Rattle.hart_sim.specs.Parts.{state_in, bank_in};
     ghost use Rattle.hart_sim.specs.States.{core_of, with_core};
     ghost use Rattle.hart_sim.specs.Steps.{Serves, DoesEvent, Step};
-    ghost use Rattle.hart_sim.specs.Memory.{bytes_at};
+    ghost use Rattle.hart_sim.specs.Memory.{measured_in};
 
     /// Makes every byte of some pages zero, where there are any.
     fn zero(&mut self, pages: Option<PageRange>)
@@ -43,7 +42,7 @@ impl MachineParts {
         ensures frame { KeepsFrame self.old self.new hart }
         ensures served { let s = state_in self.old in let file = calling s hart words.now in
             (pages : Option PageRange) × (core : MonitorState)
-            × DoesCall (call_of file) (measured (λ page. bytes_at s.bytes (page * 4096) 4096))
+            × DoesCall (call_of file) (measured_in s.bytes)
             (with_running (core_of s) hart file) hart result pages core
             × (state_in self.new ≡ zeroing (with_core s core) pages) }
     {
@@ -68,7 +67,7 @@ impl MachineParts {
         requires awake { (state_in self.old).marked hart ≡ false }
         ensures frame { KeepsFrame self.old self.new hart }
         ensures step { let s = state_in self.old in let file = calling s hart words.now in
-            Serves (DoesCall (call_of file) (measured (λ page. bytes_at s.bytes (page * 4096) 4096))
+            Serves (DoesCall (call_of file) (measured_in s.bytes)
             (with_running (core_of s) hart file) hart) s hart result (state_in self.new) }
     {
         let answer = self.serve(hart, words);

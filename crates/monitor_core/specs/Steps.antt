@@ -55,10 +55,10 @@ Refused Why s hart answer zero new = (refusal : Refusal) × Why refusal
 -- the call that the registers name is done or refused, and an unknown one is refused. Create: one
 -- more enclave, whose digest is the one that its parts have, and the other harts are to load the
 -- host's new entries. Destroy: one fewer, its private pages are to be made zero, its registers are
--- zero, and the other harts as for create. Run: the enclave goes on at its entry and with its id, and the
--- host's registers wait. Resume: it goes on as it was stopped. Stop: the enclave will go on with 0
--- in a0 and a1, and the host goes on with 1 and 0 there. Exit: the enclave's registers are zero,
--- and the host goes on with 0 and the value. Measure: a word of the digest
+-- zero, and the other harts as for create. Run: the enclave goes on at its entry and with its id,
+-- and the host's registers wait. Resume: it goes on as it was stopped. Stop: the enclave will go on
+-- with 0 in a0 and a1, and the host goes on with 1 and 0 there. Exit: the enclave's registers are
+-- zero, and the host goes on with 0 and the value. Measure: a word of the digest
 abbrev pub DoesCall : Option Call → (Create → List ℕ) → MonitorState → ℕ → Answer → Option PageRange
     → MonitorState → Type 0
 DoesCall None digests s hart answer zero new = Refuses 2 s hart answer zero new

@@ -1,9 +1,8 @@
-use Rattle.measurement.specs.Digests.{measured}
 use Rattle.std.proofs.Common.{◌∙◌, ap, subst, ◌*◌}
 use Rattle.sbi_decode.specs.Calls.{call_of}
 use Rattle.monitor_core.specs.Changes.{with_running}
 use Rattle.monitor_core.specs.Steps.{DoesCall}
-use Rattle.hart_sim.specs.Memory.{bytes_at}
+use Rattle.hart_sim.specs.Memory.{measured_in}
 use Rattle.hart_trace.specs.declared.event.Event.TheVariants as events
 use Rattle.hart_sim.specs.Changes.{calling}
 use Rattle.hart_sim.specs.Parts.{state_in}
@@ -24,4 +23,4 @@ returns-clause-step c = λ right.
     let s = state_in c.wake.new.self in
     let new = state_in c.ecall.new.self in
     subst (λ s. DoesEvent (events.Ecall c.args.words.now) s c.args.hart c.ecall.result new) c.wake.ensures.state
-    (subst (λ words. Serves (DoesCall (call_of (calling s c.args.hart words)) (measured (λ page. bytes_at s.bytes (page * 4096) 4096)) (with_running (core_of s) c.args.hart (calling s c.args.hart words)) c.args.hart) s c.args.hart c.ecall.result new) c.as_slice.ensures.value c.ecall.ensures.step)
+    (subst (λ words. Serves (DoesCall (call_of (calling s c.args.hart words)) (measured_in s.bytes) (with_running (core_of s) c.args.hart (calling s c.args.hart words)) c.args.hart) s c.args.hart c.ecall.result new) c.as_slice.ensures.value c.ecall.ensures.step)

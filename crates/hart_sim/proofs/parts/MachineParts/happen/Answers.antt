@@ -1,4 +1,3 @@
-use Rattle.measurement.specs.Digests.{measured}
 use Rattle.std.proofs.Common.{◌≡◌, ℕ, sym, subst, List, Some, ◌*◌}
 use Rattle.pmp_encoding.specs.Banks.{HasList}
 use Rattle.pmp_encoding.specs.declared.bank.Bank.{Bank}
@@ -12,14 +11,14 @@ use Rattle.hart_sim.specs.States.{MachineState, core_of}
 use Rattle.hart_sim.specs.Steps.{Serves, DoesEvent, DoesBy}
 use Rattle.hart_sim.specs.declared.parts.MachineParts.{MachineParts}
 use Rattle.hart_sim.proofs.parts.MachineParts.happen.Goals as goal
-use Rattle.hart_sim.specs.Memory.{bytes_at}
+use Rattle.hart_sim.specs.Memory.{measured_in}
 
 pub returns-in-Ecall-clause-step : goal.returns-in-Ecall-clause-step
 returns-in-Ecall-clause-step c = λ right.
     let s = state_in c.args.self.now in
     let new = state_in c.ecall.new.self in
     subst (λ e. DoesEvent e s c.args.hart c.ecall.result new) (sym c.in-Ecall.is)
-    (subst (λ words. Serves (DoesCall (call_of (calling s c.args.hart words)) (measured (λ page. bytes_at s.bytes (page * 4096) 4096)) (with_running (core_of s) c.args.hart (calling s c.args.hart words)) c.args.hart) s c.args.hart c.ecall.result new) c.as_slice.ensures.value c.ecall.ensures.step)
+    (subst (λ words. Serves (DoesCall (call_of (calling s c.args.hart words)) (measured_in s.bytes) (with_running (core_of s) c.args.hart (calling s c.args.hart words)) c.args.hart) s c.args.hart c.ecall.result new) c.as_slice.ensures.value c.ecall.ensures.step)
 
 -- the list of the bank that is loaded on a hart
 abbrev Loaded : MachineParts → ℕ → List Entry → Type 0
@@ -41,7 +40,7 @@ returns-in-Ecall-clause-effect c =
     let s = state_in old in
     let new = state_in c.ecall.new.self in
     subst (λ e. DoesBy (Loaded old c.args.hart) e s c.args.hart c.ecall.result new) (sym c.in-Ecall.is)
-    (subst (λ words. Serves (DoesCall (call_of (calling s c.args.hart words)) (measured (λ page. bytes_at s.bytes (page * 4096) 4096)) (with_running (core_of s) c.args.hart (calling s c.args.hart words)) c.args.hart) s c.args.hart c.ecall.result new) c.as_slice.ensures.value c.ecall.ensures.step)
+    (subst (λ words. Serves (DoesCall (call_of (calling s c.args.hart words)) (measured_in s.bytes) (with_running (core_of s) c.args.hart (calling s c.args.hart words)) c.args.hart) s c.args.hart c.ecall.result new) c.as_slice.ensures.value c.ecall.ensures.step)
 
 pub returns-in-Irq-clause-effect : goal.returns-in-Irq-clause-effect
 returns-in-Irq-clause-effect c =

@@ -1,4 +1,3 @@
-use Rattle.measurement.specs.Digests.{measured}
 use Rattle.std.proofs.Common.{◌≡◌, ◌∙◌, ◌+◌, ◌^◌, ◌≤◌, ◌<◌, Option, None, Some, slice_get, ap, ap₂, sym, subst, ◌∷◌, [], ◌*◌}
 use Rattle.std.specs.Prelude.{IfSome}
 use Rattle.pmp_encoding.specs.declared.pages.PageRange.{PageRange}
@@ -13,7 +12,7 @@ use Rattle.hart_sim.specs.States.{view_on}
 use Rattle.hart_sim.proofs.Framed.{frame_served}
 use Rattle.monitor_core.proofs.Running.{call_there, others_put, loads_put}
 use Rattle.hart_sim.proofs.parts.MachineParts.serve.Goals as goal
-use Rattle.hart_sim.specs.Memory.{bytes_at}
+use Rattle.hart_sim.specs.Memory.{measured_in}
 
 -- pages that are to be zero are in the space
 in_space : (layout : PlatformLayout) (pages : Option PageRange) → IfSome pages (λ (range : PageRange). ClearsMemory layout range) → IfSome pages (λ (range : PageRange). range.first + range.count ≤ 2 ^ 44)
@@ -38,7 +37,7 @@ returns-clause-served c =
     let file = with_words (running_registers before c.args.hart) (17 ∷ (16 ∷ (10 ∷ (11 ∷ (12 ∷ (13 ∷ (14 ∷ (15 ∷ [])))))))) c.args.words.now in (
       r.zero,
       core,
-      call_there before (state_by c.put_call.new.monitor) core c.args.hart file (measured (λ page. bytes_at s.bytes (page * 4096) 4096)) r.answer r.zero c.put_call.ensures.state c.serve-served.ensures.step,
+      call_there before (state_by c.put_call.new.monitor) core c.args.hart file (measured_in s.bytes) r.answer r.zero c.put_call.ensures.state c.serve-served.ensures.step,
       ap₂ (λ m y. shown (state_by m) y) c.load_where.ensures.monitor c.load_where.ensures.memory ∙ c.zero.ensures.state,
     )
 

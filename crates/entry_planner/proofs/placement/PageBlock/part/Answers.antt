@@ -3,7 +3,7 @@ use Rattle.std.proofs.Common.{◌≡◌, ◌+◌, ◌-◌, ◌*◌, ap, subst, s
 use Rattle.entry_planner.specs.Placement.{ArePages}
 use Rattle.entry_planner.proofs.BlockPages.{pages_small}
 use Rattle.entry_planner.proofs.ChainKept.{inside_pages}
-use Rattle.entry_planner.proofs.placement.Pages.part.Goals as goal
+use Rattle.entry_planner.proofs.placement.PageBlock.part.Goals as goal
 
 pub pages_of-requires : goal.pages_of-requires
 pages_of-requires c = omega (arith, pages_small c.args.self.log2 c.args.self.first c.requires.pages)

@@ -1,7 +1,7 @@
 -- The lower half is a block of pages.
 use Rattle.std.proofs.Common.{◌+◌, ◌-◌, ◌≡◌, arith}
 use Rattle.entry_planner.proofs.Walked.{lower_are_pages}
-use Rattle.entry_planner.proofs.placement.Pages.lower.Goals as goal
+use Rattle.entry_planner.proofs.placement.PageBlock.lower.Goals as goal
 
 pub returns-clause-pages : goal.returns-clause-pages
 returns-clause-pages c =
