@@ -10,7 +10,7 @@ use Rattle.pmp_match.specs.declared.cause.Cause.{Cause}
 use Rattle.enclave_table.specs.Enclaves.{Live}
 use Rattle.enclave_table.specs.Views.{enclave_view}
 use Rattle.enclave_table.specs.declared.enclave.Enclave.{Enclave}
-use Rattle.sbi_decode.specs.Runners.{Runner, EnclaveOf, runner_of}
+use Rattle.sbi_decode.specs.Runners.{EnclaveOf, runner_of}
 use Rattle.hart_trace.specs.declared.event.Event.{Event}
 use Rattle.hart_trace.specs.declared.event.Event.TheVariants as events
 use Rattle.hart_trace.specs.declared.reply.Reply.{Reply}

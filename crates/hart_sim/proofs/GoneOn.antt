@@ -1,5 +1,5 @@
 -- However a run of lines ends, the machine is the one after the events that its first lines say.
-use Rattle.std.proofs.Common.{◌≡◌, ◌⊎◌, ◌∙◌, inl, inr, ℕ, ◌<◌, true, List, [], ◌∷◌, ◌++◌, length, Option, Some, Result, Ok, Err, refl, ap, sym, arith, append_assoc}
+use Rattle.std.proofs.Common.{◌≡◌, ◌∙◌, inl, inr, ℕ, ◌<◌, true, List, [], ◌∷◌, ◌++◌, length, Option, Some, Result, Ok, Err, refl, ap, sym, arith, append_assoc}
 use Rattle.std.specs.Prelude.{IfOk}
 use Rattle.platforms.specs.Platform.{PlatformLayout}
 use Rattle.hart_trace.specs.declared.event.Event.{Event}

@@ -1,5 +1,5 @@
 -- What becomes of registers over a step.
-use Rattle.std.proofs.Common.{◌≡◌, ℕ, refl, ap, sym, subst}
+use Rattle.std.proofs.Common.{ℕ, refl, ap, sym, subst}
 use Rattle.monitor_core.specs.States.{MonitorState}
 use Rattle.monitor_core.specs.Switches.{KeepsRegisters}
 use Rattle.monitor_core.proofs.Switched.{call_keeps_registers, interrupt_keeps_registers, marking_keeps_registers, putting_keeps_registers, put_before}

@@ -1,5 +1,5 @@
 -- When an event is refused for want of entries, and when out of memory.
-use Rattle.std.proofs.Common.{◌≡◌, ◌∙◌, inl, inr, ℕ, Bool, true, false, Option, None, ℤ, pos, Result, Ok, Err, refl, ap, sym, ◌*◌}
+use Rattle.std.proofs.Common.{◌≡◌, ◌∙◌, inl, inr, ℕ, Bool, true, false, Option, None, ℤ, pos, Result, Ok, Err, refl, ap, sym}
 use Rattle.pmp_match.specs.declared.access.Access.{Access}
 use Rattle.pmp_match.specs.declared.access.Kind.{Kind}
 use Rattle.pmp_match.specs.declared.access.Kind.TheVariants.{Fetch, Load, Store}

@@ -1,5 +1,5 @@
 -- When a creation or a destruction is refused for want of entries.
-use Rattle.std.specs.Prelude.{◌≡◌, ◌⊎◌, ℕ, None, Some, ◌*◌}
+use Rattle.std.specs.Prelude.{◌≡◌, ◌⊎◌, ℕ, None, Some}
 use Rattle.measurement.specs.Requests.{parts_of}
 use Rattle.enclave_table.specs.Enclaves.{with_enclave}
 use Rattle.enclave_table.specs.Views.{host_view}

@@ -1,4 +1,4 @@
-use Rattle.std.proofs.Common.{◌∙◌, ap, subst, ◌*◌}
+use Rattle.std.proofs.Common.{◌∙◌, ap, subst}
 use Rattle.sbi_decode.specs.Calls.{call_of}
 use Rattle.monitor_core.specs.Changes.{with_running}
 use Rattle.monitor_core.specs.Steps.{DoesCall}

@@ -1,4 +1,4 @@
-use Rattle.std.proofs.Common.{◌≡◌, ℕ, sym, subst, List, Some, ◌*◌}
+use Rattle.std.proofs.Common.{◌≡◌, ℕ, sym, subst, List, Some}
 use Rattle.pmp_encoding.specs.Banks.{HasList}
 use Rattle.pmp_encoding.specs.declared.bank.Bank.{Bank}
 use Rattle.pmp_encoding.specs.declared.region.Entry.{Entry}
@@ -7,7 +7,7 @@ use Rattle.monitor_core.specs.Changes.{with_running}
 use Rattle.monitor_core.specs.Steps.{DoesCall}
 use Rattle.hart_sim.specs.Changes.{calling}
 use Rattle.hart_sim.specs.Parts.{state_in, bank_in}
-use Rattle.hart_sim.specs.States.{MachineState, core_of}
+use Rattle.hart_sim.specs.States.{core_of}
 use Rattle.hart_sim.specs.Steps.{Serves, DoesEvent, DoesBy}
 use Rattle.hart_sim.specs.declared.parts.MachineParts.{MachineParts}
 use Rattle.hart_sim.proofs.parts.MachineParts.happen.Goals as goal

@@ -1,4 +1,4 @@
-use Rattle.std.proofs.Common.{◌≡◌, ◌∙◌, ◌+◌, ◌^◌, ◌≤◌, ◌<◌, Option, None, Some, slice_get, ap, ap₂, sym, subst, ◌∷◌, [], ◌*◌}
+use Rattle.std.proofs.Common.{◌≡◌, ◌∙◌, ◌+◌, ◌^◌, ◌≤◌, ◌<◌, Option, None, Some, slice_get, ap, ap₂, sym, subst, ◌∷◌, []}
 use Rattle.std.specs.Prelude.{IfSome}
 use Rattle.pmp_encoding.specs.declared.pages.PageRange.{PageRange}
 use Rattle.platforms.specs.Platform.{PlatformLayout}
