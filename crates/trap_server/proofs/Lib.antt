@@ -11,3 +11,8 @@ mod Filling
 mod Read
 mod Traps
 mod WordsBack
+mod LoadedBytes
+mod RegistersCame
+mod WorldsStay
+mod TrapsKept
+mod Firmware

@@ -14,7 +14,7 @@ use Rattle.trap_server.specs.declared.end.Refusal.TheVariants as refusals
 use Rattle.trap_server.specs.declared.fault.ServeFault.{ServeFault}
 use Rattle.trap_server.specs.declared.fault.ServeFault.TheVariants as faults
 use Rattle.trap_server.specs.Ends.{EndsAs, Refuses}
-use Rattle.trap_server.specs.Boot.{Boots, BootsOn, EndsAtFirst, IsFirstAnswer, RefusesFirst, StopsAtFirst, others}
+use Rattle.trap_server.specs.Boot.{Boots, BootsOn, EndsAtFirst, IsFirstAnswer, MayOpen, RefusesFirst, StopsAtFirst, others}
 use Rattle.trap_server.specs.Platforms.{IsNoPlatform, IsPlatformFrame, ReadsPlatform}
 use Rattle.trap_server.specs.Traps.{IsNoTrap, IsTrapFrame, ReadsTrap}
 use Rattle.trap_server.specs.Answered.{AreAwake, IsAnswer, given_on, no_answer}
@@ -33,6 +33,7 @@ pub record Progress (count : ℕ) (now : MonitorState) (hosts : ℕ → ControlW
   pub written : List ℕ
   pub size : length first ≡ 1336
   pub platform : IsPlatformFrame first layout
+  pub may_open : MayOpen layout
   pub begins : IsFirstAnswer layout opened
   pub served : Served (opening_monitor layout) first_words read written now hosts
   pub counted : trap_count served ≡ count
@@ -48,9 +49,9 @@ appended_as held holds xs ys e c = subst (Appends held holds) e c
 
 -- the opening state
 opened_at :
-    (layout : PlatformLayout) (first opened : List ℕ) (before after held middle holds : Option (List ℕ)) → length first ≡ 1336 → IsPlatformFrame first layout → Consumes before after first → Appends held middle []
+    (layout : PlatformLayout) (first opened : List ℕ) (before after held middle holds : Option (List ℕ)) → length first ≡ 1336 → IsPlatformFrame first layout → Consumes before after first → Appends held middle [] → MayOpen layout
     → IsFirstAnswer layout opened → Appends middle holds opened → Progress 0 (opening_monitor layout) first_words before after held holds
-opened_at layout first opened before after held middle holds size platform consumed nothing answer wrote = record {
+opened_at layout first opened before after held middle holds size platform consumed nothing opens answer wrote = record {
   layout = layout;
   first = first;
   opened = opened;
@@ -58,6 +59,7 @@ opened_at layout first opened before after held middle holds size platform consu
   written = [];
   size = size;
   platform = platform;
+  may_open = opens;
   begins = answer;
   served = no_trap;
   counted = refl;
@@ -77,10 +79,10 @@ opens s hosts layout opened harts woken is words n w answer =
 
 pub begins :
     (s : MonitorState) (hosts : ℕ → ControlWords) (layout : PlatformLayout) (first opened : List ℕ) (harts : ℕ) (woken : List Bool) (before after held middle holds : Option (List ℕ)) → length first ≡ 1336 → IsPlatformFrame first layout → s ≡ opening_monitor layout → hosts ≡ first_words
-    → Consumes before after first → Appends held middle [] → harts ≡ s.table.layout.harts → woken ≡ others harts → IsAnswer s (given_on s hosts 0) 0 no_answer None woken opened → Appends middle holds opened → Progress 0 s hosts before after held holds
-begins s hosts layout first opened harts woken before after held middle holds size platform is words consumed nothing n w answer wrote =
+    → Consumes before after first → Appends held middle [] → MayOpen layout → harts ≡ s.table.layout.harts → woken ≡ others harts → IsAnswer s (given_on s hosts 0) 0 no_answer None woken opened → Appends middle holds opened → Progress 0 s hosts before after held holds
+begins s hosts layout first opened harts woken before after held middle holds size platform is words consumed nothing may n w answer wrote =
     subst (λ (hs : ℕ → ControlWords). Progress 0 s hs before after held holds) (sym words)
-    (subst (λ (x : MonitorState). Progress 0 x first_words before after held holds) (sym is) (opened_at layout first opened before after held middle holds size platform consumed nothing (opens s hosts layout opened harts woken is words n w answer) wrote))
+    (subst (λ (x : MonitorState). Progress 0 x first_words before after held holds) (sym is) (opened_at layout first opened before after held middle holds size platform consumed nothing may (opens s hosts layout opened harts woken is words n w answer) wrote))
 
 -- it was not written whole
 pub answer_stops :
@@ -108,6 +110,7 @@ goes_on count old new hosts kept trap frame harts before now mid after held midd
   written = p.written ++ (s.1 ++ s.2);
   size = p.size;
   platform = p.platform;
+  may_open = p.may_open;
   begins = p.begins;
   served = next_trap p.served trap frame s.0 s.1 s.2 new kept size (subst (λ k. IsTrapFrame frame k trap) n is) s.3;
   counted = ap (λ k. k + 1) p.counted;
@@ -131,6 +134,8 @@ ran count now hosts before mid after held middle holds beyond rest p came wrote 
   count = count;
   size = p.size;
   platform = p.platform;
+  rules = p.may_open.0;
+  fits = p.may_open.1;
   begins = p.begins;
   served = p.served;
   counted = p.counted;
@@ -194,5 +199,5 @@ refuses_first refusals.Memory bytes after size not = absurd not
 pub booted :
     (result : Result Monitor ServeFault) (layout : PlatformLayout) (first : List ℕ) (before after held holds : Option (List ℕ)) → length first ≡ 1336 → IsPlatformFrame first layout → Consumes before after first → BootsOn result layout held holds
     → Boots result before after held holds
-booted (Ok monitor) layout first before after held holds size is consumed boots = (layout, first, size, is, boots.0, consumed, boots.1)
+booted (Ok monitor) layout first before after held holds size is consumed boots = (layout, first, size, is, boots.0, consumed, boots.1, boots.2)
 booted (Err fault) layout first before after held holds size is consumed boots = (first, boots.0, boots.1 first after size is, consumed, boots.2)

@@ -9,7 +9,6 @@ use Rattle.platforms.specs.declared.platform.PlatformFault.{PlatformFault}
 use Rattle.trap_server.specs.declared.frame_fault.FrameFault.{FrameFault}
 use Rattle.trap_server.specs.declared.frame_fault.FrameFault.TheVariants as faults
 use Rattle.trap_server.specs.declared.end.Refusal.{Refusal}
-use Rattle.trap_server.specs.declared.end.Refusal.TheVariants.{NotUnderstood}
 use Rattle.trap_server.specs.FrameBytes.{Filled}
 use Rattle.trap_server.specs.PageDigest.{ArePages, Asks, IsNoPage, IsPageFrame, Measures, ReadsPage, question_of}
 use Rattle.trap_server.specs.Traps.{CountsWrite}

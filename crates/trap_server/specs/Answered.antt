@@ -1,6 +1,7 @@
 -- With what harts go on.
-use Rattle.std.specs.Prelude.{◌≡◌, ◌<◌, ◌+◌, ◌-◌, ◌^◌, ℕ, ℤ, negsuc, zero, suc, Bool, true, false}
-use Rattle.std.specs.Prelude.{List, [], ◌∷◌, slice_index_or, Option, pos}
+use Rattle.std.specs.Prelude.{◌≡◌, ◌<◌, ◌≤◌, ◌+◌, ◌-◌, ◌^◌, ℕ, ℤ, negsuc, zero, suc, Bool, true}
+use Rattle.std.specs.Prelude.{false, List, [], ◌∷◌, length, slice_index_or, Option, pos}
+use Rattle.pmp_encoding.specs.Limits.{limit_number}
 use Rattle.pmp_encoding.specs.declared.pages.PageRange.{PageRange}
 use Rattle.pmp_encoding.specs.declared.region.Entry.{Entry}
 use Rattle.pmp_match.specs.Meaning.{IsFewest}
@@ -23,12 +24,13 @@ abbrev pub marks_of : MonitorState → List Bool
 marks_of s = s.marked 0 ∷ (s.marked 1 ∷ (s.marked 2 ∷ (s.marked 3 ∷ [])))
 
 -- these entries are those of a hart, and of each other that loads them with it: they mean what the
--- world there may do, and no list that does is shorter
+-- world there may do, and no list that does is shorter. Each hart has room for them
 pub record AreEntries (s : MonitorState) (hart : ℕ) (woken : List Bool) (entries : List Entry) :
     Type 0 where
   pub here : IsFewest (current_view s.table (s.worlds hart)) entries
   pub there : (other : ℕ) → other < s.table.layout.harts → slice_index_or woken other false ≡ true
       → IsFewest (current_view s.table (s.worlds other)) entries
+  pub room : length entries ≤ limit_number s.table.layout.limit
 
 -- a status as a word of 64 bits, in two's complement
 abbrev pub status_word : ℤ → ℕ

@@ -2,11 +2,13 @@
 use Rattle.std.specs.Prelude.{◌≡◌, ◌⊎◌, ◌<◌, ℕ, Bool, false, nat_lt, List, [], ◌∷◌, length, Option}
 use Rattle.std.specs.Prelude.{None, Result, Ok, Err}
 use Rattle.std.specs.Io.KnownBytes.{Appends, Consumes, IsAtEnd}
-use Rattle.platforms.specs.Platform.{PlatformLayout}
+use Rattle.platforms.specs.Platform.{IsLayout, PlatformLayout}
 use Rattle.monitor_core.specs.declared.monitor.Monitor.{Monitor}
 use Rattle.monitor_core.specs.Monitors.{state_by}
 use Rattle.monitor_core.specs.States.{opening_monitor}
-use Rattle.enclave_table.specs.Boot.{IsBootFault}
+use Rattle.enclave_table.specs.Boot.{IsBootFault, opening_table}
+use Rattle.enclave_table.specs.Fewest.{FitsIn}
+use Rattle.enclave_table.specs.Views.{host_view}
 use Rattle.platforms.specs.declared.boot_fault.BootFault.TheVariants.{NeedsMoreEntries}
 use Rattle.trap_server.specs.Platforms.{IsNoPlatform, IsPlatformFrame}
 use Rattle.trap_server.specs.declared.end.Refusal.{Refusal}
@@ -64,6 +66,10 @@ abbrev pub EndsAtFirst : ServeFault → Option (List ℕ) → Option (List ℕ) 
 EndsAtFirst fault before after held holds = (read rest : List ℕ)
     × StopsAtFirst fault read rest after × Consumes before after read × Appends held holds rest
 
+-- the platform keeps its rules, and there are as many entries as the host's view needs at first
+abbrev pub MayOpen : PlatformLayout → Type 0
+MayOpen layout = IsLayout layout × FitsIn layout.limit (host_view (opening_table layout))
+
 -- the platform was read and nothing written, and the monitor is as at its opening; or the
 -- loop ends, and why
 abbrev pub Boots : Result Monitor ServeFault → Option (List ℕ) → Option (List ℕ) → Option (List ℕ)
@@ -71,14 +77,14 @@ abbrev pub Boots : Result Monitor ServeFault → Option (List ℕ) → Option (L
 Boots (Ok monitor) before after held holds =
     (layout : PlatformLayout) × (first : List ℕ) × (length first ≡ 1336)
     × IsPlatformFrame first layout × (state_by monitor ≡ opening_monitor layout)
-    × Consumes before after first × Appends held holds []
+    × Consumes before after first × Appends held holds [] × MayOpen layout
 Boots (Err fault) before after held holds = EndsAtFirst fault before after held holds
 
 -- the same of a platform that was read
 abbrev pub BootsOn : Result Monitor ServeFault → PlatformLayout → Option (List ℕ) → Option (List ℕ)
     → Type 0
 BootsOn (Ok monitor) layout held holds = (state_by monitor ≡ opening_monitor layout)
-    × Appends held holds []
+    × Appends held holds [] × MayOpen layout
 BootsOn (Err fault) layout held holds =
     (rest : List ℕ) × ((read : List ℕ) (after : Option (List ℕ)) → length read ≡ 1336
     → IsPlatformFrame read layout → StopsAtFirst fault read rest after)

@@ -4,6 +4,7 @@ pub mod Ends
 pub mod Steps
 pub mod Boot
 pub mod Runs
+pub mod Firmware
 pub mod Numbers
 pub mod Served
 pub mod Tables

@@ -1,7 +1,10 @@
 -- A run of the loop.
 use Rattle.std.specs.Prelude.{◌≡◌, ◌⊎◌, ℕ, ◌+◌, ◌-◌, ◌^◌, ◌<◌, List, [], ◌++◌, length, Option}
 use Rattle.std.specs.Io.KnownBytes.{Appends, Consumes}
-use Rattle.platforms.specs.Platform.{PlatformLayout}
+use Rattle.platforms.specs.Platform.{IsLayout, PlatformLayout}
+use Rattle.enclave_table.specs.Boot.{opening_table}
+use Rattle.enclave_table.specs.Fewest.{FitsIn}
+use Rattle.enclave_table.specs.Views.{host_view}
 use Rattle.monitor_core.specs.States.{MonitorState, opening_monitor}
 use Rattle.trap_server.specs.declared.words.ControlWords.{ControlWords}
 use Rattle.trap_server.specs.Given.{keeping}
@@ -58,8 +61,8 @@ KeepsWhatCame = (old : MonitorState) (hosts : ℕ
 abbrev pub first_words : ℕ → ControlWords
 first_words hart = first_host_words
 
--- the platform was read and its answer written; then traps were served, and after them these bytes
--- were read and written
+-- the platform was read, which keeps its rules and has as many entries as the host's view needs,
+-- and its answer written; then traps were served, and after them these bytes were read and written
 pub record Ran (before after held holds : Option (List ℕ)) (beyond rest : List ℕ) : Type 0 where
   pub layout : PlatformLayout
   pub first : List ℕ
@@ -71,6 +74,8 @@ pub record Ran (before after held holds : Option (List ℕ)) (beyond rest : List
   pub count : ℕ
   pub size : length first ≡ 1336
   pub platform : IsPlatformFrame first layout
+  pub rules : IsLayout layout
+  pub fits : FitsIn layout.limit (host_view (opening_table layout))
   pub begins : IsFirstAnswer layout opened
   pub served : Serves (opening_monitor layout) first_words read written state hosts
   pub counted : trap_count served ≡ count

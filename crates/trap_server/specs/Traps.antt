@@ -1,6 +1,6 @@
 -- The frame of a trap.
-use Rattle.std.specs.Prelude.{◌≡◌, ◌⊎◌, ℕ, ◌+◌, ◌<◌, ◌≤◌, List, [], length, Option, Some, None}
-use Rattle.std.specs.Prelude.{Result, Ok, Err}
+use Rattle.std.specs.Prelude.{◌≡◌, ◌⊎◌, ℕ, ◌+◌, ◌/◌, ◌%◌, ◌^◌, ◌<◌, ◌≤◌, ◌==◌, Bool, false, List}
+use Rattle.std.specs.Prelude.{[], length, Option, Some, None, Result, Ok, Err}
 use Rattle.std.specs.Io.KnownBytes.{Consumes, IsAtEnd}
 use Rattle.byte_streams.specs.Streams.{WriteFails, one_failure_more}
 use Rattle.sbi_decode.specs.Registers.{RegisterFile, x_of}
@@ -35,7 +35,12 @@ pub record HasControl (bytes : List ℕ) (words : ControlWords) : Type 0 where
   pub mideleg : words.mideleg ≡ word_at bytes 42
   pub mode : words.mode ≡ word_at bytes 43
 
--- the bytes are the frame of a trap on one of so many harts
+-- MPP in the word of the mode, bits 12:11, is 3, which says machine mode
+abbrev pub is_machine : ℕ → Bool
+is_machine mode = mode / 2 ^ 11 % 4 == 3
+
+-- the bytes are the frame of a trap on one of so many harts, of a world that runs below machine
+-- mode
 pub record IsTrapFrame (bytes : List ℕ) (harts : ℕ) (trap : Trap) : Type 0 where
   pub tag : IsTagOf trap.event (word_at bytes 0)
   pub hart : word_at bytes 1 ≡ trap.hart
@@ -43,6 +48,7 @@ pub record IsTrapFrame (bytes : List ℕ) (harts : ℕ) (trap : Trap) : Type 0 w
   pub registers : HasRegisters bytes trap.registers
   pub control_follows : word_at bytes 34 ≡ control_tag
   pub control : HasControl bytes trap.control
+  pub below : is_machine trap.control.mode ≡ false
 
 -- bytes that are no frame of a trap: they have its size and are none, or the input ends within it
 abbrev pub IsNoTrap : List ℕ → ℕ → Option (List ℕ) → Type 0

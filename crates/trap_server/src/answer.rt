@@ -144,7 +144,7 @@ fn put_control(frame: &mut AnswerBytes, control: &ControlWords)
     put_word(frame, 122, control.mode);
 }
 
-/// Writes the frame with what a hart goes on: its registers, the entries that it loads, and its control words.
+/// Writes the frame with what a hart goes on: its registers, the entries that it loads, at most 64, and its control words.
 #[inline(always)]
 pub fn put_answer(
     frame: &mut AnswerBytes,
@@ -153,6 +153,7 @@ pub fn put_answer(
     entries: &[Entry],
     control: &ControlWords,
 )
+    requires { length entries.now ≤ 64 }
     ensures { frame.new ≡ answer_bytes head.now registers.now entries.now control.now }
 {
     put_head(frame, head, entries.len() as u64);

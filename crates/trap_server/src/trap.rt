@@ -68,6 +68,13 @@ fn control_in(bytes: &[u8; 352]) -> ControlWords
     }
 }
 
+/// Whether the word of the mode says machine mode, to which no world returns.
+fn is_machine(mode: u64) -> bool
+    ensures { result ≡ is_machine mode }
+{
+    mode / 2048 % 4 == 3
+}
+
 /// What happened, by the tag.
 fn event_in(tag: u64) -> Option<Event>
     ensures some { IfSome result (λ event. IsTagOf event tag) }
@@ -91,6 +98,9 @@ fn trap_in(bytes: &[u8; 352], harts: u8) -> Option<Trap>
         return None;
     }
     if word(bytes, 34) != TAG_CONTROL {
+        return None;
+    }
+    if is_machine(word(bytes, 43)) {
         return None;
     }
     Some(Trap {
@@ -123,5 +133,5 @@ pub fn read_trap<R: Source>(source: &mut R, harts: u8) -> Result<Option<Trap>, F
     }
 }
 
-ghost use Rattle.trap_server.specs.Traps.{IsTagOf};
+ghost use Rattle.trap_server.specs.Traps.{IsTagOf, is_machine};
 ghost use Rattle.trap_server.specs.declared.trap.Event.{Event as EventOf};

@@ -1,4 +1,5 @@
-use Rattle.std.proofs.Common.{◌∙◌, ℕ, ap, sym, subst}
+use Rattle.std.proofs.Common.{◌∙◌, ℕ, ap, arith, sym, subst}
+use Rattle.pmp_encoding.proofs.Filled.{limit_most}
 use Rattle.pmp_match.specs.Meaning.{IsFewest}
 use Rattle.sbi_decode.specs.declared.world.World.{World}
 use Rattle.sbi_decode.specs.Registers.{RegisterFile}
@@ -9,6 +10,12 @@ use Rattle.trap_server.specs.Given.{host_words, words_in}
 use Rattle.trap_server.specs.Answers.{answer_bytes}
 use Rattle.trap_server.specs.Answered.{head_of}
 use Rattle.trap_server.proofs.service.put_frame.Goals as goal
+
+pub put_answer-requires : goal.put_answer-requires
+put_answer-requires c =
+    let room = c.entries.ensures.room in
+    let most = limit_most (state_by c.args.monitor.now).table.layout.limit in
+    omega (arith, room, most)
 
 pub returns : goal.returns
 returns c =
@@ -22,6 +29,7 @@ returns c =
         there = λ other known is.
             let both = c.requires.woken other known is in
             subst (λ w. IsFewest (view_of s.table w) entries) (both.1 ∙ sym both.0) c.entries.ensures.fewest;
+        room = c.entries.ensures.room;
       },
       c.put_answer.ensures
           ∙ ap (λ (w : World). answer_bytes (record { hart = hart; world = w; status = c.status_word.result; value = c.args.answer.now.value; zero = c.args.zero; woken = c.args.woken }) c.registers.result.now entries given) c.world-world.ensures

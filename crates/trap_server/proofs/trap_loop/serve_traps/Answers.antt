@@ -24,7 +24,7 @@ loop-count-init g c =
     let w = c.in-Ok-write_answer.ensures.bytes in
     record {
       progress = begins (state_by c.in-Ok.monitor) (host_words c.new-hosts.result) b.0 b.1 w.0 c.harts-harts.result c.others.result (g.R.Source.remaining c.args.source.now) (g.R.Source.remaining c.boot.new.source) (g.W.Sink.contents c.args.sink.now)
-          (g.W.Sink.contents c.boot.new.sink) (g.W.Sink.contents c.write_answer.new.sink) b.2 b.3 b.4 c.new-hosts.ensures b.5 b.6 c.harts-harts.ensures.value c.others.ensures w.1 w.2;
+          (g.W.Sink.contents c.boot.new.sink) (g.W.Sink.contents c.write_answer.new.sink) b.2 b.3 b.4 c.new-hosts.ensures b.5 b.6 b.7 c.harts-harts.ensures.value c.others.ensures w.1 w.2;
       harts = c.harts-harts.ensures.value;
       reads = c.in-Ok.ensures.reads;
       writes = (c.in-Ok-write_answer.ensures.writes.0 ∙ c.in-Ok.ensures.writes.0, c.in-Ok-write_answer.ensures.writes.1 ∙ c.in-Ok.ensures.writes.1);

@@ -1,0 +1,212 @@
+-- What one trap keeps that was served.
+use Rattle.std.proofs.Common.{◌≡◌, ◌≢◌, ◌∙◌, ◌<◌, ◌≤◌, ◌||◌, ◌⊎◌, ◌==◌, if◌then◌else◌, inl, inr, ℕ, zero, suc, pos, false, List, Option, Some, None, IfSome, slice_index_or, refl, ap, sym, subst, arith}
+use Rattle.pmp_encoding.specs.Views.{SameView}
+use Rattle.pmp_encoding.specs.declared.pages.PageRange.{PageRange}
+use Rattle.measurement.specs.declared.request.Create.{Create}
+use Rattle.measurement.specs.Digests.{pages_from}
+use Rattle.measurement.specs.Requests.{is_shared}
+use Rattle.sbi_decode.specs.Calls.{call_of}
+use Rattle.sbi_decode.specs.Registers.{RegisterFile}
+use Rattle.sbi_decode.specs.Runners.{EnclaveOf}
+use Rattle.sbi_decode.specs.declared.world.World.{World}
+use Rattle.sbi_decode.specs.declared.world.World.TheVariants.{Host, Enclave as InEnclave}
+use Rattle.enclave_table.specs.Enclaves.{EnclaveTable, enclave_at}
+use Rattle.enclave_table.specs.Refusals.{refusal_number}
+use Rattle.enclave_table.specs.Tables.{IsTable}
+use Rattle.enclave_table.specs.Views.{current_view}
+use Rattle.enclave_table.specs.declared.refusal.Refusal.{Refusal}
+use Rattle.enclave_table.specs.declared.refusal.Refusal.TheVariants.{NoEntries, NoMemory}
+use Rattle.enclave_table.proofs.Places.{live_above, live_inside, set_same}
+use Rattle.monitor_core.specs.Answers.{below_zero}
+use Rattle.monitor_core.specs.Changes.{past_call, with_running}
+use Rattle.monitor_core.specs.Frames.{ClearsMemory, KeepsOthers}
+use Rattle.monitor_core.specs.Measured.{Measures, asked_in}
+use Rattle.monitor_core.specs.States.{MonitorState}
+use Rattle.monitor_core.specs.Switches.{HasExited, KeepsRegisters, runner_on}
+use Rattle.monitor_core.specs.Wants.{IsRefusedByNeed}
+use Rattle.monitor_core.specs.Worlds.{ArePlaced}
+use Rattle.monitor_core.proofs.Cases.{both}
+use Rattle.monitor_core.proofs.Cleared.{call_clears_memory}
+use Rattle.monitor_core.proofs.Others.{others_call, others_irq}
+use Rattle.monitor_core.proofs.Put.{put_there}
+use Rattle.monitor_core.proofs.Switched.{call_keeps_registers, interrupt_keeps_registers, put_before}
+use Rattle.monitor_core.proofs.Wanted.{call_refused_by_need}
+use Rattle.monitor_core.proofs.WorldsKept.{putting_keeps_worlds}
+use Rattle.monitor_core.proofs.Zeroed as zeroed
+use Rattle.monitor_core.proofs.Zeroed.{Clears, lost_call, lost_irq}
+use Rattle.trap_server.specs.declared.trap.Event.{Event}
+use Rattle.trap_server.specs.declared.trap.Event.TheVariants.{Call, Stop}
+use Rattle.trap_server.specs.declared.trap.Trap.{Trap}
+use Rattle.trap_server.specs.declared.words.ControlWords.{ControlWords}
+use Rattle.trap_server.specs.Answered.{marks_of, no_answer, unmarked}
+use Rattle.trap_server.specs.Firmware.{AreDestroyed, AreThose, AsksMemory, KeepsTrap, called, private_pages}
+use Rattle.trap_server.specs.Given.{GivesWords, keeping, words_in}
+use Rattle.trap_server.specs.Service.{AsksFor, ServesAs, ServesCall, ServesStop, ServesTrap}
+use Rattle.trap_server.specs.Traps.{is_machine}
+use Rattle.trap_server.proofs.RegistersCame.{Through, call_through, interrupt_through}
+use Rattle.trap_server.proofs.WorldsStay.{call_elsewhere, interrupt_elsewhere}
+
+-- the private pages of a creation that passes its checks
+measured_memory : (asked : Option Create) (table : EnclaveTable) (world : World) (parts : Create) → Measures asked table world parts → ClearsMemory table.layout (private_pages parts)
+measured_memory None table world parts m = absurd m
+measured_memory (Some asked) table world parts m =
+    let pass = m.1 in
+    let places = pass.1.1.0 in
+    let ends = places.private.1 in
+    record {
+      inside = omega (arith, ends);
+      in_ram = λ page is. pass.1.1.1.1.0 page (ap (λ b. b || is_shared parts page) is);
+      not_monitor = λ page is. (pass.1.1.1.1.1.0.owned page (ap (λ b. b || is_shared parts page) is)).0;
+    }
+
+pub asks_memory : (asked : Option Create) (s : MonitorState) (hart : ℕ) (question read : List ℕ) (pages : ℕ → List ℕ) → AsksFor asked s hart question read pages → AsksMemory s.table.layout question read
+asks_memory asked s hart question read pages (inl none) = inl (none.0, none.1)
+asks_memory asked s hart question read pages (inr some) =
+    let parts = some.0 in
+    let range = private_pages parts in
+    inr (range, pages_from pages range.first range.count, measured_memory asked s.table (s.worlds hart) parts some.1, some.2, some.3)
+
+-- of harts that are woken only the marks change
+not_marked : (s : MonitorState) (hart harts : ℕ) → hart < harts → harts ≤ 4 → slice_index_or (marks_of s) hart false ≡ false → s.marked hart ≡ false
+not_marked s zero harts low most is = is
+not_marked s (suc zero) harts low most is = is
+not_marked s (suc (suc zero)) harts low most is = is
+not_marked s (suc (suc (suc zero))) harts low most is = is
+not_marked s (suc (suc (suc (suc n)))) harts low most is = absurd (omega (arith, low, most))
+
+woken_registers : (s mid new : MonitorState) (hart : ℕ) → new ≡ unmarked 4 mid → KeepsRegisters s hart mid → KeepsRegisters s hart new
+woken_registers s mid new hart woken k =
+    let all : KeepsRegisters s hart (unmarked 4 mid) = record { gone = k.gone; exited = k.exited; others = k.others; host = k.host; enclave = k.enclave } in
+    subst (KeepsRegisters s hart) (sym woken) all
+
+woken_others :
+    (s mid new : MonitorState) (hart : ℕ) → new ≡ unmarked 4 mid → s.table.layout.harts ≤ 4 → KeepsOthers s mid hart → (other : ℕ) → other ≢ hart → other < s.table.layout.harts → slice_index_or (marks_of mid) other false ≡ false
+    → SameView (current_view s.table (s.worlds other)) (current_view new.table (new.worlds other))
+woken_others s mid new hart woken most keeps other differs low off =
+    subst (λ (y : MonitorState). SameView (current_view s.table (s.worlds other)) (current_view y.table (y.worlds other))) (sym woken) (keeps.views other differs low (not_marked mid other s.table.layout.harts low most off))
+
+-- an enclave is in user mode, and no world in machine mode where no host came so
+user_mode :
+    (hosts kept : ℕ → ControlWords) (hart : ℕ) (before after : World) (came given : ControlWords) → GivesWords hosts hart before after came kept given → (id : ℕ) → after ≡ InEnclave id → given.mode ≡ 0
+user_mode hosts kept hart before after came given w id at = ap (λ (x : ControlWords). x.mode) (w.gives ∙ ap (λ v. words_in v (kept hart)) at)
+
+abbrev pub AreBelow : (ℕ → ControlWords) → Type 0
+AreBelow hosts = (hart : ℕ) → is_machine (hosts hart).mode ≡ false
+
+kept_below : (before : World) (hosts : ℕ → ControlWords) (hart : ℕ) (came : ControlWords) → AreBelow hosts → is_machine came.mode ≡ false → AreBelow (keeping before hosts hart came)
+kept_below Host hosts hart came all below = λ other. both (other == hart)
+    (λ yes. ap (λ t. is_machine (if t then came else hosts other).mode) yes ∙ below)
+    (λ no. ap (λ t. is_machine (if t then came else hosts other).mode) no ∙ all other)
+kept_below (InEnclave id) hosts hart came all below = all
+
+pub still_below : (hosts kept : ℕ → ControlWords) (hart : ℕ) (before after : World) (came given : ControlWords) → GivesWords hosts hart before after came kept given → AreBelow hosts → is_machine came.mode ≡ false → AreBelow kept
+still_below hosts kept hart before after came given w all below = subst AreBelow (sym w.keeps) (kept_below before hosts hart came all below)
+
+words_below : (after : World) (host : ControlWords) → is_machine host.mode ≡ false → is_machine (words_in after host).mode ≡ false
+words_below Host host below = below
+words_below (InEnclave id) host below = refl
+
+given_below : (hosts kept : ℕ → ControlWords) (hart : ℕ) (before after : World) (came given : ControlWords) → GivesWords hosts hart before after came kept given → AreBelow kept → is_machine given.mode ≡ false
+given_below hosts kept hart before after came given w all = ap (λ (x : ControlWords). is_machine x.mode) w.gives ∙ words_below after (kept hart) (all hart)
+
+-- pages that are to be made zero are those of an enclave that is gone
+destroyed :
+    (s mid new : MonitorState) (wiped : Option PageRange) → new ≡ unmarked 4 mid → IfSome wiped (λ range. ClearsMemory s.table.layout range) → (wiped ≡ None) ⊎ ((range : PageRange) × (wiped ≡ Some range) × Clears s mid range) → IfSome wiped (AreDestroyed s new)
+destroyed s mid new wiped woken memory (inl none) = subst (λ o. IfSome o (AreDestroyed s new)) (sym none) tt
+destroyed s mid new wiped woken memory (inr some) =
+    let c = some.2 in
+    let clears : ClearsMemory s.table.layout some.0 = subst (λ o. IfSome o (λ range. ClearsMemory s.table.layout range)) some.1 memory in
+    let none : enclave_at new.table.enclaves c.id ≡ None =
+    ap (λ (y : MonitorState). enclave_at y.table.enclaves c.id) woken ∙ ap (λ (t : EnclaveTable). enclave_at t.enclaves c.id) c.table
+    ∙ set_same s.table.enclaves c.id None (live_above s.table.enclaves c.id c.enclave c.live) (live_inside s.table.enclaves c.id c.enclave c.live) in
+    subst (λ o. IfSome o (AreDestroyed s new)) (sym some.1) (clears, (c.id, (c.enclave, c.live, none), c.own))
+
+-- a call leaves the registers that came, past it
+past : (came file now : RegisterFile) → file ≡ past_call came → Through file now → AreThose Call came now
+past came file now is through = subst (λ f. Through f now) is through
+
+-- what every trap has, before which the table was sound and each enclave on one hart
+pub record IsReady (s : MonitorState) (hart : ℕ) : Type 0 where
+  pub known : hart < s.table.layout.harts
+  pub most : s.table.layout.harts ≤ 4
+  pub table : IsTable s.table
+  pub placed : ArePlaced s
+
+call_kept :
+    (s : MonitorState) (hosts kept : ℕ → ControlWords) (trap : Trap) (given : ControlWords) (read question answered : List ℕ) (new : MonitorState) → IsReady s trap.hart → trap.event ≡ Call
+    → GivesWords hosts trap.hart (s.worlds trap.hart) (new.worlds trap.hart) trap.control kept given → AreBelow kept → ServesCall s trap given read question answered new → KeepsTrap s hosts trap read question answered new kept
+call_kept s hosts kept trap given read question answered new ready is words all x =
+    let hart = trap.hart in
+    let file = past_call trap.registers in
+    let call = call_of file in
+    let t = with_running s hart file in
+    let me = runner_on s hart in
+    let placed = putting_keeps_worlds s hart file ready.placed in
+    let Refused = λ (e : Event). IsRefusedByNeed (called e trap.registers) s.table (s.worlds hart) (λ refusal. x.answer.status ≡ below_zero (refusal_number refusal)) in
+    record {
+      answer = x.answer;
+      cleared = x.cleared;
+      woken = marks_of x.mid;
+      given = given;
+      says = x.goes_on;
+      need = subst Refused (sym is) (call_refused_by_need call x.pages t hart x.answer x.cleared x.mid ready.table x.step);
+      asks = asks_memory (asked_in (call_of trap.registers)) s hart question read x.pages x.asks;
+      zeroes = destroyed t x.mid new x.cleared x.woken (call_clears_memory call x.pages t hart x.answer x.cleared x.mid ready.table x.step) (zeroed.cleared call x.pages t hart x.answer x.cleared x.mid x.step);
+      destroys = λ id gone. lost_call call x.pages t hart x.answer x.cleared x.mid id gone.0 gone.1 (sym (ap (λ (y : MonitorState). enclave_at y.table.enclaves id) x.woken) ∙ gone.2) x.step;
+      stays = λ other differs. ap (λ (y : MonitorState). y.worlds other) x.woken ∙ call_elsewhere call x.pages t hart x.answer x.cleared x.mid other differs x.step;
+      others = woken_others t x.mid new hart x.woken ready.most (others_call call x.pages t hart x.answer x.cleared x.mid ready.known placed x.step);
+      registers = woken_registers s x.mid new hart x.woken (put_before s x.mid hart file (call_keeps_registers call x.pages t hart x.answer x.cleared x.mid x.step));
+      came = λ none.
+          let lived = λ (id : ℕ) (mine : me ≡ EnclaveOf id) (over : HasExited t x.mid id). none id mine (subst (λ (y : MonitorState). HasExited s y id) (sym x.woken) over) in
+          let through = call_through call x.pages t hart x.answer x.cleared x.mid (placed.current hart ready.known) x.step lived in
+          subst (λ (e : Event). AreThose e trap.registers (new.registers me)) (sym is)
+          (subst (λ (y : MonitorState). AreThose Call trap.registers (y.registers me)) (sym x.woken) (past trap.registers _ _ (put_there s hart file) through));
+      words = words;
+      below = given_below hosts kept hart (s.worlds hart) (new.worlds hart) trap.control given words all;
+      user = user_mode hosts kept hart (s.worlds hart) (new.worlds hart) trap.control given words;
+    }
+
+-- what is no call is refused by no number
+none_refused : (refusal : Refusal) → no_answer.status ≡ below_zero (refusal_number refusal) → ⊥
+none_refused refusal is = let z : pos 0 ≡ below_zero (refusal_number refusal) = is in cc
+
+stop_kept :
+    (s : MonitorState) (hosts kept : ℕ → ControlWords) (trap : Trap) (given : ControlWords) (read question answered : List ℕ) (new : MonitorState) → IsReady s trap.hart → trap.event ≡ Stop
+    → GivesWords hosts trap.hart (s.worlds trap.hart) (new.worlds trap.hart) trap.control kept given → AreBelow kept → ServesStop s trap given read question answered new → KeepsTrap s hosts trap read question answered new kept
+stop_kept s hosts kept trap given read question answered new ready is words all x =
+    let hart = trap.hart in
+    let file = trap.registers in
+    let t = with_running s hart file in
+    let me = runner_on s hart in
+    let world = s.worlds hart in
+    let placed = putting_keeps_worlds s hart file ready.placed in
+    let Refused = λ (e : Event). IsRefusedByNeed (called e file) s.table world (λ refusal. no_answer.status ≡ below_zero (refusal_number refusal)) in
+    record {
+      answer = no_answer;
+      cleared = None;
+      woken = marks_of x.mid;
+      given = given;
+      says = x.goes_on;
+      need = subst Refused (sym is) (record { entries = λ said. absurd (none_refused NoEntries said); outgrown = λ pass out. absurd pass; memory = λ said. absurd (none_refused NoMemory said) });
+      asks = inl (x.nothing_asked, x.nothing_read);
+      zeroes = tt;
+      destroys = λ id gone. absurd (lost_irq world t hart x.mid id gone.0 gone.1 (sym (ap (λ (y : MonitorState). enclave_at y.table.enclaves id) x.woken) ∙ gone.2) x.step);
+      stays = λ other differs. ap (λ (y : MonitorState). y.worlds other) x.woken ∙ interrupt_elsewhere world t hart x.mid other differs x.step;
+      others = woken_others t x.mid new hart x.woken ready.most (others_irq world t hart x.mid refl ready.known placed x.step);
+      registers = woken_registers s x.mid new hart x.woken (put_before s x.mid hart file (interrupt_keeps_registers world t hart x.mid refl x.step));
+      came = λ none. subst (λ (e : Event). AreThose e file (new.registers me)) (sym is)
+          (ap (λ (y : MonitorState). y.registers me) x.woken ∙ interrupt_through world t hart x.mid refl x.step ∙ put_there s hart file);
+      words = words;
+      below = given_below hosts kept hart world (new.worlds hart) trap.control given words all;
+      user = user_mode hosts kept hart world (new.worlds hart) trap.control given words;
+    }
+
+by_event :
+    (event : Event) (s : MonitorState) (hosts kept : ℕ → ControlWords) (trap : Trap) (given : ControlWords) (read question answered : List ℕ) (new : MonitorState) → IsReady s trap.hart → trap.event ≡ event
+    → GivesWords hosts trap.hart (s.worlds trap.hart) (new.worlds trap.hart) trap.control kept given → AreBelow kept → ServesAs event s trap given read question answered new → KeepsTrap s hosts trap read question answered new kept
+by_event Call s hosts kept trap given read question answered new ready is words all x = call_kept s hosts kept trap given read question answered new ready is words all x
+by_event Stop s hosts kept trap given read question answered new ready is words all x = stop_kept s hosts kept trap given read question answered new ready is words all x
+
+pub trap_kept :
+    (s : MonitorState) (hosts kept : ℕ → ControlWords) (trap : Trap) (read question answered : List ℕ) (new : MonitorState) → IsReady s trap.hart → AreBelow kept → ServesTrap s hosts trap read question answered new kept → KeepsTrap s hosts trap read question answered new kept
+trap_kept s hosts kept trap read question answered new ready all x = by_event trap.event s hosts kept trap x.given read question answered new ready refl x.words all x.step

@@ -1,0 +1,181 @@
+-- What holds after every list of traps that was served and answered.
+use Rattle.std.specs.Prelude.{◌≡◌, ◌≢◌, ◌⊎◌, ℕ, ◌+◌, ◌/◌, ◌%◌, ◌^◌, ◌<◌, ◌≤◌, ◌==◌, zero, suc}
+use Rattle.std.specs.Prelude.{Bool, false, ◌||◌, if◌then◌else◌, List, [], ◌∷◌, length}
+use Rattle.std.specs.Prelude.{slice_index_or, Option, None, Some, IfSome, ⊤}
+use Rattle.pmp_encoding.specs.declared.limit.Limit.{Limit}
+use Rattle.pmp_encoding.specs.declared.pages.PageRange.{PageRange}
+use Rattle.pmp_encoding.specs.declared.region.Entry.{Entry}
+use Rattle.pmp_encoding.specs.Limits.{limit_number}
+use Rattle.pmp_encoding.specs.Lists.{MeansList}
+use Rattle.pmp_encoding.specs.Views.{SameView, View}
+use Rattle.pmp_match.specs.Meaning.{IsFewest}
+use Rattle.sbi_decode.specs.declared.calls.Call.{Call as SbiCall}
+use Rattle.sbi_decode.specs.declared.world.World.TheVariants.{Enclave as InEnclave}
+use Rattle.sbi_decode.specs.Calls.{call_of}
+use Rattle.sbi_decode.specs.Registers.{RegisterFile, with_x}
+use Rattle.sbi_decode.specs.Runners.{EnclaveOf}
+use Rattle.measurement.specs.declared.request.Create.{Create}
+use Rattle.platforms.specs.Platform.{IsLayout, PlatformLayout}
+use Rattle.enclave_table.specs.Refusals.{refusal_number}
+use Rattle.enclave_table.specs.Tables.{IsTable}
+use Rattle.enclave_table.specs.Views.{current_view}
+use Rattle.monitor_core.specs.Answers.{below_zero}
+use Rattle.monitor_core.specs.Changes.{past_call}
+use Rattle.monitor_core.specs.Frames.{ClearsMemory}
+use Rattle.monitor_core.specs.States.{MonitorState, opening_monitor}
+use Rattle.monitor_core.specs.Switches.{HasExited, IsGone, KeepsRegisters, runner_on}
+use Rattle.monitor_core.specs.Wants.{IsRefusedByNeed}
+use Rattle.monitor_core.specs.Worlds.{ArePlaced}
+use Rattle.monitor_core.specs.declared.answer.Answer.{Answer}
+use Rattle.trap_server.specs.declared.trap.Event.{Event}
+use Rattle.trap_server.specs.declared.trap.Event.TheVariants.{Call, Stop}
+use Rattle.trap_server.specs.declared.trap.Trap.{Trap}
+use Rattle.trap_server.specs.declared.words.ControlWords.{ControlWords}
+use Rattle.trap_server.specs.Answered.{AreAwake, IsAnswer}
+use Rattle.trap_server.specs.Boot.{IsFirstAnswer}
+use Rattle.trap_server.specs.Given.{GivesWords}
+use Rattle.trap_server.specs.PageDigest.{ArePages, question_bytes}
+use Rattle.trap_server.specs.Runs.{Serves, first_words, next_trap, no_trap}
+use Rattle.trap_server.specs.Traps.{is_machine}
+use Rattle.trap_server.specs.Words.{word_at}
+
+-- the configuration byte of entry i in the bytes of an answer
+abbrev pub loaded_cfg : List ℕ → ℕ → ℕ
+loaded_cfg bytes i = slice_index_or bytes (328 + i) 0
+
+-- its address register there
+abbrev pub loaded_address : List ℕ → ℕ → ℕ
+loaded_address bytes i = word_at bytes (49 + i)
+
+-- the pairs of the entries from `first` on, `count` of them
+abbrev pub loaded_pairs : List ℕ → ℕ → ℕ → List (ℕ × ℕ)
+loaded_pairs bytes first zero = []
+loaded_pairs bytes first (suc count) = (loaded_cfg bytes first, loaded_address bytes first)
+    ∷ loaded_pairs bytes (suc first) count
+
+-- the registers in the bytes of an answer have a list that means a view, and no list that does is
+-- shorter. A hart of so many entries has room for it, and every entry after it is OFF
+pub record HasFewest (bytes : List ℕ) (limit : Limit) (view : View) : Type 0 where
+  pub entries : List Entry
+  pub fewest : IsFewest view entries
+  pub room : length entries ≤ limit_number limit
+  pub list : MeansList (loaded_pairs bytes 0 (limit_number limit)) entries
+  pub off : (i : ℕ) → length entries ≤ i → i < 64 → (loaded_cfg bytes i ≡ 0)
+      × (loaded_address bytes i ≡ 0)
+
+-- a hart loads the entries of an answer that names it, or that has its bit among the woken
+abbrev pub is_loaded : List ℕ → ℕ → Bool
+is_loaded bytes hart = word_at bytes 1 == hart || word_at bytes 8 / 2 ^ hart % 2 == 1
+
+-- the last answer whose entries a hart loaded, the answer to the platform included
+abbrev pub loaded_last : (opened : List ℕ) {old : MonitorState} {hosts : ℕ
+    → ControlWords} {read written : List ℕ} {new : MonitorState} {kept : ℕ
+    → ControlWords} → Serves old hosts read written new kept → ℕ → List ℕ
+loaded_last opened no_trap hart = opened
+loaded_last opened (next_trap served trap frame more question answered new kept size is step) hart =
+    if is_loaded answered hart then answered else loaded_last opened served hart
+
+-- the call that a trap is, if it is one
+abbrev pub called : Event → RegisterFile → Option SbiCall
+called Call registers = call_of registers
+called Stop registers = None
+
+-- the private pages of an enclave
+abbrev pub private_pages : Create → PageRange
+private_pages parts = record {
+  first = parts.base / 4096;
+  count = parts.text_pages + parts.data_pages;
+}
+
+-- pages that are to be made zero are memory, and none is the monitor's; and they are the private
+-- pages of an enclave that was destroyed
+abbrev pub AreDestroyed : MonitorState → MonitorState → PageRange → Type 0
+AreDestroyed old new range = ClearsMemory old.table.layout range
+    × ((id : ℕ) × (gone : IsGone old new id) × (range ≡ private_pages gone.0.parts))
+
+-- either no page was asked for and none was read; or pages were asked for that are memory, none the
+-- monitor's, and each was read once, by rising number
+abbrev pub AsksMemory : PlatformLayout → List ℕ → List ℕ → Type 0
+AsksMemory layout question read =
+    ((question ≡ []) × (read ≡ []))
+    ⊎ ((range : PageRange) × (pages : List (List ℕ)) × ClearsMemory layout range
+    × (question ≡ question_bytes range.first range.count)
+    × ArePages range.first range.count read pages)
+
+-- the registers that a world is left with which trapped: those that came; after a call the program
+-- counter is past it, and a0 and a1 may be an answer
+abbrev pub AreThose : Event → RegisterFile → RegisterFile → Type 0
+AreThose Call came now =
+    (now ≡ past_call came)
+    ⊎ ((first second : ℕ) × (now ≡ with_x (with_x (past_call came) 10 first) 11 second))
+AreThose Stop came now = now ≡ came
+
+-- what is kept over a trap that was served: what was asked for and read, the answer, and the state
+-- before and after
+pub record KeepsTrap (old : MonitorState) (hosts : ℕ → ControlWords) (trap : Trap)
+    (read question answered : List ℕ) (new : MonitorState) (kept : ℕ → ControlWords) : Type 0 where
+  -- what the answer says: its status and value, the pages that are to be made zero, the harts that
+  -- are woken, and the control words
+  pub answer : Answer
+  pub cleared : Option PageRange
+  pub woken : List Bool
+  pub given : ControlWords
+  pub says : IsAnswer new given trap.hart answer cleared woken answered
+  -- a creation or destruction is refused for want of entries just where a view after it needs more
+  pub need :
+      IsRefusedByNeed (called trap.event trap.registers) old.table (old.worlds trap.hart)
+      (λ refusal. answer.status ≡ below_zero (refusal_number refusal))
+  -- pages that are asked for, and pages that are to be made zero
+  pub asks : AsksMemory old.table.layout question read
+  pub zeroes : IfSome cleared (AreDestroyed old new)
+  pub destroys : (id : ℕ) → (gone : IsGone old new id)
+      → cleared ≡ Some (private_pages gone.0.parts)
+  -- each other hart stays in its world, and if it is not woken its view stays too: it may go on
+  -- with the entries that it has
+  pub stays : (other : ℕ) → other ≢ trap.hart → new.worlds other ≡ old.worlds other
+  pub others :
+      (other : ℕ) → other ≢ trap.hart → other < old.table.layout.harts
+      → slice_index_or woken other false ≡ false
+      → SameView (current_view old.table (old.worlds other))
+      (current_view new.table (new.worlds other))
+  -- the registers of each world; those of the one that trapped, if that was no exit
+  pub registers : KeepsRegisters old trap.hart new
+  pub came : ((id : ℕ) → runner_on old trap.hart ≡ EnclaveOf id → HasExited old new id → ⊥)
+      → AreThose trap.event trap.registers (new.registers (runner_on old trap.hart))
+  -- each world has its own control words; none goes on in machine mode, and an enclave in user mode
+  pub words : GivesWords hosts trap.hart (old.worlds trap.hart) (new.worlds trap.hart) trap.control
+      kept given
+  pub below : is_machine given.mode ≡ false
+  pub user : (id : ℕ) → new.worlds trap.hart ≡ InEnclave id → given.mode ≡ 0
+
+-- each trap of a run keeps that
+abbrev pub AreKept : {old : MonitorState} {hosts : ℕ
+    → ControlWords} {read written : List ℕ} {new : MonitorState} {kept : ℕ
+    → ControlWords} → Serves old hosts read written new kept → Type 0
+AreKept no_trap = ⊤
+AreKept (next_trap {mid = mid} {now = now} served trap frame more question answered new kept size is
+    step) = AreKept served × KeepsTrap mid now trap more question answered new kept
+
+-- after any traps: the table is sound, and the platform is the one that was read. Each hart is in
+-- the host's world or in that of an enclave that is Running, and each of these runs on just one; no
+-- hart is to be woken. The entries that each hart loaded last mean the view of its world, by the
+-- fewest that do. No host that waits is to go on in machine mode. And what each trap kept
+pub record FirmwareHeadline (layout : PlatformLayout) (opened read written : List ℕ)
+    (s : MonitorState) (kept : ℕ → ControlWords)
+    (served : Serves (opening_monitor layout) first_words read written s kept) : Type 0 where
+  pub table : IsTable s.table
+  pub platform : s.table.layout ≡ layout
+  pub worlds : ArePlaced s
+  pub awake : AreAwake s
+  pub banks : (hart : ℕ) → hart < layout.harts
+      → HasFewest (loaded_last opened served hart) layout.limit
+      (current_view s.table (s.worlds hart))
+  pub modes : (hart : ℕ) → is_machine (kept hart).mode ≡ false
+  pub each : AreKept served
+
+-- so it is on every platform that keeps its rules
+abbrev pub KeepsAll : Type 0
+KeepsAll = (layout : PlatformLayout) (opened read written : List ℕ) (s : MonitorState) (kept : ℕ
+    → ControlWords) (served : Serves (opening_monitor layout) first_words read written s kept)
+    → IsLayout layout → IsFirstAnswer layout opened
+    → FirmwareHeadline layout opened read written s kept served
