@@ -133,8 +133,8 @@ next_good Call layout s trap given read question answered new most low good x =
     let hart = trap.hart in
     let file = past_call trap.registers in
     let t = with_running s hart file in
-    woken_good layout x.mid new most x.woken (call_keeps_table (call_of file) x.pages t hart x.answer x.cleared x.mid x.step good.table) (call_keeps_layout (call_of file) x.pages t hart x.answer x.cleared x.mid x.step ∙ good.platform)
-    (call_keeps_worlds (call_of file) x.pages t hart x.answer x.cleared x.mid low (good.awake hart low) x.step (putting_keeps_worlds s hart file good.worlds))
+    woken_good layout x.mid new most x.woken (call_keeps_table (call_of file) (λ parts. x.digest) t hart x.answer x.cleared x.mid x.step good.table) (call_keeps_layout (call_of file) (λ parts. x.digest) t hart x.answer x.cleared x.mid x.step ∙ good.platform)
+    (call_keeps_worlds (call_of file) (λ parts. x.digest) t hart x.answer x.cleared x.mid low (good.awake hart low) x.step (putting_keeps_worlds s hart file good.worlds))
 next_good Stop layout s trap given read question answered new most low good x =
     let hart = trap.hart in
     let t = with_running s hart trap.registers in

@@ -1,4 +1,5 @@
 -- The registers with which a world is left that made a call, or was interrupted.
+use Rattle.measurement.specs.declared.request.Create.{Create}
 use Rattle.std.proofs.Common.{◌≡◌, ◌≢◌, ◌⊎◌, ◌∙◌, ◌-◌, ◌^◌, inl, inr, ℕ, List, Option, Some, None, if◌then◌else◌, refl, ap, sym, subst}
 use Rattle.std.proofs.lemmas.Bool.{eq-eqb}
 use Rattle.std.proofs.lemmas.Option.{same_Some}
@@ -65,12 +66,12 @@ exits s n hart id l current =
     )
 
 pub call_through :
-    (call : Option Call) (pages : ℕ → List ℕ) (s : MonitorState) (hart : ℕ) (answer : Answer) (zero : Option PageRange) (n : MonitorState) → IsCurrent s.table (s.worlds hart) → DoesCall call pages s hart answer zero n
+    (call : Option Call) (digests : Create → List ℕ) (s : MonitorState) (hart : ℕ) (answer : Answer) (zero : Option PageRange) (n : MonitorState) → IsCurrent s.table (s.worlds hart) → DoesCall call digests s hart answer zero n
     → ((id : ℕ) → runner_on s hart ≡ EnclaveOf id → HasExited s n id → ⊥) → Through (running_registers s hart) (n.registers (runner_on s hart))
-call_through None pages s hart answer zero n current x none = refused 2 s hart answer zero n x
-call_through (Some (calls.Create base text_pages data_pages shared_base shared_count entry_offset)) pages s hart answer zero n current (inl x) none = told s hart 0 x.0 _ (ap (λ y. y.registers (runner_on s hart)) x.3.state)
-call_through (Some (calls.Create base text_pages data_pages shared_base shared_count entry_offset)) pages s hart answer zero n current (inr x) none = refused (refusal_number x.0) s hart answer zero n x.2
-call_through (Some (calls.Destroy id)) pages s hart answer zero n current (inl x) none =
+call_through None digests s hart answer zero n current x none = refused 2 s hart answer zero n x
+call_through (Some (calls.Create base text_pages data_pages shared_base shared_count entry_offset)) digests s hart answer zero n current (inl x) none = told s hart 0 x.0 _ (ap (λ y. y.registers (runner_on s hart)) x.3.state)
+call_through (Some (calls.Create base text_pages data_pages shared_base shared_count entry_offset)) digests s hart answer zero n current (inr x) none = refused (refusal_number x.0) s hart answer zero n x.2
+call_through (Some (calls.Destroy id)) digests s hart answer zero n current (inl x) none =
     let me = runner_on s hart in
     let kept = λ (who : Runner). if is_same who (EnclaveOf id) then zeros else s.registers who in
     inr (
@@ -79,23 +80,23 @@ call_through (Some (calls.Destroy id)) pages s hart answer zero n current (inl x
       ap (λ y. y.registers me) x.3.state ∙ ap (λ t. if t then with_x (with_x (kept me) 10 0) 11 0 else kept me) (same_self me)
           ∙ ap (λ t. with_x (with_x (if t then zeros else s.registers me) 10 0) 11 0) (same_not me (EnclaveOf id) (host_not s hart id x.2.passes.0)),
     )
-call_through (Some (calls.Destroy id)) pages s hart answer zero n current (inr x) none = refused (refusal_number x.0) s hart answer zero n x.2
-call_through (Some (calls.Run id)) pages s hart answer zero n current (inl x) none =
+call_through (Some (calls.Destroy id)) digests s hart answer zero n current (inr x) none = refused (refusal_number x.0) s hart answer zero n x.2
+call_through (Some (calls.Run id)) digests s hart answer zero n current (inl x) none =
     let me = runner_on s hart in
     inl (ap (λ y. y.registers me) x.4.state ∙ ap (λ t. if t then first_registers id x.0.parts else s.registers me) (same_not me (EnclaveOf id) (host_not s hart id x.3.passes.0)))
-call_through (Some (calls.Run id)) pages s hart answer zero n current (inr x) none = refused (refusal_number x.0) s hart answer zero n x.2
-call_through (Some calls.Stop) pages s hart answer zero n current (inl x) none =
+call_through (Some (calls.Run id)) digests s hart answer zero n current (inr x) none = refused (refusal_number x.0) s hart answer zero n x.2
+call_through (Some calls.Stop) digests s hart answer zero n current (inl x) none =
     let me = runner_on s hart in
     told s hart 0 0 _ (ap (λ y. y.registers me) x.3.state ∙ back_other (answering (record s { table = x.1 }) hart 0 0) hart 1 0 me (enclave_not s hart x.0 x.2.left))
-call_through (Some calls.Stop) pages s hart answer zero n current (inr x) none = refused (refusal_number x.0) s hart answer zero n x.2
-call_through (Some (calls.Resume id)) pages s hart answer zero n current (inl x) none = inl (ap (λ y. y.registers (runner_on s hart)) x.4.state)
-call_through (Some (calls.Resume id)) pages s hart answer zero n current (inr x) none = refused (refusal_number x.0) s hart answer zero n x.2
-call_through (Some (calls.Exit value)) pages s hart answer zero n current (inl x) none =
+call_through (Some calls.Stop) digests s hart answer zero n current (inr x) none = refused (refusal_number x.0) s hart answer zero n x.2
+call_through (Some (calls.Resume id)) digests s hart answer zero n current (inl x) none = inl (ap (λ y. y.registers (runner_on s hart)) x.4.state)
+call_through (Some (calls.Resume id)) digests s hart answer zero n current (inr x) none = refused (refusal_number x.0) s hart answer zero n x.2
+call_through (Some (calls.Exit value)) digests s hart answer zero n current (inl x) none =
     let l : Leaves s.table (s.worlds hart) Exited x.0 n.table = subst (Leaves s.table (s.worlds hart) Exited x.0) (sym (ap (λ y. y.table) x.3.state)) x.2 in
     absurd (none x.0 (ap (runner_of hart) x.2.left) (exits s n hart x.0 l current))
-call_through (Some (calls.Exit value)) pages s hart answer zero n current (inr x) none = refused (refusal_number x.0) s hart answer zero n x.2
-call_through (Some (calls.Measure id k)) pages s hart answer zero n current (inl x) none = told s hart 0 x.0 _ (ap (λ y. y.registers (runner_on s hart)) x.2.state)
-call_through (Some (calls.Measure id k)) pages s hart answer zero n current (inr x) none = refused (refusal_number x.0) s hart answer zero n x.2
+call_through (Some (calls.Exit value)) digests s hart answer zero n current (inr x) none = refused (refusal_number x.0) s hart answer zero n x.2
+call_through (Some (calls.Measure id k)) digests s hart answer zero n current (inl x) none = told s hart 0 x.0 _ (ap (λ y. y.registers (runner_on s hart)) x.2.state)
+call_through (Some (calls.Measure id k)) digests s hart answer zero n current (inr x) none = refused (refusal_number x.0) s hart answer zero n x.2
 
 pub interrupt_through : (world : World) (s : MonitorState) (hart : ℕ) (n : MonitorState) → s.worlds hart ≡ world → Interrupts world s hart n → n.registers (runner_on s hart) ≡ running_registers s hart
 interrupt_through Host s hart n at x = ap (λ y. y.registers (runner_on s hart)) x

@@ -59,12 +59,12 @@ measured_memory (Some asked) table world parts m =
       not_monitor = λ page is. (pass.1.1.1.1.1.0.owned page (ap (λ b. b || is_shared parts page) is)).0;
     }
 
-pub asks_memory : (asked : Option Create) (s : MonitorState) (hart : ℕ) (question read : List ℕ) (pages : ℕ → List ℕ) → AsksFor asked s hart question read pages → AsksMemory s.table.layout question read
-asks_memory asked s hart question read pages (inl none) = inl (none.0, none.1)
-asks_memory asked s hart question read pages (inr some) =
+pub asks_memory : (asked : Option Create) (s : MonitorState) (hart : ℕ) (question read digest : List ℕ) → AsksFor asked s hart question read digest → AsksMemory s.table.layout question read
+asks_memory asked s hart question read digest (inl none) = inl (none.0, none.1)
+asks_memory asked s hart question read digest (inr some) =
     let parts = some.0 in
     let range = private_pages parts in
-    inr (range, pages_from pages range.first range.count, measured_memory asked s.table (s.worlds hart) parts some.1, some.2, some.3)
+    inr (range, some.3, measured_memory asked s.table (s.worlds hart) parts some.1, some.2, some.4)
 
 -- of harts that are woken only the marks change
 not_marked : (s : MonitorState) (hart harts : ℕ) → hart < harts → harts ≤ 4 → slice_index_or (marks_of s) hart false ≡ false → s.marked hart ≡ false
@@ -149,16 +149,16 @@ call_kept s hosts kept trap given read question answered new ready is words all 
       woken = marks_of x.mid;
       given = given;
       says = x.goes_on;
-      need = subst Refused (sym is) (call_refused_by_need call x.pages t hart x.answer x.cleared x.mid ready.table x.step);
-      asks = asks_memory (asked_in (call_of trap.registers)) s hart question read x.pages x.asks;
-      zeroes = destroyed t x.mid new x.cleared x.woken (call_clears_memory call x.pages t hart x.answer x.cleared x.mid ready.table x.step) (zeroed.cleared call x.pages t hart x.answer x.cleared x.mid x.step);
-      destroys = λ id gone. lost_call call x.pages t hart x.answer x.cleared x.mid id gone.0 gone.1 (sym (ap (λ (y : MonitorState). enclave_at y.table.enclaves id) x.woken) ∙ gone.2) x.step;
-      stays = λ other differs. ap (λ (y : MonitorState). y.worlds other) x.woken ∙ call_elsewhere call x.pages t hart x.answer x.cleared x.mid other differs x.step;
-      others = woken_others t x.mid new hart x.woken ready.most (others_call call x.pages t hart x.answer x.cleared x.mid ready.known placed x.step);
-      registers = woken_registers s x.mid new hart x.woken (put_before s x.mid hart file (call_keeps_registers call x.pages t hart x.answer x.cleared x.mid x.step));
+      need = subst Refused (sym is) (call_refused_by_need call (λ parts. x.digest) t hart x.answer x.cleared x.mid ready.table x.step);
+      asks = asks_memory (asked_in (call_of trap.registers)) s hart question read x.digest x.asks;
+      zeroes = destroyed t x.mid new x.cleared x.woken (call_clears_memory call (λ parts. x.digest) t hart x.answer x.cleared x.mid ready.table x.step) (zeroed.cleared call (λ parts. x.digest) t hart x.answer x.cleared x.mid x.step);
+      destroys = λ id gone. lost_call call (λ parts. x.digest) t hart x.answer x.cleared x.mid id gone.0 gone.1 (sym (ap (λ (y : MonitorState). enclave_at y.table.enclaves id) x.woken) ∙ gone.2) x.step;
+      stays = λ other differs. ap (λ (y : MonitorState). y.worlds other) x.woken ∙ call_elsewhere call (λ parts. x.digest) t hart x.answer x.cleared x.mid other differs x.step;
+      others = woken_others t x.mid new hart x.woken ready.most (others_call call (λ parts. x.digest) t hart x.answer x.cleared x.mid ready.known placed x.step);
+      registers = woken_registers s x.mid new hart x.woken (put_before s x.mid hart file (call_keeps_registers call (λ parts. x.digest) t hart x.answer x.cleared x.mid x.step));
       came = λ none.
           let lived = λ (id : ℕ) (mine : me ≡ EnclaveOf id) (over : HasExited t x.mid id). none id mine (subst (λ (y : MonitorState). HasExited s y id) (sym x.woken) over) in
-          let through = call_through call x.pages t hart x.answer x.cleared x.mid (placed.current hart ready.known) x.step lived in
+          let through = call_through call (λ parts. x.digest) t hart x.answer x.cleared x.mid (placed.current hart ready.known) x.step lived in
           subst (λ (e : Event). AreThose e trap.registers (new.registers me)) (sym is)
           (subst (λ (y : MonitorState). AreThose Call trap.registers (y.registers me)) (sym x.woken) (past trap.registers _ _ (put_there s hart file) through));
       words = words;

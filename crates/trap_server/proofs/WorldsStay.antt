@@ -1,4 +1,5 @@
 -- A call and an interrupt leave each other hart in its world.
+use Rattle.measurement.specs.declared.request.Create.{Create}
 use Rattle.std.proofs.Common.{◌≡◌, ◌≢◌, ◌∙◌, ◌==◌, inl, inr, ℕ, List, Option, Some, None, if◌then◌else◌, ap}
 use Rattle.std.proofs.lemmas.Bool.{ne_eqb}
 use Rattle.pmp_encoding.specs.declared.pages.PageRange.{PageRange}
@@ -15,22 +16,22 @@ elsewhere : (s n : MonitorState) (hart other : ℕ) (to : World) → other ≢ h
 elsewhere s n hart other to differs is = is ∙ ap (λ t. if t then to else s.worlds other) (ne_eqb other hart differs)
 
 pub call_elsewhere :
-    (call : Option Call) (pages : ℕ → List ℕ) (s : MonitorState) (hart : ℕ) (answer : Answer) (zero : Option PageRange) (n : MonitorState) (other : ℕ) → other ≢ hart → DoesCall call pages s hart answer zero n → n.worlds other ≡ s.worlds other
-call_elsewhere None pages s hart answer zero n other differs x = ap (λ y. y.worlds other) x.state
-call_elsewhere (Some (calls.Create base text_pages data_pages shared_base shared_count entry_offset)) pages s hart answer zero n other differs (inl x) = ap (λ y. y.worlds other) x.3.state
-call_elsewhere (Some (calls.Create base text_pages data_pages shared_base shared_count entry_offset)) pages s hart answer zero n other differs (inr x) = ap (λ y. y.worlds other) x.2.state
-call_elsewhere (Some (calls.Destroy id)) pages s hart answer zero n other differs (inl x) = ap (λ y. y.worlds other) x.3.state
-call_elsewhere (Some (calls.Destroy id)) pages s hart answer zero n other differs (inr x) = ap (λ y. y.worlds other) x.2.state
-call_elsewhere (Some (calls.Measure id k)) pages s hart answer zero n other differs (inl x) = ap (λ y. y.worlds other) x.2.state
-call_elsewhere (Some (calls.Measure id k)) pages s hart answer zero n other differs (inr x) = ap (λ y. y.worlds other) x.2.state
-call_elsewhere (Some (calls.Run id)) pages s hart answer zero n other differs (inl x) = elsewhere s n hart other (InEnclave id) differs (ap (λ y. y.worlds other) x.4.state)
-call_elsewhere (Some (calls.Run id)) pages s hart answer zero n other differs (inr x) = ap (λ y. y.worlds other) x.2.state
-call_elsewhere (Some calls.Stop) pages s hart answer zero n other differs (inl x) = elsewhere s n hart other Host differs (ap (λ y. y.worlds other) x.3.state)
-call_elsewhere (Some calls.Stop) pages s hart answer zero n other differs (inr x) = ap (λ y. y.worlds other) x.2.state
-call_elsewhere (Some (calls.Resume id)) pages s hart answer zero n other differs (inl x) = elsewhere s n hart other (InEnclave id) differs (ap (λ y. y.worlds other) x.4.state)
-call_elsewhere (Some (calls.Resume id)) pages s hart answer zero n other differs (inr x) = ap (λ y. y.worlds other) x.2.state
-call_elsewhere (Some (calls.Exit value)) pages s hart answer zero n other differs (inl x) = elsewhere s n hart other Host differs (ap (λ y. y.worlds other) x.3.state)
-call_elsewhere (Some (calls.Exit value)) pages s hart answer zero n other differs (inr x) = ap (λ y. y.worlds other) x.2.state
+    (call : Option Call) (digests : Create → List ℕ) (s : MonitorState) (hart : ℕ) (answer : Answer) (zero : Option PageRange) (n : MonitorState) (other : ℕ) → other ≢ hart → DoesCall call digests s hart answer zero n → n.worlds other ≡ s.worlds other
+call_elsewhere None digests s hart answer zero n other differs x = ap (λ y. y.worlds other) x.state
+call_elsewhere (Some (calls.Create base text_pages data_pages shared_base shared_count entry_offset)) digests s hart answer zero n other differs (inl x) = ap (λ y. y.worlds other) x.3.state
+call_elsewhere (Some (calls.Create base text_pages data_pages shared_base shared_count entry_offset)) digests s hart answer zero n other differs (inr x) = ap (λ y. y.worlds other) x.2.state
+call_elsewhere (Some (calls.Destroy id)) digests s hart answer zero n other differs (inl x) = ap (λ y. y.worlds other) x.3.state
+call_elsewhere (Some (calls.Destroy id)) digests s hart answer zero n other differs (inr x) = ap (λ y. y.worlds other) x.2.state
+call_elsewhere (Some (calls.Measure id k)) digests s hart answer zero n other differs (inl x) = ap (λ y. y.worlds other) x.2.state
+call_elsewhere (Some (calls.Measure id k)) digests s hart answer zero n other differs (inr x) = ap (λ y. y.worlds other) x.2.state
+call_elsewhere (Some (calls.Run id)) digests s hart answer zero n other differs (inl x) = elsewhere s n hart other (InEnclave id) differs (ap (λ y. y.worlds other) x.4.state)
+call_elsewhere (Some (calls.Run id)) digests s hart answer zero n other differs (inr x) = ap (λ y. y.worlds other) x.2.state
+call_elsewhere (Some calls.Stop) digests s hart answer zero n other differs (inl x) = elsewhere s n hart other Host differs (ap (λ y. y.worlds other) x.3.state)
+call_elsewhere (Some calls.Stop) digests s hart answer zero n other differs (inr x) = ap (λ y. y.worlds other) x.2.state
+call_elsewhere (Some (calls.Resume id)) digests s hart answer zero n other differs (inl x) = elsewhere s n hart other (InEnclave id) differs (ap (λ y. y.worlds other) x.4.state)
+call_elsewhere (Some (calls.Resume id)) digests s hart answer zero n other differs (inr x) = ap (λ y. y.worlds other) x.2.state
+call_elsewhere (Some (calls.Exit value)) digests s hart answer zero n other differs (inl x) = elsewhere s n hart other Host differs (ap (λ y. y.worlds other) x.3.state)
+call_elsewhere (Some (calls.Exit value)) digests s hart answer zero n other differs (inr x) = ap (λ y. y.worlds other) x.2.state
 
 pub interrupt_elsewhere : (world : World) (s : MonitorState) (hart : ℕ) (n : MonitorState) (other : ℕ) → other ≢ hart → Interrupts world s hart n → n.worlds other ≡ s.worlds other
 interrupt_elsewhere Host s hart n other differs x = ap (λ y. y.worlds other) x
