@@ -3,7 +3,7 @@
 use byte_streams::fakes::{PieceSink, PieceSource};
 use std::alloc::Global;
 use std::process::Abort;
-use trap_server::{Refusal, ServeFault, serve_traps};
+use trap_server::{EndReason, ServeFault, serve_traps};
 
 const ANSWER: usize = 984;
 
@@ -30,7 +30,7 @@ fn ends_behind(rt: &impl Abort, alloc: Global, frames: &[u8], answers: usize) {
     let mut source = PieceSource::new(frames, 4096, None);
     let mut sink = PieceSink::new(4096, None);
     let served = serve_traps(alloc, &mut source, &mut sink);
-    assert!(rt; served == Err(ServeFault::Refused(Refusal::NotUnderstood)));
+    assert!(rt; served == Err(ServeFault::Refused(EndReason::NotUnderstood)));
     let mut written = sink.written();
     for _ in 0..answers {
         assert!(rt; written.len() > ANSWER && written.starts_with(b"answer"));

@@ -23,15 +23,15 @@ use Rattle.monitor_core.proofs.Layouts.{call_keeps_layout, interrupt_keeps_layou
 use Rattle.monitor_core.proofs.SoundTables.{call_keeps_table, interrupt_keeps_table, opening_sound}
 use Rattle.monitor_core.proofs.WorldsKept.{call_keeps_worlds, interrupt_keeps_worlds, opened, putting_keeps_worlds, waking_keeps_worlds}
 use Rattle.trap_server.specs.declared.answer.Head.{Head}
-use Rattle.trap_server.specs.declared.trap.Event.{Event}
-use Rattle.trap_server.specs.declared.trap.Event.TheVariants.{Call, Stop}
+use Rattle.trap_server.specs.declared.trap.TrapEvent.{TrapEvent}
+use Rattle.trap_server.specs.declared.trap.TrapEvent.TheVariants.{Call, Stop}
 use Rattle.trap_server.specs.declared.trap.Trap.{Trap}
 use Rattle.trap_server.specs.declared.words.ControlWords.{ControlWords}
 use Rattle.trap_server.specs.Answered.{AreAwake, IsAnswer, head_of, no_answer, unmarked}
 use Rattle.trap_server.specs.Answers.{answer_bytes}
 use Rattle.trap_server.specs.Boot.{IsFirstAnswer, others}
 use Rattle.trap_server.specs.Firmware.{FirmwareHeadline, HasFewest, KeepsTrap, is_loaded, loaded_address, loaded_cfg, loaded_last, loaded_pairs}
-use Rattle.trap_server.specs.Runs.{Serves, first_words, next_trap, no_trap}
+use Rattle.trap_server.specs.Runs.{ServesTraps, first_words, next_trap, no_trap}
 use Rattle.trap_server.specs.Service.{ServesAs}
 use Rattle.trap_server.specs.Tables.{first_host_words}
 use Rattle.trap_server.specs.Words.{word_at}
@@ -127,7 +127,7 @@ woken_good layout mid new most woken table platform worlds = record {
 }
 
 next_good :
-    (event : Event) (layout : PlatformLayout) (s : MonitorState) (trap : Trap) (given : ControlWords) (read question answered : List ℕ) (new : MonitorState) → layout.harts ≤ 4 → trap.hart < s.table.layout.harts → IsGood layout s
+    (event : TrapEvent) (layout : PlatformLayout) (s : MonitorState) (trap : Trap) (given : ControlWords) (read question answered : List ℕ) (new : MonitorState) → layout.harts ≤ 4 → trap.hart < s.table.layout.harts → IsGood layout s
     → ServesAs event s trap given read question answered new → IsGood layout new
 next_good Call layout s trap given read question answered new most low good x =
     let hart = trap.hart in
@@ -147,7 +147,7 @@ first_bank : (layout : PlatformLayout) (first : List ℕ) (hart : ℕ) → IsFir
 first_bank layout first hart a = own_fewest (opening_monitor layout) first_host_words 0 no_answer None (others layout.harts) first a
 
 pub firmware_kept :
-    (layout : PlatformLayout) (first read written : List ℕ) (s : MonitorState) (kept : ℕ → ControlWords) (served : Serves (opening_monitor layout) first_words read written s kept) → IsLayout layout → IsFirstAnswer layout first
+    (layout : PlatformLayout) (first read written : List ℕ) (s : MonitorState) (kept : ℕ → ControlWords) (served : ServesTraps (opening_monitor layout) first_words read written s kept) → IsLayout layout → IsFirstAnswer layout first
     → FirmwareHeadline layout first read written s kept served
 firmware_kept layout first read written s kept no_trap rules answer = record {
   table = opening_sound layout rules;

@@ -15,7 +15,8 @@ use Rattle.sbi_decode.specs.Registers.{RegisterFile, x_of}
 use Rattle.trap_server.specs.declared.answer.Head.{Head}
 use Rattle.trap_server.specs.declared.words.ControlWords.{ControlWords}
 use Rattle.trap_server.specs.Words.{answer_tag, bytes_of, word_at}
-use Rattle.trap_server.specs.Answers.{address_at, address_bytes, address_in, answer_bytes, bit_of, cfg_at, cfg_bytes, cfg_in, control_bytes, head_bytes, number_of, pages_of, register_bytes, wake_word}
+use Rattle.monitor_core.specs.Answers.{world_number}
+use Rattle.trap_server.specs.Answers.{address_at, address_bytes, address_in, answer_bytes, bit_of, cfg_at, cfg_bytes, cfg_in, control_bytes, head_bytes, pages_of, register_bytes, wake_word}
 use Rattle.trap_server.specs.Firmware.{is_loaded, loaded_address, loaded_cfg, loaded_pairs}
 use Rattle.trap_server.proofs.Lengths.{word_length}
 
@@ -142,7 +143,7 @@ listed (e ∷ entries) bytes first (suc count) few are =
 -- nine words
 abbrev head_words : Head → ℕ → List ℕ
 head_words head used =
-    answer_tag ∷ (head.hart ∷ (number_of head.world ∷ (head.status ∷ (head.value ∷ (used ∷ ((pages_of head.zero).first ∷ ((pages_of head.zero).count ∷ (wake_word head.woken ∷ []))))))))
+    answer_tag ∷ (head.hart ∷ (world_number head.world ∷ (head.status ∷ (head.value ∷ (used ∷ ((pages_of head.zero).first ∷ ((pages_of head.zero).count ∷ (wake_word head.woken ∷ []))))))))
 
 head_length : (head : Head) (used : ℕ) → length (head_bytes head used) ≡ 72
 head_length head used = refl

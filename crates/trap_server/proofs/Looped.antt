@@ -9,8 +9,8 @@ use Rattle.trap_server.specs.declared.words.ControlWords.{ControlWords}
 use Rattle.trap_server.specs.declared.trap.Trap.{Trap}
 use Rattle.trap_server.specs.declared.frame_fault.FrameFault.{FrameFault}
 use Rattle.trap_server.specs.declared.frame_fault.FrameFault.TheVariants as frames
-use Rattle.trap_server.specs.declared.end.Refusal.{Refusal}
-use Rattle.trap_server.specs.declared.end.Refusal.TheVariants as refusals
+use Rattle.trap_server.specs.declared.end.EndReason.{EndReason}
+use Rattle.trap_server.specs.declared.end.EndReason.TheVariants as refusals
 use Rattle.trap_server.specs.declared.fault.ServeFault.{ServeFault}
 use Rattle.trap_server.specs.declared.fault.ServeFault.TheVariants as faults
 use Rattle.trap_server.specs.Ends.{EndsAs, Refuses}
@@ -19,7 +19,7 @@ use Rattle.trap_server.specs.Platforms.{IsNoPlatform, IsPlatformFrame, ReadsPlat
 use Rattle.trap_server.specs.Traps.{IsNoTrap, IsTrapFrame, ReadsTrap}
 use Rattle.trap_server.specs.Answered.{AreAwake, IsAnswer, given_on, no_answer}
 use Rattle.trap_server.specs.Runs.{EndsEarly, Ran, RefusesNext, StopsBetween, StopsInside, first_words, trap_count}
-use Rattle.trap_server.specs.Runs.{Serves as Served}
+use Rattle.trap_server.specs.Runs.{ServesTraps as Served}
 use Rattle.trap_server.specs.Runs.{next_trap, no_trap}
 use Rattle.trap_server.specs.Steps.{Serves}
 use Rattle.trap_server.proofs.Served.{refuse_why}
@@ -177,7 +177,7 @@ trap_stops fault count now hosts kept new trap harts frame before mid next after
 
 -- the first bytes are refused
 pub first_refused :
-    (result : ServeFault) (refusal : Refusal) (read : List ℕ) (before after held holds : Option (List ℕ)) → RefusesFirst refusal read after → Consumes before after read → Refuses result refusal held holds → EndsAtFirst result before after held holds
+    (result : ServeFault) (refusal : EndReason) (read : List ℕ) (before after held holds : Option (List ℕ)) → RefusesFirst refusal read after → Consumes before after read → Refuses result refusal held holds → EndsAtFirst result before after held holds
 first_refused result refusal read before after held holds why came refused =
     let e = refuse_why result refusal held holds (λ f rest. StopsAtFirst f read rest after) refused (why, refl) (λ part off. inl (refusal, why, off)) in
     (read, e.0, e.1, came, e.2)
@@ -189,7 +189,7 @@ first_stops result frames.NotUnderstood before after held holds reads ends = fir
 first_stops result frames.Read before after held holds reads ends = (reads.0, [], subst (λ f. StopsAtFirst f reads.0 [] after) (sym ends.0) (reads.1, refl), reads.2, ends.1)
 first_stops result frames.Write before after held holds reads ends = absurd reads
 
-pub refuses_first : (refusal : Refusal) (bytes : List ℕ) (after : Option (List ℕ)) → length bytes ≡ 1336 → IsNoPlatform refusal bytes → RefusesFirst refusal bytes after
+pub refuses_first : (refusal : EndReason) (bytes : List ℕ) (after : Option (List ℕ)) → length bytes ≡ 1336 → IsNoPlatform refusal bytes → RefusesFirst refusal bytes after
 refuses_first refusals.NotUnderstood bytes after size not = inr (size, not)
 refuses_first (refusals.Platform fault) bytes after size not = (size, not)
 refuses_first (refusals.NeedsEntries needed) bytes after size not = absurd not

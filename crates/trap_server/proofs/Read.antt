@@ -8,7 +8,7 @@ use Rattle.platforms.specs.CheckLists.{AllPass, FailsFirst}
 use Rattle.platforms.specs.declared.platform.PlatformFault.{PlatformFault}
 use Rattle.trap_server.specs.declared.frame_fault.FrameFault.{FrameFault}
 use Rattle.trap_server.specs.declared.frame_fault.FrameFault.TheVariants as faults
-use Rattle.trap_server.specs.declared.end.Refusal.{Refusal}
+use Rattle.trap_server.specs.declared.end.EndReason.{EndReason}
 use Rattle.trap_server.specs.FrameBytes.{Filled}
 use Rattle.trap_server.specs.PageDigest.{ArePages, Asks, IsNoPage, IsPageFrame, Measures, ReadsPage, question_of}
 use Rattle.trap_server.specs.Traps.{CountsWrite}
@@ -57,6 +57,6 @@ page_asked faults.Read parts page bytes before after held holds reads asked = as
 page_asked faults.Write parts page bytes before after held holds reads asked = absurd reads
 
 -- a platform, or why it is none
-pub reads_platform : (result : Result PlatformLayout Refusal) (bytes : List ℕ) (before after : Option (List ℕ)) → length bytes ≡ 1336 → IfOk result (λ p. IsPlatformFrame bytes p) → IfErr result (λ refusal. IsNoPlatform refusal bytes) → Consumes before after bytes → ReadsPlatform (Ok result) before after
+pub reads_platform : (result : Result PlatformLayout EndReason) (bytes : List ℕ) (before after : Option (List ℕ)) → length bytes ≡ 1336 → IfOk result (λ p. IsPlatformFrame bytes p) → IfErr result (λ refusal. IsNoPlatform refusal bytes) → Consumes before after bytes → ReadsPlatform (Ok result) before after
 reads_platform (Ok layout) bytes before after size is not consumed = (bytes, size, is, consumed)
 reads_platform (Err refusal) bytes before after size is not consumed = (bytes, size, not, consumed)

@@ -1,21 +1,20 @@
 -- A trap that was served, from what was asked, read and written.
-use Rattle.std.proofs.Common.{◌≡◌, ◌∙◌, inl, inr, subst, ℕ, zero, suc, ◌+◌, ◌-◌, ◌<◌, ◌≤◌, Bool, true, false, List, [], ◌∷◌, ◌++◌, length, take, Option, None, Some, Result, Ok, Err, ap, sym, refl, arith, take_all, append-nil, length-append}
+use Rattle.std.proofs.Common.{◌≡◌, inl, inr, subst, ℕ, zero, suc, ◌<◌, ◌≤◌, Bool, true, false, List, [], ◌++◌, take, Option, Result, Ok, Err, sym, refl, arith, append-nil}
 use Rattle.std.proofs.lemmas.Bool.{true≢false}
 use Rattle.std.specs.Prelude.{slice_index_or}
 use Rattle.std.specs.Io.KnownBytes.{Appends, Consumes}
 use Rattle.std.proofs.KnownBytes.{Appends-trans}
 use Rattle.measurement.specs.declared.request.Create.{Create}
-use Rattle.sbi_decode.specs.declared.world.World.{World}
 use Rattle.sbi_decode.specs.declared.world.World.TheVariants.{Host}
 use Rattle.monitor_core.specs.Measured.{Measures, asked_in}
 use Rattle.trap_server.specs.PageDigest.{Asks, question_of}
 use Rattle.trap_server.specs.EndFrames.{end_bytes}
-use Rattle.trap_server.specs.declared.end.Refusal.{Refusal}
-use Rattle.trap_server.specs.declared.end.Refusal.TheVariants as refusals
+use Rattle.trap_server.specs.declared.end.EndReason.{EndReason}
+use Rattle.trap_server.specs.declared.end.EndReason.TheVariants as refusals
 use Rattle.trap_server.specs.PageDigest.{Measures as MeasuresPages}
 use Rattle.trap_server.specs.declared.frame_fault.FrameFault.{FrameFault}
 use Rattle.trap_server.specs.declared.frame_fault.FrameFault.TheVariants as frames
-use Rattle.trap_server.specs.declared.trap.Event.TheVariants.{Call}
+use Rattle.trap_server.specs.declared.trap.TrapEvent.TheVariants.{Call}
 use Rattle.sbi_decode.specs.Calls.{call_of}
 use Rattle.trap_server.specs.declared.fault.ServeFault.TheVariants as faults
 use Rattle.trap_server.specs.Ends.{CountsRead, CountsReads, CountsWrite, CountsWrites, BreaksOff, EndsAs, FrameRead, FrameWrite, IsPart, Refuses}
@@ -79,7 +78,7 @@ quiet mid new n most = rw n (λ hart known. awake mid mid.table.layout.harts har
 
 -- a refusal was written, or a part of it, and why
 pub refuse_why :
-    (result : ServeFault) (refusal : Refusal) (held holds : Option (List ℕ)) (Why : ServeFault → List ℕ → Type 0) → Refuses result refusal held holds → Why (faults.Refused refusal) (end_bytes refusal)
+    (result : ServeFault) (refusal : EndReason) (held holds : Option (List ℕ)) (Why : ServeFault → List ℕ → Type 0) → Refuses result refusal held holds → Why (faults.Refused refusal) (end_bytes refusal)
     → ((part : List ℕ) → IsPart part (end_bytes refusal) → Why faults.Write part) → (rest : List ℕ) × Why result rest × Appends held holds rest
 refuse_why result refusal held holds Why (inl is) why failed = (end_bytes refusal, subst (λ f. Why f (end_bytes refusal)) (sym is.0) why, is.1)
 refuse_why result refusal held holds Why (inr is) why failed =
@@ -87,7 +86,7 @@ refuse_why result refusal held holds Why (inr is) why failed =
 
 -- the same after a question that was written whole
 refuse_then :
-    (result : ServeFault) (refusal : Refusal) (question : List ℕ) (held middle holds : Option (List ℕ)) (Why : ServeFault → List ℕ → Type 0) → Appends held middle question → Refuses result refusal middle holds → Why (faults.Refused refusal) (question ++ end_bytes refusal)
+    (result : ServeFault) (refusal : EndReason) (question : List ℕ) (held middle holds : Option (List ℕ)) (Why : ServeFault → List ℕ → Type 0) → Appends held middle question → Refuses result refusal middle holds → Why (faults.Refused refusal) (question ++ end_bytes refusal)
     → ((rest : List ℕ) → BreaksOff rest question (end_bytes refusal) → Why faults.Write rest) → (rest : List ℕ) × Why result rest × Appends held holds rest
 refuse_then result refusal question held middle holds Why asked refused why failed =
     let r = refuse_why result refusal middle holds (λ f last. Why f (question ++ last)) refused why (λ part is. failed (question ++ part) (part, is, refl)) in

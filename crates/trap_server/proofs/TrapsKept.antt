@@ -3,7 +3,6 @@ use Rattle.std.proofs.Common.{◌≡◌, ◌≢◌, ◌∙◌, ◌<◌, ◌≤�
 use Rattle.pmp_encoding.specs.Views.{SameView}
 use Rattle.pmp_encoding.specs.declared.pages.PageRange.{PageRange}
 use Rattle.measurement.specs.declared.request.Create.{Create}
-use Rattle.measurement.specs.Digests.{pages_from}
 use Rattle.measurement.specs.Requests.{is_shared}
 use Rattle.sbi_decode.specs.Calls.{call_of}
 use Rattle.sbi_decode.specs.Registers.{RegisterFile}
@@ -34,8 +33,8 @@ use Rattle.monitor_core.proofs.Wanted.{call_refused_by_need}
 use Rattle.monitor_core.proofs.WorldsKept.{putting_keeps_worlds}
 use Rattle.monitor_core.proofs.Zeroed as zeroed
 use Rattle.monitor_core.proofs.Zeroed.{Clears, lost_call, lost_irq}
-use Rattle.trap_server.specs.declared.trap.Event.{Event}
-use Rattle.trap_server.specs.declared.trap.Event.TheVariants.{Call, Stop}
+use Rattle.trap_server.specs.declared.trap.TrapEvent.{TrapEvent}
+use Rattle.trap_server.specs.declared.trap.TrapEvent.TheVariants.{Call, Stop}
 use Rattle.trap_server.specs.declared.trap.Trap.{Trap}
 use Rattle.trap_server.specs.declared.words.ControlWords.{ControlWords}
 use Rattle.trap_server.specs.Answered.{marks_of, no_answer, unmarked}
@@ -142,7 +141,7 @@ call_kept s hosts kept trap given read question answered new ready is words all 
     let t = with_running s hart file in
     let me = runner_on s hart in
     let placed = putting_keeps_worlds s hart file ready.placed in
-    let Refused = λ (e : Event). IsRefusedByNeed (called e trap.registers) s.table (s.worlds hart) (λ refusal. x.answer.status ≡ below_zero (refusal_number refusal)) in
+    let Refused = λ (e : TrapEvent). IsRefusedByNeed (called e trap.registers) s.table (s.worlds hart) (λ refusal. x.answer.status ≡ below_zero (refusal_number refusal)) in
     record {
       answer = x.answer;
       cleared = x.cleared;
@@ -159,7 +158,7 @@ call_kept s hosts kept trap given read question answered new ready is words all 
       came = λ none.
           let lived = λ (id : ℕ) (mine : me ≡ EnclaveOf id) (over : HasExited t x.mid id). none id mine (subst (λ (y : MonitorState). HasExited s y id) (sym x.woken) over) in
           let through = call_through call (λ parts. x.digest) t hart x.answer x.cleared x.mid (placed.current hart ready.known) x.step lived in
-          subst (λ (e : Event). AreThose e trap.registers (new.registers me)) (sym is)
+          subst (λ (e : TrapEvent). AreThose e trap.registers (new.registers me)) (sym is)
           (subst (λ (y : MonitorState). AreThose Call trap.registers (y.registers me)) (sym x.woken) (past trap.registers _ _ (put_there s hart file) through));
       words = words;
       below = given_below hosts kept hart (s.worlds hart) (new.worlds hart) trap.control given words all;
@@ -180,7 +179,7 @@ stop_kept s hosts kept trap given read question answered new ready is words all 
     let me = runner_on s hart in
     let world = s.worlds hart in
     let placed = putting_keeps_worlds s hart file ready.placed in
-    let Refused = λ (e : Event). IsRefusedByNeed (called e file) s.table world (λ refusal. no_answer.status ≡ below_zero (refusal_number refusal)) in
+    let Refused = λ (e : TrapEvent). IsRefusedByNeed (called e file) s.table world (λ refusal. no_answer.status ≡ below_zero (refusal_number refusal)) in
     record {
       answer = no_answer;
       cleared = None;
@@ -194,7 +193,7 @@ stop_kept s hosts kept trap given read question answered new ready is words all 
       stays = λ other differs. ap (λ (y : MonitorState). y.worlds other) x.woken ∙ interrupt_elsewhere world t hart x.mid other differs x.step;
       others = woken_others t x.mid new hart x.woken ready.most (others_irq world t hart x.mid refl ready.known placed x.step);
       registers = woken_registers s x.mid new hart x.woken (put_before s x.mid hart file (interrupt_keeps_registers world t hart x.mid refl x.step));
-      came = λ none. subst (λ (e : Event). AreThose e file (new.registers me)) (sym is)
+      came = λ none. subst (λ (e : TrapEvent). AreThose e file (new.registers me)) (sym is)
           (ap (λ (y : MonitorState). y.registers me) x.woken ∙ interrupt_through world t hart x.mid refl x.step ∙ put_there s hart file);
       words = words;
       below = given_below hosts kept hart world (new.worlds hart) trap.control given words all;
@@ -202,7 +201,7 @@ stop_kept s hosts kept trap given read question answered new ready is words all 
     }
 
 by_event :
-    (event : Event) (s : MonitorState) (hosts kept : ℕ → ControlWords) (trap : Trap) (given : ControlWords) (read question answered : List ℕ) (new : MonitorState) → IsReady s trap.hart → trap.event ≡ event
+    (event : TrapEvent) (s : MonitorState) (hosts kept : ℕ → ControlWords) (trap : Trap) (given : ControlWords) (read question answered : List ℕ) (new : MonitorState) → IsReady s trap.hart → trap.event ≡ event
     → GivesWords hosts trap.hart (s.worlds trap.hart) (new.worlds trap.hart) trap.control kept given → AreBelow kept → ServesAs event s trap given read question answered new → KeepsTrap s hosts trap read question answered new kept
 by_event Call s hosts kept trap given read question answered new ready is words all x = call_kept s hosts kept trap given read question answered new ready is words all x
 by_event Stop s hosts kept trap given read question answered new ready is words all x = stop_kept s hosts kept trap given read question answered new ready is words all x

@@ -7,15 +7,9 @@ use Rattle.pmp_encoding.specs.declared.region.Entry.{Entry}
 use Rattle.pmp_encoding.specs.Encoding.{address_of, cfg_of}
 use Rattle.sbi_decode.specs.Registers.{RegisterFile, x_of}
 use Rattle.trap_server.specs.declared.words.ControlWords.{ControlWords}
-use Rattle.sbi_decode.specs.declared.world.World.{World}
-use Rattle.sbi_decode.specs.declared.world.World.TheVariants.{Host, Enclave as InEnclave}
+use Rattle.monitor_core.specs.Answers.{world_number}
 use Rattle.trap_server.specs.Words.{answer_tag, bytes_of, control_tag}
 use Rattle.trap_server.specs.declared.answer.Head.{Head}
-
--- the number of a world
-abbrev pub number_of : World → ℕ
-number_of Host = 0
-number_of (InEnclave id) = id
 
 -- the word whose bit h is of hart h
 abbrev pub bit_of : Bool → ℕ
@@ -37,7 +31,7 @@ pages_of (Some range) = range
 abbrev pub head_bytes : Head → ℕ → List ℕ
 head_bytes head used =
     bytes_of (answer_tag ∷ (head.hart
-    ∷ (number_of head.world ∷ (head.status
+    ∷ (world_number head.world ∷ (head.status
     ∷ (head.value ∷ (used ∷ ((pages_of head.zero).first
     ∷ ((pages_of head.zero).count ∷ (wake_word head.woken ∷ [])))))))))
 

@@ -11,9 +11,9 @@ use Rattle.enclave_table.specs.Fewest.{FitsIn}
 use Rattle.enclave_table.specs.Views.{host_view}
 use Rattle.platforms.specs.declared.boot_fault.BootFault.TheVariants.{NeedsMoreEntries}
 use Rattle.trap_server.specs.Platforms.{IsNoPlatform, IsPlatformFrame}
-use Rattle.trap_server.specs.declared.end.Refusal.{Refusal}
-use Rattle.trap_server.specs.declared.end.Refusal.TheVariants.{NotUnderstood, Platform}
-use Rattle.trap_server.specs.declared.end.Refusal.TheVariants.{NeedsEntries, Memory}
+use Rattle.trap_server.specs.declared.end.EndReason.{EndReason}
+use Rattle.trap_server.specs.declared.end.EndReason.TheVariants.{NotUnderstood, Platform}
+use Rattle.trap_server.specs.declared.end.EndReason.TheVariants.{NeedsEntries, Memory}
 use Rattle.trap_server.specs.declared.fault.ServeFault.{ServeFault}
 use Rattle.trap_server.specs.declared.fault.ServeFault.TheVariants as faults
 use Rattle.trap_server.specs.Tables.{first_host_words}
@@ -24,7 +24,7 @@ use Rattle.trap_server.specs.Ends.{IsPart}
 -- why the first bytes are refused: they are no frame of a platform, or the input ends within it;
 -- its rules are broken; the host's view needs more entries than there are; or memory is refused for
 -- a platform that is one
-abbrev pub RefusesFirst : Refusal → List ℕ → Option (List ℕ) → Type 0
+abbrev pub RefusesFirst : EndReason → List ℕ → Option (List ℕ) → Type 0
 RefusesFirst NotUnderstood read after = ((length read < 1336) × IsAtEnd after)
     ⊎ ((length read ≡ 1336) × IsNoPlatform NotUnderstood read)
 RefusesFirst (Platform fault) read after = (length read ≡ 1336) × IsNoPlatform (Platform fault) read
@@ -51,7 +51,7 @@ StopsAtFirst (faults.Refused refusal) read rest after = RefusesFirst refusal rea
     × (rest ≡ end_bytes refusal)
 StopsAtFirst faults.Read read rest after = (length read < 1336) × (rest ≡ [])
 StopsAtFirst faults.Write read rest after =
-    ((refusal : Refusal) × RefusesFirst refusal read after × IsPart rest (end_bytes refusal))
+    ((refusal : EndReason) × RefusesFirst refusal read after × IsPart rest (end_bytes refusal))
     ⊎ ((layout : PlatformLayout) × (answer : List ℕ) × (length read ≡ 1336)
     × IsPlatformFrame read layout × IsFirstAnswer layout answer × IsPart rest answer)
 

@@ -5,8 +5,8 @@ use Rattle.std.specs.Io.KnownBytes.{Appends}
 use Rattle.byte_streams.specs.Streams.{WriteFails, one_failure_more}
 use Rattle.byte_streams.specs.Writings.{TakesPart}
 use Rattle.trap_server.specs.EndFrames.{end_bytes}
-use Rattle.trap_server.specs.declared.end.Refusal.{Refusal}
-use Rattle.trap_server.specs.declared.end.Refusal.TheVariants as refusals
+use Rattle.trap_server.specs.declared.end.EndReason.{EndReason}
+use Rattle.trap_server.specs.declared.end.EndReason.TheVariants as refusals
 use Rattle.trap_server.specs.declared.frame_fault.FrameFault.{FrameFault}
 use Rattle.trap_server.specs.declared.frame_fault.FrameFault.TheVariants as frames
 use Rattle.trap_server.specs.declared.fault.ServeFault.{ServeFault}
@@ -21,7 +21,7 @@ abbrev pub BreaksOff : List ℕ → List ℕ → List ℕ → Type 0
 BreaksOff rest front frame = (part : List ℕ) × IsPart part frame × (rest ≡ front ++ part)
 
 -- the last frame was written, which says why; or a part of it, where the sink failed
-abbrev pub Refuses : ServeFault → Refusal → Option (List ℕ) → Option (List ℕ) → Type 0
+abbrev pub Refuses : ServeFault → EndReason → Option (List ℕ) → Option (List ℕ) → Type 0
 Refuses result refusal held holds =
     ((result ≡ faults.Refused refusal) × Appends held holds (end_bytes refusal))
     ⊎ ((result ≡ faults.Write) × TakesPart (end_bytes refusal) held holds)

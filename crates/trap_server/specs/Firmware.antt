@@ -9,7 +9,7 @@ use Rattle.pmp_encoding.specs.Limits.{limit_number}
 use Rattle.pmp_encoding.specs.Lists.{MeansList}
 use Rattle.pmp_encoding.specs.Views.{SameView, View}
 use Rattle.pmp_match.specs.Meaning.{IsFewest}
-use Rattle.sbi_decode.specs.declared.calls.Call.{Call as SbiCall}
+use Rattle.sbi_decode.specs.declared.calls.Call.{Call}
 use Rattle.sbi_decode.specs.declared.world.World.TheVariants.{Enclave as InEnclave}
 use Rattle.sbi_decode.specs.Calls.{call_of}
 use Rattle.sbi_decode.specs.Registers.{RegisterFile, with_x}
@@ -27,15 +27,15 @@ use Rattle.monitor_core.specs.Switches.{HasExited, IsGone, KeepsRegisters, runne
 use Rattle.monitor_core.specs.Wants.{IsRefusedByNeed}
 use Rattle.monitor_core.specs.Worlds.{ArePlaced}
 use Rattle.monitor_core.specs.declared.answer.Answer.{Answer}
-use Rattle.trap_server.specs.declared.trap.Event.{Event}
-use Rattle.trap_server.specs.declared.trap.Event.TheVariants.{Call, Stop}
+use Rattle.trap_server.specs.declared.trap.TrapEvent.{TrapEvent}
+use Rattle.trap_server.specs.declared.trap.TrapEvent.TheVariants as trap_events
 use Rattle.trap_server.specs.declared.trap.Trap.{Trap}
 use Rattle.trap_server.specs.declared.words.ControlWords.{ControlWords}
 use Rattle.trap_server.specs.Answered.{AreAwake, IsAnswer}
 use Rattle.trap_server.specs.Boot.{IsFirstAnswer}
 use Rattle.trap_server.specs.Given.{GivesWords}
 use Rattle.trap_server.specs.PageDigest.{ArePages, question_bytes}
-use Rattle.trap_server.specs.Runs.{Serves, first_words, next_trap, no_trap}
+use Rattle.trap_server.specs.Runs.{ServesTraps, first_words, next_trap, no_trap}
 use Rattle.trap_server.specs.Traps.{is_machine}
 use Rattle.trap_server.specs.Words.{word_at}
 
@@ -70,15 +70,15 @@ is_loaded bytes hart = word_at bytes 1 == hart || word_at bytes 8 / 2 ^ hart % 2
 -- the last answer whose entries a hart loaded, the answer to the platform included
 abbrev pub loaded_last : (opened : List ℕ) {old : MonitorState} {hosts : ℕ
     → ControlWords} {read written : List ℕ} {new : MonitorState} {kept : ℕ
-    → ControlWords} → Serves old hosts read written new kept → ℕ → List ℕ
+    → ControlWords} → ServesTraps old hosts read written new kept → ℕ → List ℕ
 loaded_last opened no_trap hart = opened
 loaded_last opened (next_trap served trap frame more question answered new kept size is step) hart =
     if is_loaded answered hart then answered else loaded_last opened served hart
 
 -- the call that a trap is, if it is one
-abbrev pub called : Event → RegisterFile → Option SbiCall
-called Call registers = call_of registers
-called Stop registers = None
+abbrev pub called : TrapEvent → RegisterFile → Option Call
+called trap_events.Call registers = call_of registers
+called trap_events.Stop registers = None
 
 -- the private pages of an enclave
 abbrev pub private_pages : Create → PageRange
@@ -104,11 +104,11 @@ AsksMemory layout question read =
 
 -- the registers that a world is left with which trapped: those that came; after a call the program
 -- counter is past it, and a0 and a1 may be an answer
-abbrev pub AreThose : Event → RegisterFile → RegisterFile → Type 0
-AreThose Call came now =
+abbrev pub AreThose : TrapEvent → RegisterFile → RegisterFile → Type 0
+AreThose trap_events.Call came now =
     (now ≡ past_call came)
     ⊎ ((first second : ℕ) × (now ≡ with_x (with_x (past_call came) 10 first) 11 second))
-AreThose Stop came now = now ≡ came
+AreThose trap_events.Stop came now = now ≡ came
 
 -- what is kept over a trap that was served: what was asked for and read, the answer, and the state
 -- before and after
@@ -151,7 +151,7 @@ pub record KeepsTrap (old : MonitorState) (hosts : ℕ → ControlWords) (trap :
 -- each trap of a run keeps that
 abbrev pub AreKept : {old : MonitorState} {hosts : ℕ
     → ControlWords} {read written : List ℕ} {new : MonitorState} {kept : ℕ
-    → ControlWords} → Serves old hosts read written new kept → Type 0
+    → ControlWords} → ServesTraps old hosts read written new kept → Type 0
 AreKept no_trap = ⊤
 AreKept (next_trap {mid = mid} {now = now} served trap frame more question answered new kept size is
     step) = AreKept served × KeepsTrap mid now trap more question answered new kept
@@ -162,7 +162,7 @@ AreKept (next_trap {mid = mid} {now = now} served trap frame more question answe
 -- fewest that do. No host that waits is to go on in machine mode. And what each trap kept
 pub record FirmwareHeadline (layout : PlatformLayout) (opened read written : List ℕ)
     (s : MonitorState) (kept : ℕ → ControlWords)
-    (served : Serves (opening_monitor layout) first_words read written s kept) : Type 0 where
+    (served : ServesTraps (opening_monitor layout) first_words read written s kept) : Type 0 where
   pub table : IsTable s.table
   pub platform : s.table.layout ≡ layout
   pub worlds : ArePlaced s
@@ -176,6 +176,6 @@ pub record FirmwareHeadline (layout : PlatformLayout) (opened read written : Lis
 -- so it is on every platform that keeps its rules
 abbrev pub KeepsAll : Type 0
 KeepsAll = (layout : PlatformLayout) (opened read written : List ℕ) (s : MonitorState) (kept : ℕ
-    → ControlWords) (served : Serves (opening_monitor layout) first_words read written s kept)
+    → ControlWords) (served : ServesTraps (opening_monitor layout) first_words read written s kept)
     → IsLayout layout → IsFirstAnswer layout opened
     → FirmwareHeadline layout opened read written s kept served

@@ -14,9 +14,9 @@ use Rattle.trap_server.specs.Words.{word_at, platform_tag}
 use Rattle.trap_server.specs.FrameBytes.{Breaks}
 use Rattle.trap_server.specs.declared.frame_fault.FrameFault.{FrameFault}
 use Rattle.trap_server.specs.declared.frame_fault.FrameFault.TheVariants as faults
-use Rattle.trap_server.specs.declared.end.Refusal.{Refusal}
-use Rattle.trap_server.specs.declared.end.Refusal.TheVariants.{NotUnderstood, Platform}
-use Rattle.trap_server.specs.declared.end.Refusal.TheVariants.{NeedsEntries, Memory}
+use Rattle.trap_server.specs.declared.end.EndReason.{EndReason}
+use Rattle.trap_server.specs.declared.end.EndReason.TheVariants.{NotUnderstood, Platform}
+use Rattle.trap_server.specs.declared.end.EndReason.TheVariants.{NeedsEntries, Memory}
 
 -- the first ranges of memory: two words each, from word 7 on
 abbrev pub ram_in : List ℕ → ℕ → List (ℕ × ℕ)
@@ -75,7 +75,7 @@ BreaksRule bytes more fault =
     × FailsFirst (platform_rules layout.monitor layout.ram layout.devices ++ more) fault)
 
 -- why bytes are the ranges of no platform
-abbrev pub AreNoRanges : Refusal → List ℕ → Type 0
+abbrev pub AreNoRanges : EndReason → List ℕ → Type 0
 AreNoRanges NotUnderstood bytes = AreFew bytes × LacksPermission bytes
 AreNoRanges (Platform fault) bytes = BreaksRule bytes [] fault
 AreNoRanges (NeedsEntries count) bytes = ⊥
@@ -83,7 +83,7 @@ AreNoRanges Memory bytes = ⊥
 
 -- why as many bytes as a frame of a platform has are none: another tag, or a device without a
 -- permission, is not understood; otherwise the first rule that is broken says why
-abbrev pub IsNoPlatform : Refusal → List ℕ → Type 0
+abbrev pub IsNoPlatform : EndReason → List ℕ → Type 0
 IsNoPlatform NotUnderstood bytes = (word_at bytes 0 ≡ platform_tag → ⊥)
     ⊎ ((word_at bytes 0 ≡ platform_tag) × AreFew bytes × LacksPermission bytes)
 IsNoPlatform (Platform fault) bytes = (word_at bytes 0 ≡ platform_tag)
@@ -92,7 +92,7 @@ IsNoPlatform (NeedsEntries count) bytes = ⊥
 IsNoPlatform Memory bytes = ⊥
 
 -- what the read of the platform answers, by what it consumed
-abbrev pub ReadsPlatform : Result (Result PlatformLayout Refusal) FrameFault → Option (List ℕ)
+abbrev pub ReadsPlatform : Result (Result PlatformLayout EndReason) FrameFault → Option (List ℕ)
     → Option (List ℕ) → Type 0
 ReadsPlatform (Ok (Ok layout)) before after = (bytes : List ℕ) × (length bytes ≡ 1336)
     × IsPlatformFrame bytes layout × Consumes before after bytes

@@ -14,7 +14,7 @@ use Rattle.trap_server.specs.Platforms.{IsPlatformFrame}
 use Rattle.trap_server.specs.Traps.{IsNoTrap, IsTrapFrame}
 use Rattle.trap_server.specs.declared.fault.ServeFault.{ServeFault}
 use Rattle.trap_server.specs.declared.fault.ServeFault.TheVariants as faults
-use Rattle.trap_server.specs.declared.end.Refusal.TheVariants.{NotUnderstood}
+use Rattle.trap_server.specs.declared.end.EndReason.TheVariants.{NotUnderstood}
 use Rattle.trap_server.specs.EndFrames.{end_bytes}
 use Rattle.trap_server.specs.Ends.{IsPart}
 use Rattle.trap_server.specs.Boot.{EndsAtFirst, IsFirstAnswer}
@@ -23,20 +23,20 @@ use Rattle.trap_server.specs.Service.{ServesTrap}
 
 -- traps that were served in turn, from one state and the hosts' control words to others: the bytes
 -- that were read for them, and those that were written
-pub data Serves (old : MonitorState) (hosts : ℕ → ControlWords) : List ℕ → List ℕ → MonitorState
-    → (ℕ → ControlWords) → Type 0 where
-  no_trap : Serves old hosts [] [] old hosts
+pub data ServesTraps (old : MonitorState) (hosts : ℕ → ControlWords) : List ℕ → List ℕ
+    → MonitorState → (ℕ → ControlWords) → Type 0 where
+  no_trap : ServesTraps old hosts [] [] old hosts
   next_trap : {read written : List ℕ} {mid : MonitorState} {now : ℕ → ControlWords}
-      → Serves old hosts read written mid now
+      → ServesTraps old hosts read written mid now
       → (trap : Trap) (frame more question answered : List ℕ) (new : MonitorState) (kept : ℕ
       → ControlWords) → length frame ≡ 352 → IsTrapFrame frame mid.table.layout.harts trap
       → ServesTrap mid now trap more question answered new kept
-      → Serves old hosts (read ++ (frame ++ more)) (written ++ (question ++ answered)) new kept
+      → ServesTraps old hosts (read ++ (frame ++ more)) (written ++ (question ++ answered)) new kept
 
 -- how many they are
 abbrev pub trap_count : {old : MonitorState} {hosts : ℕ
     → ControlWords} {read written : List ℕ} {new : MonitorState} {kept : ℕ → ControlWords}
-    → Serves old hosts read written new kept → ℕ
+    → ServesTraps old hosts read written new kept → ℕ
 trap_count no_trap = 0
 trap_count (next_trap served trap frame more question answered new kept size is step) =
     trap_count served + 1
@@ -45,7 +45,7 @@ trap_count (next_trap served trap frame more question answered new kept size is 
 -- had before
 abbrev pub came_last : (hosts : ℕ
     → ControlWords) {old : MonitorState} {read written : List ℕ} {new : MonitorState} {kept : ℕ
-    → ControlWords} → Serves old hosts read written new kept → ℕ → ControlWords
+    → ControlWords} → ServesTraps old hosts read written new kept → ℕ → ControlWords
 came_last hosts no_trap = hosts
 came_last hosts (next_trap {mid = mid} served trap frame more question answered new kept size is
     step) = keeping (mid.worlds trap.hart) (came_last hosts served) trap.hart trap.control
@@ -54,7 +54,7 @@ came_last hosts (next_trap {mid = mid} served trap frame more question answered 
 abbrev pub KeepsWhatCame : Type 0
 KeepsWhatCame = (old : MonitorState) (hosts : ℕ
     → ControlWords) (read written : List ℕ) (new : MonitorState) (kept : ℕ
-    → ControlWords) (served : Serves old hosts read written new kept)
+    → ControlWords) (served : ServesTraps old hosts read written new kept)
     → kept ≡ came_last hosts served
 
 -- before any trap each host has the words with which it begins
@@ -77,7 +77,7 @@ pub record Ran (before after held holds : Option (List ℕ)) (beyond rest : List
   pub rules : IsLayout layout
   pub fits : FitsIn layout.limit (host_view (opening_table layout))
   pub begins : IsFirstAnswer layout opened
-  pub served : Serves (opening_monitor layout) first_words read written state hosts
+  pub served : ServesTraps (opening_monitor layout) first_words read written state hosts
   pub counted : trap_count served ≡ count
   pub consumed : Consumes before after (first ++ (read ++ beyond))
   pub appended : Appends held holds (opened ++ (written ++ rest))

@@ -12,8 +12,8 @@ use Rattle.monitor_core.specs.Measured.{Measures, asked_in}
 use Rattle.monitor_core.specs.Steps.{DoesCall, Interrupts}
 use Rattle.trap_server.specs.declared.words.ControlWords.{ControlWords}
 use Rattle.trap_server.specs.Given.{GivesWords}
-use Rattle.trap_server.specs.declared.trap.Event.{Event}
-use Rattle.trap_server.specs.declared.trap.Event.TheVariants.{Call, Stop}
+use Rattle.trap_server.specs.declared.trap.TrapEvent.{TrapEvent}
+use Rattle.trap_server.specs.declared.trap.TrapEvent.TheVariants.{Call, Stop}
 use Rattle.trap_server.specs.declared.trap.Trap.{Trap}
 use Rattle.trap_server.specs.PageDigest.{ArePages, question_of}
 use Rattle.trap_server.specs.Answered.{IsAnswer, marks_of, no_answer, unmarked}
@@ -54,7 +54,7 @@ pub record ServesStop (s : MonitorState) (trap : Trap) (given : ControlWords)
   pub goes_on : IsAnswer new given trap.hart no_answer None (marks_of mid) answered
 
 -- a trap is served, by what happened; the hart goes on with these control words
-abbrev pub ServesAs : Event → MonitorState → Trap → ControlWords → List ℕ → List ℕ → List ℕ
+abbrev pub ServesAs : TrapEvent → MonitorState → Trap → ControlWords → List ℕ → List ℕ → List ℕ
     → MonitorState → Type 0
 ServesAs Call s trap given read question answered new =
     ServesCall s trap given read question answered new

@@ -14,8 +14,8 @@ use Rattle.trap_server.specs.declared.fault.ServeFault.TheVariants as faults
 use Rattle.trap_server.specs.Ends.{BreaksOff, IsPart}
 use Rattle.measurement.specs.declared.request.Create.{Create}
 use Rattle.trap_server.specs.PageDigest.{BreaksAtPage, StopsAtPage, question_of}
-use Rattle.trap_server.specs.declared.trap.Event.TheVariants.{Call}
-use Rattle.trap_server.specs.declared.end.Refusal.TheVariants.{NotUnderstood}
+use Rattle.trap_server.specs.declared.trap.TrapEvent.TheVariants.{Call}
+use Rattle.trap_server.specs.declared.end.EndReason.TheVariants.{NotUnderstood}
 use Rattle.sbi_decode.specs.Calls.{call_of}
 use Rattle.monitor_core.specs.Measured.{Measures, asked_in}
 use Rattle.trap_server.specs.Service.{AsksFor, ServesTrap}

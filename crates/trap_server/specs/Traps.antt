@@ -7,14 +7,14 @@ use Rattle.sbi_decode.specs.Registers.{RegisterFile, x_of}
 use Rattle.trap_server.specs.declared.words.ControlWords.{ControlWords}
 use Rattle.trap_server.specs.Words.{word_at, call_tag, control_tag, stop_tag}
 use Rattle.trap_server.specs.FrameBytes.{Breaks}
-use Rattle.trap_server.specs.declared.trap.Event.{Event}
-use Rattle.trap_server.specs.declared.trap.Event.TheVariants.{Call, Stop}
+use Rattle.trap_server.specs.declared.trap.TrapEvent.{TrapEvent}
+use Rattle.trap_server.specs.declared.trap.TrapEvent.TheVariants.{Call, Stop}
 use Rattle.trap_server.specs.declared.trap.Trap.{Trap}
 use Rattle.trap_server.specs.declared.frame_fault.FrameFault.{FrameFault}
 use Rattle.trap_server.specs.declared.frame_fault.FrameFault.TheVariants as faults
 
 -- the tag says what happened
-abbrev pub IsTagOf : Event → ℕ → Type 0
+abbrev pub IsTagOf : TrapEvent → ℕ → Type 0
 IsTagOf Call tag = tag ≡ call_tag
 IsTagOf Stop tag = tag ≡ stop_tag
 

@@ -1,7 +1,8 @@
 //! The frame of an answer: with what a hart goes on.
 
 ghost use Rattle.std.specs.Prelude.{◌≡◌, ◌<◌, ◌≤◌, ◌+◌, ◌++◌, length, take};
-ghost use Rattle.trap_server.specs.Answers.{address_at, address_bytes, answer_bytes, cfg_at, cfg_bytes, control_bytes, head_bytes, number_of, pages_of, register_bytes, wake_word};
+ghost use Rattle.monitor_core.specs.Answers.{world_number};
+ghost use Rattle.trap_server.specs.Answers.{address_at, address_bytes, answer_bytes, cfg_at, cfg_bytes, control_bytes, head_bytes, pages_of, register_bytes, wake_word};
 
 use crate::ControlWords;
 use crate::frame::{AnswerBytes, TAG_ANSWER, TAG_CONTROL, put_word};
@@ -26,8 +27,8 @@ pub struct Head {
 }
 
 /// The number of a world: 0 is the host.
-fn number_of(world: World) -> u64
-    ensures { result ≡ number_of world }
+fn world_number(world: World) -> u64
+    ensures { result ≡ world_number world }
 {
     match world {
         World::Host => 0,
@@ -63,7 +64,7 @@ fn put_head(frame: &mut AnswerBytes, head: &Head, used: u64)
     let pages = pages_of(head.zero);
     put_word(frame, 0, TAG_ANSWER);
     put_word(frame, 1, u64::from(head.hart));
-    put_word(frame, 2, number_of(head.world));
+    put_word(frame, 2, world_number(head.world));
     put_word(frame, 3, head.status);
     put_word(frame, 4, head.value);
     put_word(frame, 5, used);

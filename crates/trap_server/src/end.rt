@@ -8,7 +8,7 @@ use platforms::PlatformFault;
 
 /// Why nothing more is served.
 #[derive(Clone, Copy, Debug, PartialEq, Eq)]
-pub enum Refusal {
+pub enum EndReason {
     /// A frame is not understood.
     NotUnderstood,
     /// The numbers of the first frame are no platform.
@@ -19,16 +19,16 @@ pub enum Refusal {
     Memory,
 }
 
-impl Refusal {
+impl EndReason {
     /// Its number in the frame.
     fn reason(self) -> u64
         ensures { result ≡ reason_of self }
     {
         match self {
-            Refusal::NotUnderstood => 1,
-            Refusal::Platform(_) => 2,
-            Refusal::NeedsEntries(_) => 3,
-            Refusal::Memory => 4,
+            EndReason::NotUnderstood => 1,
+            EndReason::Platform(_) => 2,
+            EndReason::NeedsEntries(_) => 3,
+            EndReason::Memory => 4,
         }
     }
 
@@ -37,16 +37,16 @@ impl Refusal {
         ensures { result ≡ detail_of self }
     {
         match self {
-            Refusal::Platform(fault) => u64::from(fault.number()),
-            Refusal::NeedsEntries(count) => count,
-            Refusal::NotUnderstood | Refusal::Memory => 0,
+            EndReason::Platform(fault) => u64::from(fault.number()),
+            EndReason::NeedsEntries(count) => count,
+            EndReason::NotUnderstood | EndReason::Memory => 0,
         }
     }
 }
 
 /// The last frame.
 #[inline(never)]
-pub fn end_frame(refusal: Refusal) -> ShortBytes
+pub fn end_frame(refusal: EndReason) -> ShortBytes
     ensures { result ≡ end_bytes refusal }
 {
     three_words(TAG_END, refusal.reason(), refusal.detail())

@@ -3,14 +3,14 @@
 ghost use Rattle.std.specs.Prelude.{ℕ};
 ghost use Rattle.trap_server.specs.Ends.{CountsRead, CountsWrite, EndsAs, FrameRead, FrameWrite, Refuses};
 
-use crate::{FrameFault, Refusal, end_frame};
+use crate::{EndReason, FrameFault, end_frame};
 use byte_streams::{Sink, write_whole};
 
 /// Why the loop ended before its input did.
 #[derive(Clone, Copy, Debug, PartialEq, Eq)]
 pub enum ServeFault {
     /// The last frame that was written says why.
-    Refused(Refusal),
+    Refused(EndReason),
     /// The source failed.
     Read,
     /// The sink failed, or took none of some bytes.
@@ -18,7 +18,7 @@ pub enum ServeFault {
 }
 
 /// Writes the last frame, and gives the fault that the loop ends with.
-pub(crate) fn refuse<W: Sink>(sink: &mut W, refusal: Refusal) -> ServeFault
+pub(crate) fn refuse<W: Sink>(sink: &mut W, refusal: EndReason) -> ServeFault
     ensures last { Refuses result refusal (W.contents sink.old) (W.contents sink.new) }
     ensures reads { (n : ℕ) → CountsRead result n n }
     ensures writes { CountsWrite result (W.failures sink.old) (W.failures sink.new)
@@ -42,6 +42,6 @@ pub(crate) fn end<W: Sink>(sink: &mut W, fault: FrameFault) -> ServeFault
     match fault {
         FrameFault::Read => ServeFault::Read,
         FrameFault::Write => ServeFault::Write,
-        FrameFault::NotUnderstood => refuse(sink, Refusal::NotUnderstood),
+        FrameFault::NotUnderstood => refuse(sink, EndReason::NotUnderstood),
     }
 }

@@ -63,7 +63,7 @@ mod words;
 
 pub use answer::{Head, put_answer};
 pub use control_laws::giving_law;
-pub use end::{Refusal, end_frame};
+pub use end::{EndReason, end_frame};
 pub use fault::ServeFault;
 pub use frame::{AnswerBytes, ShortBytes};
 pub use frame_fault::FrameFault;
@@ -74,6 +74,6 @@ pub use numbers::{served_number, served_status};
 pub use page_digest::digest_of;
 pub use platform_frame::read_platform;
 pub use serving::{replay_on, serve_on};
-pub use trap::{Event, Trap, read_trap};
+pub use trap::{Trap, TrapEvent, read_trap};
 pub use trap_loop::serve_traps;
 pub use words::ControlWords;

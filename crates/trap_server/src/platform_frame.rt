@@ -10,7 +10,7 @@ ghost use Rattle.trap_server.specs.Words.{word_at};
 ghost use Rattle.trap_server.specs.Traps.{CountsRead};
 ghost use Rattle.trap_server.specs.Platforms.{AreFew, AreNoRanges, IsNoPlatform, IsPlatformFrame, device_words, ram_in, words_of, ReadsPlatform};
 
-use crate::end::Refusal;
+use crate::end::EndReason;
 use crate::frame::{TAG_PLATFORM, word};
 use crate::frame_bytes::read_whole;
 use crate::frame_fault::FrameFault;
@@ -98,7 +98,7 @@ fn with_entries(platform: Platform, entries: u64) -> Result<Platform, PlatformFa
 }
 
 /// The platform with the ranges of a frame.
-fn ranges_in(bytes: &[u8; 1336]) -> Result<Platform, Refusal>
+fn ranges_in(bytes: &[u8; 1336]) -> Result<Platform, EndReason>
     ensures few { IfOk result (λ _. AreFew bytes.now) }
     ensures ranges { IfOk result (λ p. HasRanges bytes.now p) }
     ensures rules { IfOk result (λ p.
@@ -108,26 +108,26 @@ fn ranges_in(bytes: &[u8; 1336]) -> Result<Platform, Refusal>
     let ram_count = word(bytes, 5);
     let device_count = word(bytes, 6);
     if ram_count > MOST || device_count > MOST {
-        return Err(Refusal::Platform(PlatformFault::BadNumber));
+        return Err(EndReason::Platform(PlatformFault::BadNumber));
     }
     let Some(devices) = devices_in(bytes, device_count as usize) else {
-        return Err(Refusal::NotUnderstood);
+        return Err(EndReason::NotUnderstood);
     };
     let ram = ram_in(bytes, ram_count as usize);
     let monitor = (word(bytes, 3), word(bytes, 4));
     match Platform::new(monitor, ram.as_slice(), devices.as_slice()) {
         Ok(platform) => Ok(platform),
-        Err(fault) => Err(Refusal::Platform(fault)),
+        Err(fault) => Err(EndReason::Platform(fault)),
     }
 }
 
 /// The platform that a frame is of, or why it is of none.
-fn platform_in(bytes: &[u8; 1336]) -> Result<Platform, Refusal>
+fn platform_in(bytes: &[u8; 1336]) -> Result<Platform, EndReason>
     ensures some { IfOk result (λ p. IsPlatformFrame bytes.now p) }
     ensures none { IfErr result (λ refusal. IsNoPlatform refusal bytes.now) }
 {
     if word(bytes, 0) != TAG_PLATFORM {
-        return Err(Refusal::NotUnderstood);
+        return Err(EndReason::NotUnderstood);
     }
     let platform = match ranges_in(bytes) {
         Ok(platform) => platform,
@@ -135,17 +135,17 @@ fn platform_in(bytes: &[u8; 1336]) -> Result<Platform, Refusal>
     };
     let platform = match with_harts(platform, word(bytes, 1)) {
         Ok(platform) => platform,
-        Err(fault) => return Err(Refusal::Platform(fault)),
+        Err(fault) => return Err(EndReason::Platform(fault)),
     };
     match with_entries(platform, word(bytes, 2)) {
         Ok(platform) => Ok(platform),
-        Err(fault) => Err(Refusal::Platform(fault)),
+        Err(fault) => Err(EndReason::Platform(fault)),
     }
 }
 
 /// Reads the platform. Where the source did not fail, and the frame is of none, it says why.
 #[inline(never)]
-pub fn read_platform<R: Source>(source: &mut R) -> Result<Result<Platform, Refusal>, FrameFault>
+pub fn read_platform<R: Source>(source: &mut R) -> Result<Result<Platform, EndReason>, FrameFault>
     ensures platform { ReadsPlatform result (R.remaining source.old) (R.remaining source.new) }
     ensures failures { CountsRead result (R.failures source.old) (R.failures source.new) }
 {

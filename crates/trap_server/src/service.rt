@@ -9,7 +9,7 @@ ghost use Rattle.trap_server.specs.Ends.{CountsReads, CountsWrites};
 ghost use Rattle.trap_server.specs.Steps.{MayWake, Serves, TakesDigest, Writes};
 
 use crate::fault::{ServeFault, end};
-use crate::{AnswerBytes, Event, Head, HostWords, Trap, digest_of, put_answer};
+use crate::{AnswerBytes, Head, HostWords, Trap, TrapEvent, digest_of, put_answer};
 use byte_streams::{Sink, Source, write_whole};
 use monitor_core::{Answer, Monitor, TakenDigest};
 use pmp_encoding::PageRange;
@@ -136,7 +136,7 @@ fn measured<R: Source, W: Sink>(
     sink: &mut W,
 ) -> Result<[u8; 32], ServeFault>
     requires hart { trap.now.hart < 4 }
-    requires call { trap.now.event ≡ Event.Call }
+    requires call { trap.now.event ≡ TrapEvent.Call }
     ensures digest { TakesDigest result (state_by monitor.now) trap.now (R.remaining source.old)
         (R.remaining source.new) (W.contents sink.old) (W.contents sink.new) }
     ensures reads { CountsReads result (R.failures source.old) (R.failures source.new) }
@@ -162,7 +162,7 @@ fn serve_call<R: Source, W: Sink>(
 ) -> Result<(), ServeFault>
     requires hart { trap.now.hart < (state_by monitor.old).table.layout.harts }
     requires awake { AreAwake (state_by monitor.old) }
-    requires call { trap.now.event ≡ Event.Call }
+    requires call { trap.now.event ≡ TrapEvent.Call }
     ensures served { Serves result trap.now (state_by monitor.old) (host_words hosts.old)
         (state_by monitor.new) (host_words hosts.new) (R.remaining source.old)
         (R.remaining source.new) (W.contents sink.old) (W.contents sink.new) }
@@ -202,7 +202,7 @@ fn serve_stop<W: Sink>(
 ) -> Result<(), ServeFault>
     requires hart { trap.now.hart < (state_by monitor.old).table.layout.harts }
     requires awake { AreAwake (state_by monitor.old) }
-    requires stop { trap.now.event ≡ Event.Stop }
+    requires stop { trap.now.event ≡ TrapEvent.Stop }
     ensures served { (before : Option (List ℕ))
         → Serves result trap.now (state_by monitor.old) (host_words hosts.old)
         (state_by monitor.new) (host_words hosts.new) before before (W.contents sink.old)
@@ -238,7 +238,7 @@ pub(crate) fn serve_trap<R: Source, W: Sink>(
         (W.stalls sink.old) (W.stalls sink.new) }
 {
     match trap.event {
-        Event::Call => serve_call(monitor, hosts, trap, source, sink),
-        Event::Stop => serve_stop(monitor, hosts, trap, sink),
+        TrapEvent::Call => serve_call(monitor, hosts, trap, source, sink),
+        TrapEvent::Stop => serve_stop(monitor, hosts, trap, sink),
     }
 }

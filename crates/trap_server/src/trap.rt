@@ -18,7 +18,7 @@ const TRAP_BYTES: usize = 352;
 
 /// What happened to the world that runs on a hart.
 #[derive(Clone, Copy)]
-pub enum Event {
+pub enum TrapEvent {
     /// It made a call.
     Call,
     /// It was interrupted, or did what an enclave may not: an enclave stops.
@@ -30,7 +30,7 @@ pub enum Event {
 #[derive(Clone, Copy)]
 pub struct Trap {
     /// What happened.
-    pub event: Event,
+    pub event: TrapEvent,
     /// The hart on which it did, below the number of harts.
     pub hart: u8,
     /// The registers as they were.
@@ -76,13 +76,13 @@ fn is_machine(mode: u64) -> bool
 }
 
 /// What happened, by the tag.
-fn event_in(tag: u64) -> Option<Event>
+fn event_in(tag: u64) -> Option<TrapEvent>
     ensures some { IfSome result (λ event. IsTagOf event tag) }
     ensures none { IfNone result ((event : EventOf) → IsTagOf event tag → ⊥) }
 {
     match tag {
-        TAG_CALL => Some(Event::Call),
-        TAG_STOP => Some(Event::Stop),
+        TAG_CALL => Some(TrapEvent::Call),
+        TAG_STOP => Some(TrapEvent::Stop),
         _ => None,
     }
 }
@@ -134,4 +134,4 @@ pub fn read_trap<R: Source>(source: &mut R, harts: u8) -> Result<Option<Trap>, F
 }
 
 ghost use Rattle.trap_server.specs.Traps.{IsTagOf, is_machine};
-ghost use Rattle.trap_server.specs.declared.trap.Event.{Event as EventOf};
+ghost use Rattle.trap_server.specs.declared.trap.TrapEvent.{TrapEvent as EventOf};

@@ -10,7 +10,7 @@ ghost use Rattle.trap_server.specs.Runs.{EndsEarly, Ran};
 
 use crate::fault::{ServeFault, end, refuse};
 use crate::service::{NOTHING, serve_trap, write_answer};
-use crate::{HostWords, Refusal, read_platform, read_trap};
+use crate::{EndReason, HostWords, read_platform, read_trap};
 use byte_streams::{Sink, Source};
 use monitor_core::Monitor;
 use platforms::{BootFault, Platform};
@@ -31,9 +31,9 @@ fn boot_on<W: Sink>(
     match Monitor::boot(alloc, Box::into_inner(platform)) {
         Ok(monitor) => Ok(monitor),
         Err(BootFault::NeedsMoreEntries(count)) => {
-            Err(refuse(sink, Refusal::NeedsEntries(count)))
+            Err(refuse(sink, EndReason::NeedsEntries(count)))
         }
-        Err(BootFault::Memory) => Err(refuse(sink, Refusal::Memory)),
+        Err(BootFault::Memory) => Err(refuse(sink, EndReason::Memory)),
     }
 }
 
@@ -56,7 +56,7 @@ fn platform_in<R: Source, W: Sink>(
     match read_platform(source) {
         Ok(Ok(platform)) => match Box::new(alloc, platform) {
             Ok(platform) => Ok(platform),
-            Err(_) => Err(refuse(sink, Refusal::Memory)),
+            Err(_) => Err(refuse(sink, EndReason::Memory)),
         },
         Ok(Err(refusal)) => Err(refuse(sink, refusal)),
         Err(fault) => Err(end(sink, fault)),
@@ -132,5 +132,5 @@ pub fn serve_traps<R: Source, W: Sink>(
             Err(fault) => return Err(fault),
         }
     }
-    Err(refuse(sink, Refusal::NotUnderstood))
+    Err(refuse(sink, EndReason::NotUnderstood))
 }

@@ -5,7 +5,7 @@ use Rattle.monitor_core.specs.Monitors.{state_by}
 use Rattle.monitor_core.specs.States.{MonitorState}
 use Rattle.monitor_core.proofs.Running.{call_there}
 use Rattle.trap_server.specs.Given.{host_words}
-use Rattle.trap_server.specs.declared.trap.Event.{Event}
+use Rattle.trap_server.specs.declared.trap.TrapEvent.{TrapEvent}
 use Rattle.trap_server.specs.Answered.{IsAnswer, given_on}
 use Rattle.trap_server.specs.Service.{ServesAs}
 use Rattle.trap_server.proofs.Served.{may_wake, quiet, reads_then, serves, writes_then}
@@ -53,7 +53,7 @@ returns-clause-served g c =
     (λ bytes is. record {
       given = given;
       words = record { keeps = c.keep_words.ensures; gives = refl };
-      step = subst (λ (e : Event). ServesAs e s trap given taken.1 taken.0 bytes new) (sym c.requires.call) (record {
+      step = subst (λ (e : TrapEvent). ServesAs e s trap given taken.1 taken.0 bytes new) (sym c.requires.call) (record {
         digest = c.in-Ok.digest;
         answer = said.answer;
         cleared = said.zero;

@@ -4,7 +4,7 @@ use Rattle.monitor_core.specs.Monitors.{state_by}
 use Rattle.monitor_core.specs.States.{MonitorState}
 use Rattle.monitor_core.specs.Steps.{Interrupts}
 use Rattle.trap_server.specs.Given.{host_words}
-use Rattle.trap_server.specs.declared.trap.Event.{Event}
+use Rattle.trap_server.specs.declared.trap.TrapEvent.{TrapEvent}
 use Rattle.trap_server.specs.Answered.{IsAnswer, given_on, no_answer}
 use Rattle.trap_server.specs.Service.{ServesAs}
 use Rattle.trap_server.proofs.Served.{quiet, serves}
@@ -32,7 +32,7 @@ returns-clause-served g c =
     (λ bytes is. record {
       given = given;
       words = record { keeps = c.keep_words.ensures; gives = refl };
-      step = subst (λ (e : Event). ServesAs e s trap given [] [] bytes new) (sym c.requires.stop) (record {
+      step = subst (λ (e : TrapEvent). ServesAs e s trap given [] [] bytes new) (sym c.requires.stop) (record {
         mid = mid;
         nothing_asked = refl;
         nothing_read = refl;

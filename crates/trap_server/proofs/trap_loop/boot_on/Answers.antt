@@ -2,7 +2,7 @@ use Rattle.std.proofs.Common.{◌≡◌, ℕ, List, Option, length, inl, refl, s
 use Rattle.enclave_table.specs.Boot.{IsBootFault}
 use Rattle.platforms.specs.declared.boot_fault.BootFault.TheVariants.{NeedsMoreEntries}
 use Rattle.trap_server.specs.Platforms.{IsPlatformFrame}
-use Rattle.trap_server.specs.declared.end.Refusal.TheVariants as refusals
+use Rattle.trap_server.specs.declared.end.EndReason.TheVariants as refusals
 use Rattle.trap_server.specs.Boot.{StopsAtFirst}
 use Rattle.trap_server.proofs.Served.{refuse_why}
 use Rattle.trap_server.proofs.trap_loop.boot_on.Goals as goal

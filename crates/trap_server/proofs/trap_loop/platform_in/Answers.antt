@@ -3,8 +3,8 @@ use Rattle.trap_server.specs.Platforms.{IsPlatformFrame, ReadsPlatform}
 use Rattle.trap_server.proofs.Looped.{first_refused, first_stops, refuses_first}
 use Rattle.trap_server.proofs.Served.{first_writes, frame_reads, read_at}
 use Rattle.platforms.specs.Platform.{PlatformLayout}
-use Rattle.trap_server.specs.declared.end.Refusal.{Refusal}
-use Rattle.trap_server.specs.declared.end.Refusal.TheVariants as refusals
+use Rattle.trap_server.specs.declared.end.EndReason.{EndReason}
+use Rattle.trap_server.specs.declared.end.EndReason.TheVariants as refusals
 use Rattle.trap_server.proofs.trap_loop.platform_in.Goals as goal
 
 pub returns-in-Err-clause-first : goal.returns-in-Err-clause-first
@@ -29,7 +29,7 @@ returns-in-Ok-clause-first g c =
     ((read.0, read.1, subst (λ layout. IsPlatformFrame read.0 layout) (sym c.in-Ok.ensures.ok) read.2, read.3), refl)
 
 pub returns-in-Err-clause-reads : goal.returns-in-Err-clause-reads
-returns-in-Err-clause-reads g c = c.end.ensures.reads _ _ (frame_reads (Result PlatformLayout Refusal) c.in-Err.fault _ _ c.in-Err.ensures.failures)
+returns-in-Err-clause-reads g c = c.end.ensures.reads _ _ (frame_reads (Result PlatformLayout EndReason) c.in-Err.fault _ _ c.in-Err.ensures.failures)
 
 pub returns-in-Err-clause-writes : goal.returns-in-Err-clause-writes
 returns-in-Err-clause-writes g c = c.end.ensures.writes _ _ (first_writes c.in-Err.fault _ _ _ _ c.in-Err.ensures.platform)
