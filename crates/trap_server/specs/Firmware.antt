@@ -172,10 +172,3 @@ pub record FirmwareHeadline (layout : PlatformLayout) (opened read written : Lis
       (current_view s.table (s.worlds hart))
   pub modes : (hart : ℕ) → is_machine (kept hart).mode ≡ false
   pub each : AreKept served
-
--- so it is on every platform that keeps its rules
-abbrev pub KeepsAll : Type 0
-KeepsAll = (layout : PlatformLayout) (opened read written : List ℕ) (s : MonitorState) (kept : ℕ
-    → ControlWords) (served : ServesTraps (opening_monitor layout) first_words read written s kept)
-    → IsLayout layout → IsFirstAnswer layout opened
-    → FirmwareHeadline layout opened read written s kept served

@@ -1,19 +1,29 @@
 //! The laws of the traps that were served.
 
-ghost use Rattle.trap_server.specs.Firmware.{KeepsAll};
-ghost use Rattle.trap_server.specs.Runs.{KeepsWhatCame};
+ghost use Rattle.std.specs.Prelude.{ℕ, List};
+ghost use Rattle.platforms.specs.Platform.{IsLayout, PlatformLayout};
+ghost use Rattle.monitor_core.specs.States.{MonitorState, opening_monitor};
+ghost use Rattle.trap_server.specs.declared.words.ControlWords.{ControlWords};
+ghost use Rattle.trap_server.specs.Boot.{IsFirstAnswer};
+ghost use Rattle.trap_server.specs.Firmware.{FirmwareHeadline};
+ghost use Rattle.trap_server.specs.Runs.{KeepsWhatCame, ServesTraps, first_words};
 
 /// After any traps that were served the words that are kept for the host of a hart are those with which it came last.
 pub fn words_law()
     ensures { KeepsWhatCame }
 {}
 
-/// After any traps that were served and answered the table is sound, and each enclave that is Running runs on just one hart.
+/// After any traps that were served and answered, on every platform that keeps its rules: the table is sound, and each enclave
+/// that is Running runs on just one hart.
 /// The registers in the bytes of the answer whose entries a hart loaded last mean what its world may do, and no list of
 /// entries that does is shorter; so many the hart has. Each creation and destruction was refused for want of entries exactly
 /// where a view after it needs more. Pages that were asked for are memory and not the monitor's, and were read once; pages
 /// that were to be made zero are those of the enclave that was destroyed. Registers and control words are given to the world
 /// that they are of, and an enclave runs in user mode.
 pub fn firmware_law()
-    ensures { KeepsAll }
+    ensures { (layout : PlatformLayout) (opened read written : List ℕ) (s : MonitorState)
+        (kept : ℕ → ControlWords)
+        (served : ServesTraps (opening_monitor layout) first_words read written s kept)
+        → IsLayout layout → IsFirstAnswer layout opened
+        → FirmwareHeadline layout opened read written s kept served }
 {}
