@@ -1,5 +1,5 @@
 -- Lines that `judge` does not take.
-use Rattle.std.proofs.Common.{ℕ, ◌≡◌, ◌∙◌, ◌&&◌, ap, slice_get, Bool, true, false, if◌then◌else◌, List, [], ◌∷◌, Option, Some, None, is_some, length, nat_le, refl, sym}
+use Rattle.std.proofs.Common.{ℕ, ◌≡◌, ◌∙◌, ◌&&◌, ap, slice_get, Bool, true, false, if◌then◌else◌, List, [], ◌∷◌, Some, None, is_some, length, nat_le, sym}
 use Rattle.std.proofs.lemmas.Bool.{true≢false}
 use Rattle.std.specs.List.{list_all}
 use Rattle.text_lines.specs.Lines.{without_return}

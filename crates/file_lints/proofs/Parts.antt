@@ -1,10 +1,10 @@
 -- In which part of a file a breach is found.
-use Rattle.std.proofs.Common.{◌≡◌, ◌≢◌, ◌⊎◌, ◌∙◌, ℕ, zero, suc, ◌+◌, ◌<◌, ◌≤◌, List, [], ◌∷◌, length, true, false, Option, Some, None, ap, arith, refl, subst, sym, inl, inr}
+use Rattle.std.proofs.Common.{◌≡◌, ◌≢◌, ◌⊎◌, ◌∙◌, ℕ, zero, suc, ◌+◌, ◌<◌, ◌≤◌, List, length, true, false, Option, Some, None, ap, arith, refl, subst, sym, inl, inr}
 use Rattle.std.specs.Prelude.{codes}
 use Rattle.std.specs.Option.{option_and_then}
 use Rattle.std.proofs.lemmas.Bool.{cases_lt}
 use Rattle.std.proofs.lemmas.Option.{same_Some}
-use Rattle.toml.specs.Data.{Data, Items, Members, as_array, as_table, at, get_item, get_member, table}
+use Rattle.toml.specs.Data.{Data, Items, Members, as_array, as_table, at, get_item, get_member}
 use Rattle.toml.specs.View.{items_view}
 use Rattle.toml.specs.declared.value.Value.{Value}
 use Rattle.toml.proofs.Views.{get_item_past}
@@ -18,7 +18,7 @@ use Rattle.file_lints.specs.declared.breach.Place.TheVariants.{File, Monitor, Ra
 use Rattle.file_lints.specs.declared.breach.Breach.{Breach}
 use Rattle.file_lints.specs.declared.breach.Breach.TheVariants.{Unknown, Missing, NoNumber, NoPages, NoPerm, NoTable, NoTables, Overlap, Rule}
 use Rattle.file_lints.specs.Breaches.{key_name, needed_of, numbered, numbers_of, value_of, at_place, no_array, rule, Breaks, BreaksAt, IsBreach, IsBroken}
-use Rattle.file_lints.specs.Order.{file_part, key_part, key_step, place_part, place_item, part_of, item_of, step_of, BreaksNoItem, BreaksNoItemBefore, BreaksNoneBelowAt, BreaksNoneOf, ComesBefore, IsFirstBreach, IsFirstOf, IsOfRules, first_breach}
+use Rattle.file_lints.specs.Order.{file_part, key_part, place_part, part_of, item_of, step_of, BreaksNoItem, BreaksNoItemBefore, BreaksNoneBelowAt, BreaksNoneOf, ComesBefore, IsFirstBreach, IsFirstOf, IsOfRules, first_breach}
 use Rattle.file_lints.proofs.FoundInPlatforms.{at_array}
 use Rattle.file_lints.proofs.Steps.{only_known, placed_at, step_small}
 

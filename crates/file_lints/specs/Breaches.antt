@@ -1,4 +1,4 @@
--- Why a document tells no platform.
+-- Why a document is no platform.
 use Rattle.std.specs.Prelude.{◌≡◌, ◌≢◌, ◌⊎◌, ℕ, zero, suc, ◌+◌, ◌<◌, ◌≤◌, false, true, List, []}
 use Rattle.std.specs.Prelude.{◌∷◌, ◌++◌, Option, Some, None, option_and_then, codes}
 use Rattle.toml.specs.Data.{Data, table, Items, Members, get_item, get_member, at, as_array}
@@ -10,8 +10,7 @@ use Rattle.platforms.specs.CheckLists.{FailsFirst}
 use Rattle.platforms.specs.declared.platform.PlatformFault.{PlatformFault}
 use Rattle.platforms.specs.declared.platform.PlatformFault.TheVariants.{BadHarts, BadEntries}
 use Rattle.platforms.specs.declared.platform.PlatformFault.TheVariants.{Overlap}
-use Rattle.platform_file.specs.Document.{is_known, has_only, known, number, number_or, perm_of}
-use Rattle.platform_file.specs.Document.{range_in, monitor_at, ram_at, devices_at}
+use Rattle.platform_file.specs.Document.{HasForm, is_known, known, number, perm_of, range_in}
 use Rattle.file_lints.specs.declared.breach.Key.{Key}
 use Rattle.file_lints.specs.declared.breach.Key.TheVariants as keys
 use Rattle.file_lints.specs.declared.breach.Place.{Place}
@@ -98,21 +97,6 @@ BreaksRule monitor ram devices harts entries fault =
     FailsFirst (platform_rules monitor ram devices
     ++ ((BadHarts, (0 < harts) × (harts ≤ 4))
     ∷ ((BadEntries, (entries ≡ 16) ⊎ (entries ≡ 64)) ∷ []))) fault
-
--- each part of a platform is there and has its form. What is left are the rules on its ranges and
--- numbers
-pub record HasForm (document : Members) : Type 0 where
-  pub keys : has_only known document ≡ true
-  pub monitor : ℕ × ℕ
-  pub ram : List (ℕ × ℕ)
-  pub devices : List (ℕ × ℕ × Perm)
-  pub harts : ℕ
-  pub entries : ℕ
-  pub monitor_is : monitor_at document ≡ Some monitor
-  pub ram_is : ram_at document ≡ Some ram
-  pub devices_are : devices_at document ≡ Some devices
-  pub harts_are : number_or 1 (codes "harts") document ≡ Some harts
-  pub entries_are : number_or 16 (codes "entries") document ≡ Some entries
 
 -- a broken rule as what a document breaks: of two ranges that have a page in common, both
 abbrev pub IsBroken : PlatformFault → List (ℕ × ℕ) → List (ℕ × ℕ × Perm) → Breach → Type 0

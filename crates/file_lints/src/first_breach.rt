@@ -5,8 +5,8 @@ ghost use Rattle.std.specs.Option.{option_and_then};
 ghost use Rattle.toml.specs.Data.{as_table};
 ghost use Rattle.toml.specs.View.{items_view, table_view, view};
 ghost use Rattle.pmp_encoding.specs.declared.perm.Perm.{Perm};
-ghost use Rattle.platform_file.specs.Document.{device_of, devices_at, each, is_known, monitor_at, number_or, ram_at, range_of};
-ghost use Rattle.file_lints.specs.Breaches.{key_name, keys_of, numbers_of, BreaksAt, BreaksItem, HasForm, IsBreach};
+ghost use Rattle.platform_file.specs.Document.{HasForm, device_of, devices_at, each, is_known, monitor_at, number_or, ram_at, range_of};
+ghost use Rattle.file_lints.specs.Breaches.{key_name, keys_of, numbers_of, BreaksAt, BreaksItem, IsBreach};
 ghost use Rattle.file_lints.specs.Order.{file_part, item_of, part_of, step_of, BreaksNoItem, BreaksNoItemBefore, BreaksNoneBelowAt, BreaksNoneOf, IsFirstBreach, IsFirstOf};
 ghost use Rattle.file_lints.specs.declared.breach.Breach.{Breach};
 

@@ -1,18 +1,15 @@
-//! Why a text is no platform file: the first thing that it breaks, and what would fix it.
+//! Why a file is no platform or no trace: where it is at fault, for what reason, and what would fix it.
 //!
-//! For the layer above: [`lint_platform`] answers whether a file is a platform, exactly as `platform_of` takes it, and
-//! writes one line where it is none. What the line says of a TOML document is true of it.
+//! - `platform_lints`: [`lint_platform`] answers whether a file is a platform, exactly as `platform_of` takes it, and writes one
+//!   line where it is none. The line says what its TOML document breaks first, a [`Breach`]: `first_breach` finds what a
+//!   part of it breaks, and `rules` which rule its ranges and numbers break.
+//! - `trace_lints`: [`lint_trace`] answers whether `run` or `judge` takes each line of a file, and writes a line for each that
+//!   is not taken. A [`Taker`] says which of the two it is. `line_finding` and `event_finding` find the reason.
+//!
+//! What either says of a file is true of it.
 //!
 //! ```text
 //! board.toml: device 1: perm is no permission; write none, r, rw, x, rx or rwx
-//! ```
-//!
-//! Why a file is no trace: what is wrong with each of its lines at fault, and what would fix it.
-//!
-//! For the layer above: [`lint_trace`] answers whether `run` or `judge` takes each line of a file, and writes a line for each
-//! that is not taken. What is said of a line is true of it. A [`Taker`] names which of the two it is.
-//!
-//! ```text
 //! boot.trace:3:8: SIZE '3' is no size of a load; write 1, 2, 4 or 8
 //! ```
 #![tactic(auto)]

@@ -5,7 +5,7 @@ ghost use Rattle.byte_streams.specs.Writings.{writing, Breaks, TakesAll};
 ghost use Rattle.toml.specs.Errors.{IsMemory, IsWithin, span_start};
 ghost use Rattle.toml.specs.View.{table_view};
 ghost use Rattle.platforms.specs.Platform.{PlatformLayout};
-ghost use Rattle.platform_file.specs.Document.{IsPlatformFile, IsPlatformText, Tells};
+ghost use Rattle.platform_file.specs.Document.{IsPlatformDocument, IsPlatformFile, IsPlatformText};
 ghost use Rattle.file_lints.specs.PlatformLints.{IsFinding, IsLintLine, IsSyntaxText, no_text_line, position_after};
 ghost use Rattle.file_lints.specs.Order.{IsFirstBreach};
 ghost use Rattle.file_lints.specs.PlatformTexts.{breach_text};
@@ -24,9 +24,10 @@ use std::str;
 use toml::Table;
 use toml::de::Error;
 
-/// What a document breaks first that tells no platform.
+/// What a document breaks first that is no platform.
 fn breach_of<'a>(alloc: Global, document: &'a Table) -> Result<Breach<'a>, AllocError>
-    requires { (platform : PlatformLayout) → Tells (table_view document.now) platform → ⊥ }
+    requires { (platform : PlatformLayout)
+        → IsPlatformDocument (table_view document.now) platform → ⊥ }
     ensures { IfOk result (IsFirstBreach (table_view document.now)) }
 {
     if let Some(breach) = form_breach(document) {
@@ -83,9 +84,10 @@ fn push_syntax(line: &mut Vec<u8>, text: &str, error: &Error) -> Result<(), Allo
     push(line, error.message())
 }
 
-/// Appends what a document breaks first that tells no platform.
+/// Appends what a document breaks first that is no platform.
 fn push_document(alloc: Global, line: &mut Vec<u8>, document: &Table) -> Result<(), AllocError>
-    requires { (platform : PlatformLayout) → Tells (table_view document.now) platform → ⊥ }
+    requires { (platform : PlatformLayout)
+        → IsPlatformDocument (table_view document.now) platform → ⊥ }
     ensures { OnOk result ((breach : Breach) × IsFirstBreach (table_view document.now) breach
         × (line.new.items ≡ line.old.items ++ (codes ": " ++ breach_text breach))) }
 {

@@ -5,8 +5,8 @@ ghost use Rattle.toml.specs.View.{table_view};
 ghost use Rattle.platforms.specs.Platform.{PlatformLayout};
 ghost use Rattle.platforms.specs.Ranges.{EachApart, device_range};
 ghost use Rattle.platforms.specs.declared.platform.PlatformFault.TheVariants.{Overlap};
-ghost use Rattle.platform_file.specs.Document.{Builds, Tells};
-ghost use Rattle.file_lints.specs.Breaches.{BreaksRule, HasForm, IsBreach, IsBroken};
+ghost use Rattle.platform_file.specs.Document.{Builds, HasForm, IsPlatformDocument};
+ghost use Rattle.file_lints.specs.Breaches.{BreaksRule, IsBreach, IsBroken};
 ghost use Rattle.file_lints.specs.Order.{IsOfRules};
 
 use crate::breach::Breach;
@@ -35,7 +35,7 @@ pub(crate) fn rule_breach<'a>(
         IfSome found (IsBreach (table_view document.now))) }
     ensures last { IfOk result (λ found. IfSome found IsOfRules) }
     ensures none { result ≡ Ok None
-        → (platform : PlatformLayout) × Tells (table_view document.now) platform }
+        → (platform : PlatformLayout) × IsPlatformDocument (table_view document.now) platform }
 {
     let Some(monitor) = monitor_at(document) else {
         unreachable!();

@@ -5,7 +5,7 @@ ghost use Rattle.std.specs.List.{position_or_len, prefix_len};
 ghost use Rattle.text_lines.specs.Words.{is_blank};
 ghost use Rattle.lint_texts.specs.Columns.{begin_from, end_from, end_of, placed_at, word_from};
 
-use text_lines::word_len;
+use text_lines::{is_blank, word_len};
 
 /// A word of a line, and how many bytes stand before it and before its end; without bytes where there is none.
 #[derive(Clone, Copy)]
@@ -13,12 +13,6 @@ pub struct Placed<'a> {
     pub before: usize,
     pub word: &'a [u8],
     pub end: usize,
-}
-
-fn is_blank(byte: u8) -> bool
-    ensures { result ≡ is_blank byte }
-{
-    byte == b' ' || byte == b'\t'
 }
 
 /// How many bytes of a text stand before the first that is this one.

@@ -7,6 +7,7 @@ ghost use Rattle.text_lines.specs.Words.{content_of, is_allowed};
 ghost use Rattle.lint_texts.specs.Lines.{unended};
 
 use crate::columns::len_before;
+use text_lines::is_allowed;
 
 /// The first line, and what stands after its LF.
 pub fn split_line(bytes: &[u8]) -> (&[u8], &[u8])
@@ -27,12 +28,6 @@ pub fn unended(line: &[u8]) -> &[u8]
     ensures most { length result.now ≤ length line.now }
 {
     &line[..len_before(b'\n', line)]
-}
-
-fn is_allowed(byte: u8) -> bool
-    ensures { result ≡ is_allowed byte }
-{
-    byte == b'\t' || (byte >= 32 && byte <= 126)
 }
 
 /// How many bytes stand before the first that may not stand outside a comment.

@@ -1,4 +1,3 @@
-mod FirstLine
 mod Followed
 mod Growing
 mod PlainSettings

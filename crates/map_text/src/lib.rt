@@ -1,8 +1,8 @@
 //! The text of a map: what its lines say, and the map that they make.
 //!
 //! Each line sets a permission on whole pages, and a later line overrides an earlier one. For the layer above: [`map_of`]
-//! answers the map that the lines of a file make, or the first line at fault; [`raw_says`] answers what one line says;
-//! [`next_line`] hands out the lines of bytes that are all there. [`MAP_BYTES`] is how many bytes a map file may have.
+//! answers the map that the lines of a file make, or the first line at fault; [`raw_says`] answers what one line says.
+//! [`MAP_BYTES`] is how many bytes a map file may have.
 //!
 //! ```rust
 //! let map = map_of(rt.alloc(), b"0x80000000 0x1000 rwx\n")?;
@@ -12,5 +12,5 @@
 mod map_file;
 mod map_lines;
 
-pub use map_file::{AT_ONCE, MAP_BYTES, MapFileFault, map_of, next_line};
+pub use map_file::{MAP_BYTES, MapFileFault, map_of};
 pub use map_lines::raw_says;

@@ -1,21 +1,16 @@
 //! A map file: each line sets a permission on pages, and a later line overrides an earlier one.
 
-ghost use Rattle.std.specs.Prelude.{◌≡◌, ℕ, ◌+◌, ◌-◌, ◌^◌, ◌<◌, Err, IfErr, IfOk, None, OnOk, length};
-ghost use Rattle.text_lines.specs.LineReaders.{came_of, most_of};
-ghost use Rattle.map_text.specs.Lines.{NextOf};
+ghost use Rattle.std.specs.Prelude.{◌≡◌, ℕ, ◌-◌, ◌^◌, ◌<◌, Err, IfErr, IfOk, None, OnOk, length};
 ghost use Rattle.map_text.specs.MapFile.{FaultAt, IsUnknown, Leads, Makes, MakesFirst, MakesTooMany, line_says};
 
 use crate::map_lines::line_says;
 use permission_map::{MapBuilder, MapFault, PermissionMap};
 use std::alloc::Global;
-use text_lines::{LineReader, ReadFault};
+use text_lines::{AT_ONCE, LineReader, next_line};
 use thiserror::Error;
 
 /// How many bytes a map file may have.
 pub const MAP_BYTES: usize = 1 << 20;
-
-/// How many bytes of a text that is all there are looked at in one piece: a copy of them stands on the stack.
-pub const AT_ONCE: usize = 4096;
 
 /// Why a file gives no map.
 #[derive(Clone, Copy, Debug, PartialEq, Eq, Error)]
@@ -37,27 +32,6 @@ enum LineFault {
     NotUnderstood,
     TooManyRanges,
     Memory,
-}
-
-/// Hands out the next line of bytes that are all there, or says that there is none; or which line is too long.
-#[tactic(auto, unfolding(byte_streams::specs::Streams::one_failure_more))]
-pub fn next_line<const SIZE: usize>(
-    lines: &mut LineReader<SIZE>,
-    rest: &mut &[u8],
-) -> Result<bool, u64>
-    requires limit { most_of lines.old ≡ 2 ^ 64 - 1 }
-    requires few { came_of lines.old + length rest.old.now < 2 ^ 64 - 1 }
-    ensures next { NextOf result lines.old lines.new rest.old.now rest.new.now }
-    ensures limit { most_of lines.new ≡ most_of lines.old }
-    ensures came { came_of lines.new + length rest.new.now
-        ≡ came_of lines.old + length rest.old.now }
-{
-    match lines.next_line(rest) {
-        Ok(more) => Ok(more),
-        Err(ReadFault::LongLine(number)) => Err(number),
-        Err(ReadFault::TooManyBytes) => unreachable!(),
-        Err(ReadFault::Device) => unreachable!(),
-    }
 }
 
 /// Does to the map what a line says.

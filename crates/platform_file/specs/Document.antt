@@ -95,6 +95,22 @@ number_or usual key document = number_told usual (get_member key document)
 abbrev pub known : List (List ℕ)
 known = codes "monitor" ∷ codes "ram" ∷ codes "device" ∷ codes "harts" ∷ codes "entries" ∷ []
 
+-- each part of a platform is there and has its form, and no key has another name: one hart where no
+-- `harts` is given, and sixteen entries where no `entries` is. What is left are the rules on its
+-- ranges and numbers
+pub record HasForm (document : Members) : Type 0 where
+  pub keys : has_only known document ≡ true
+  pub monitor : ℕ × ℕ
+  pub ram : List (ℕ × ℕ)
+  pub devices : List (ℕ × ℕ × Perm)
+  pub harts : ℕ
+  pub entries : ℕ
+  pub monitor_is : monitor_at document ≡ Some monitor
+  pub ram_is : ram_at document ≡ Some ram
+  pub devices_are : devices_at document ≡ Some devices
+  pub harts_are : number_or 1 (codes "harts") document ≡ Some harts
+  pub entries_are : number_or 16 (codes "entries") document ≡ Some entries
+
 -- the platform of these ranges and numbers: no rule on platforms is broken
 pub record Builds (monitor : ℕ × ℕ) (ram : List (ℕ × ℕ)) (devices : List (ℕ × ℕ × Perm))
     (harts entries : ℕ) (platform : PlatformLayout) : Type 0 where
@@ -110,27 +126,17 @@ pub record Builds (monitor : ℕ × ℕ) (ram : List (ℕ × ℕ)) (devices : Li
     limit = platform.limit;
   }
 
--- a document of those keys alone tells a platform: one hart where no `harts` is told, and sixteen
--- entries
-pub record Tells (document : Members) (platform : PlatformLayout) : Type 0 where
-  pub keys : has_only known document ≡ true
-  pub monitor : ℕ × ℕ
-  pub ram : List (ℕ × ℕ)
-  pub devices : List (ℕ × ℕ × Perm)
-  pub harts : ℕ
-  pub entries : ℕ
-  pub monitor_is : monitor_at document ≡ Some monitor
-  pub ram_is : ram_at document ≡ Some ram
-  pub devices_are : devices_at document ≡ Some devices
-  pub harts_are : number_or 1 (codes "harts") document ≡ Some harts
-  pub entries_are : number_or 16 (codes "entries") document ≡ Some entries
-  pub built : Builds monitor ram devices harts entries platform
+-- a document is the platform: each part has its form, and the platform is that of its ranges and
+-- numbers
+pub record IsPlatformDocument (document : Members) (platform : PlatformLayout) : Type 0 where
+  pub form : HasForm document
+  pub built : Builds form.monitor form.ram form.devices form.harts form.entries platform
 
--- a text is the platform: it is a TOML document that tells it
+-- a text is the platform: it is a TOML document that is
 pub record IsPlatformText (text : List ℕ) (platform : PlatformLayout) : Type 0 where
   pub document : Members
   pub parsed : parse_document text ≡ Some document
-  pub told : Tells document platform
+  pub is_platform : IsPlatformDocument document platform
 
 -- the bytes of a file are the platform: they are a text of UTF-8 that is
 pub record IsPlatformFile (bytes : List ℕ) (platform : PlatformLayout) : Type 0 where

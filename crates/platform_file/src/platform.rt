@@ -4,7 +4,7 @@ ghost use Rattle.std.specs.Prelude.{◌≡◌, ◌<◌, Err, IfOk, IfSome, None}
 ghost use Rattle.toml.specs.Parse.{parse_document};
 ghost use Rattle.toml.specs.View.{table_view};
 ghost use Rattle.platforms.specs.Platform.{PlatformLayout};
-ghost use Rattle.platform_file.specs.Document.{IsPlatformText, Builds, Tells};
+ghost use Rattle.platform_file.specs.Document.{IsPlatformText, Builds, IsPlatformDocument};
 
 use crate::TextFault;
 use crate::document::{has_only, number_or};
@@ -67,11 +67,11 @@ fn built(
     Some(platform)
 }
 
-/// The platform that a document tells.
-fn told(alloc: Global, document: &Table) -> Result<Platform, TextFault>
-    ensures ok { IfOk result (Tells (table_view document.now)) }
+/// The platform that a document is.
+fn platform_in(alloc: Global, document: &Table) -> Result<Platform, TextFault>
+    ensures ok { IfOk result (IsPlatformDocument (table_view document.now)) }
     ensures refused { result ≡ Err TextFault.NotAPlatform → (platform : PlatformLayout)
-        → Tells (table_view document.now) platform → ⊥ }
+        → IsPlatformDocument (table_view document.now) platform → ⊥ }
 {
     if !has_only(document, &["monitor", "ram", "device", "harts", "entries"]) {
         return Err(TextFault::NotAPlatform);
@@ -107,5 +107,5 @@ pub fn platform_of(alloc: Global, text: &str) -> Result<Platform, TextFault>
         → ⊥ }
 {
     let document = document_of(alloc, text)?;
-    told(alloc, &document)
+    platform_in(alloc, &document)
 }

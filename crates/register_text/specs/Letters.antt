@@ -4,22 +4,12 @@ use Rattle.std.specs.Prelude.{if◌then◌else◌, List, [], ◌∷◌, length, 
 use Rattle.std.specs.Prelude.{codes, bytes_eq}
 use Rattle.std.specs.List.{position_or_len}
 use Rattle.std.specs.Option.{option_and_then}
-use Rattle.std.specs.Str.{str_eq_ignore_ascii_case}
+use Rattle.text_lines.specs.Bytes.{after_text}
 use Rattle.pmp_encoding.specs.declared.perm.Perm.{Perm}
 use Rattle.pmp_encoding.specs.declared.perm.Perm.TheVariants.{NoAccess, Read, ReadWrite, Execute}
 use Rattle.pmp_encoding.specs.declared.perm.Perm.TheVariants.{ReadExecute, ReadWriteExecute}
 
--- what stands after a name that a word begins with
-abbrev pub behind : List ℕ → List ℕ → Option (List ℕ)
-behind word name = if nat_le (length name) (length word) && bytes_eq (take (length name) word) name
-    then Some (drop (length name) word) else None
-
--- a word begins with a name, in upper or lower case
-abbrev pub begins_with : List ℕ → List ℕ → Bool
-begins_with word name = nat_le (length name) (length word)
-    && str_eq_ignore_ascii_case (take (length name) word) name
-
--- what stands before a closing parenthesis at the end
+-- what comes before a closing parenthesis at the end
 abbrev pub before_end : List ℕ → Option (List ℕ)
 before_end text = if bytes_eq (drop (length text - 1) text) (codes ")")
     then Some (take (length text - 1) text) else None
@@ -42,7 +32,7 @@ of_letters text = if are_letters text then Some text else None
 
 -- the letters in parentheses
 abbrev pub letters_of : List ℕ → Option (List ℕ)
-letters_of word = option_and_then of_letters (option_and_then before_end (behind word (codes "(")))
+letters_of word = option_and_then of_letters (option_and_then before_end (after_text word (codes "(")))
 
 -- whether a letter is among them
 abbrev pub has_letter : ℕ → List ℕ → Bool

@@ -8,11 +8,11 @@ use Rattle.std.specs.Str.{str_eq_ignore_ascii_case}
 use Rattle.pmp_encoding.specs.declared.xlen.Xlen.{Xlen}
 use Rattle.pmp_encoding.specs.declared.xlen.Xlen.TheVariants.{Rv32, Rv64}
 use Rattle.pmp_encoding.specs.Widths.{fits, word_entries, xlen_bits}
+use Rattle.text_lines.specs.Bytes.{after_name, begins_with}
 use Rattle.text_lines.specs.Words.{words_of}
 use Rattle.text_lines.specs.Numbers.{numeral_of, number_of}
 use Rattle.text_lines.specs.Lines.{without_return}
 use Rattle.register_text.specs.declared.entry.RegionEntry.{RegionEntry}
-pub use Rattle.register_text.specs.Letters.{begins_with}
 use Rattle.register_text.specs.LogLines.{log_says}
 use Rattle.register_text.specs.declared.setting.Setting.{Setting}
 use Rattle.register_text.specs.declared.setting.Setting.TheVariants as settings
@@ -25,10 +25,6 @@ IsInside xlen (settings.Security value) = ⊤
 IsInside xlen (settings.Pair place cfg address) = place < 64
 IsInside xlen (settings.Address place value) = place < 64
 IsInside xlen (settings.Word place value) = place + word_entries xlen ≤ 64
-
--- what stands after a name with which a word begins, in upper or lower case
-abbrev pub behind : List ℕ → List ℕ → Option (List ℕ)
-behind word name = if begins_with word name then Some (drop (length name) word) else None
 
 -- decimal digits with no leading zero
 abbrev pub has_leading_zero : List ℕ → Bool
@@ -79,10 +75,10 @@ other_setting name value =
     else if is_other name value then Some settings.Other else None
 
 -- a name of a register and its value
-abbrev pub by_behind : Xlen → List ℕ → ℕ → Option (List ℕ) → Option (List ℕ) → Option Setting
-by_behind xlen name value (Some digits) cfg = address_setting digits value
-by_behind xlen name value None (Some digits) = word_setting xlen digits value
-by_behind xlen name value None None = other_setting name value
+abbrev pub by_digits : Xlen → List ℕ → ℕ → Option (List ℕ) → Option (List ℕ) → Option Setting
+by_digits xlen name value (Some digits) cfg = address_setting digits value
+by_digits xlen name value None (Some digits) = word_setting xlen digits value
+by_digits xlen name value None None = other_setting name value
 
 -- a name without the colon that may follow it
 abbrev pub without_colon : List ℕ → List ℕ
@@ -92,7 +88,7 @@ without_colon name = if bytes_eq (drop (length name - 1) name) (codes ":")
 -- a register holds the value
 abbrev pub plain_setting : Xlen → List ℕ → ℕ → Option Setting
 plain_setting xlen name value = if fits xlen value
-    then by_behind xlen name value (behind name (codes "pmpaddr")) (behind name (codes "pmpcfg"))
+    then by_digits xlen name value (after_name name (codes "pmpaddr")) (after_name name (codes "pmpcfg"))
     else None
 
 abbrev pub register_setting : Xlen → List ℕ → ℕ → Option Setting

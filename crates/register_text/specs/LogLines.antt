@@ -6,12 +6,13 @@ use Rattle.std.specs.List.{list_all, position_or_len}
 use Rattle.std.specs.Option.{is_some, option_and_then, unwrap_or}
 use Rattle.pmp_encoding.specs.declared.perm.Perm.{Perm}
 use Rattle.pmp_encoding.specs.declared.xlen.Xlen.{Xlen}
+use Rattle.text_lines.specs.Bytes.{after_text, begins_with}
 use Rattle.text_lines.specs.Words.{words_of}
 use Rattle.text_lines.specs.Numbers.{numeral_of, number_of}
 use Rattle.text_lines.specs.Lines.{raw_lines, without_return}
 use Rattle.register_text.specs.declared.entry.RegionEntry.{RegionEntry}
 use Rattle.register_text.specs.Blocks.{address_by, block_from, cfg_by}
-use Rattle.register_text.specs.Letters.{begins_with, behind, perm_of}
+use Rattle.register_text.specs.Letters.{perm_of}
 
 -- the words of a line, and none where a byte outside its comment may not stand there
 abbrev pub words_in : List ℕ → List (List ℕ)
@@ -20,7 +21,7 @@ words_in raw = unwrap_or (words_of (without_return raw)) []
 -- words on a region of the first domain: `Domain0`, and a word that begins with `Region`
 abbrev pub is_region : List (List ℕ) → Bool
 is_region (domain ∷ region ∷ rest) = bytes_eq domain (codes "Domain0")
-    && is_some (behind region (codes "Region"))
+    && is_some (after_text region (codes "Region"))
 is_region _ = false
 
 -- a line on a region of the first domain
@@ -35,7 +36,7 @@ is_register (name ∷ rest) = begins_with name (codes "pmp") || begins_with name
 
 -- the number of a region, of `RegionNN`
 abbrev pub number_in : List ℕ → Option ℕ
-number_in region = option_and_then (numeral_of 10) (behind region (codes "Region"))
+number_in region = option_and_then (numeral_of 10) (after_text region (codes "Region"))
 
 -- how many bytes stand before the dash of `FIRST-LAST`
 abbrev pub dash_at : List ℕ → ℕ
@@ -51,7 +52,7 @@ block_in xlen word = if nat_lt (dash_at word) (length word)
     then block_by xlen (number_of (take (dash_at word) word))
     (number_of (drop (dash_at word + 1) word)) else None
 
--- the letters of supervisor and user mode: the one word up to OpenSBI 1.1, or the word behind
+-- the letters of supervisor and user mode: the one word up to OpenSBI 1.1, or the word after
 -- `S/U:`
 abbrev pub letters_in : List (List ℕ) → Option (List ℕ)
 letters_in (letters ∷ []) = Some letters

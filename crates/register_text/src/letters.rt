@@ -1,40 +1,13 @@
 //! The letters of a region.
 
-ghost use Rattle.std.specs.Prelude.{◌≡◌, option_map, bytes_eq};
-ghost use Rattle.register_text.specs.Letters.{are_letters, before_end, begins_with, behind, has_letter, is_letter, letters_of, perm_by, perm_of};
+ghost use Rattle.std.specs.Prelude.{◌≡◌, option_map};
+ghost use Rattle.register_text.specs.Letters.{are_letters, before_end, has_letter, is_letter, letters_of, perm_by, perm_of};
 
 use lint_texts::len_before;
 use pmp_encoding::Perm;
+use text_lines::{after_text, is_text};
 
-/// Whether a word is a text.
-pub(crate) fn is_text(word: &[u8], text: &[u8]) -> bool
-    ensures { result ≡ bytes_eq word.now text.now }
-{
-    word == text
-}
-
-/// What stands after a name that a word begins with.
-pub(crate) fn behind<'a>(word: &'a [u8], name: &[u8]) -> Option<&'a [u8]>
-    ensures { option_map (λ rest. rest.now) result ≡ behind word.now name.now }
-{
-    if name.len() > word.len() {
-        return None;
-    }
-    if is_text(&word[..name.len()], name) {
-        Some(&word[name.len()..])
-    } else {
-        None
-    }
-}
-
-/// Whether a word begins with a name, in upper or lower case.
-pub fn begins_with(word: &[u8], name: &[u8]) -> bool
-    ensures { result ≡ begins_with word.now name.now }
-{
-    name.len() <= word.len() && word[..name.len()].eq_ignore_ascii_case(name)
-}
-
-/// What stands before a closing parenthesis at the end.
+/// What comes before a closing parenthesis at the end.
 fn before_end(text: &[u8]) -> Option<&[u8]>
     ensures { option_map (λ rest. rest.now) result ≡ before_end text.now }
 {
@@ -69,7 +42,7 @@ fn are_letters(text: &[u8]) -> bool
 fn letters_of(word: &[u8]) -> Option<&[u8]>
     ensures { option_map (λ rest. rest.now) result ≡ letters_of word.now }
 {
-    let rest = behind(word, b"(")?;
+    let rest = after_text(word, b"(")?;
     let letters = before_end(rest)?;
     if are_letters(letters) {
         Some(letters)

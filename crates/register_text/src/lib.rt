@@ -1,27 +1,21 @@
-//! Registers as text: what the lines of a listing set, and the registers that they leave.
+//! Listings of PMP registers as text, and OpenSBI's boot logs: what their lines set, and the registers that they leave.
 //!
-//! A listing is what `plan` prints, or lines `pmpaddrN VALUE` and `pmpcfgK VALUE` in any order, as gdb, OpenOCD or a boot log
-//! has them. A later line overrides an earlier one, and what no line sets is zero. Lines of other registers set nothing, and the
-//! first of them is named. OpenSBI's boot log is a listing too: its lines on regions set entries, and all others nothing. For
-//! the layer above: [`listing_of`] answers the registers of a hart of that width, `mseccfg` and that line, or the number of
-//! the first line that is not understood; [`extents_in`] answers what the entries match, or the line that says why they mean
-//! nothing.
+//! A listing is what `plan` prints, or lines `pmpaddrN VALUE` and `pmpcfgK VALUE` in any order, as gdb and OpenOCD print them. A
+//! later line overrides an earlier one, and what no line sets is zero. Lines of other registers set nothing, and the first of
+//! them is named. A boot log is a listing too: its lines on the regions of the first domain set entries, and all others nothing.
+//!
+//! - `listing`: [`listing_of`] answers the registers of a hart of that width, `mseccfg`, and the first line that is passed over;
+//!   or the number of the first line that is not understood. [`is_listing`] says whether there is none.
+//! - `register_lines`: [`line_sets`] answers what one line of registers sets, a [`Setting`].
+//! - `lines`: [`is_boot_log`] says whether some line of a text is on a region, and [`log_says`] which [`RegionEntry`] a line of a
+//!   log sets, that it says nothing, or that it is not understood. A region is an aligned block of 2^k bytes, or the whole
+//!   space (`block`); its letters say what supervisor and user mode may do there (`letters`).
+//! - `extents`: [`extents_in`] answers what the entries match, or the line that says why they mean nothing. `texts` has the lines
+//!   on such listings.
 //!
 //! ```rust
 //! let listing = listing_of(Xlen::Rv64, b"pmpaddr0 0x200001ff\npmpcfg0 0x1f\n")?;
 //! assert_eq!(listing.registers.cfgs[0], 0x1f);
-//! ```
-//!
-//! The regions that OpenSBI's boot log names, as entries.
-//!
-//! OpenSBI prints a line for each region of its first domain, smaller ones first, and writes an entry for each in that order. A
-//! region is an aligned block of 2^k bytes, or the whole space; its letters say what supervisor and user mode may do there.
-//! For the layer above: [`is_boot_log`] says whether some line of a text is on a region, and [`log_says`] which entry a line
-//! sets, that it says nothing, or that it is not understood, by the width of the hart's registers. Nothing here takes memory.
-//!
-//! ```text
-//! Domain0 Region01          : 0x0000000080000000-0x000000008007ffff ()
-//! Domain0 Region01          : 0x0000000080000000-0x000000008001ffff M: (R,X) S/U: ()
 //! ```
 #![tactic(auto)]
 
@@ -41,7 +35,6 @@ pub use block::block_from;
 pub use entry::RegionEntry;
 pub use extents::extents_in;
 pub use laws::region_law;
-pub use letters::begins_with;
 pub use lines::{is_boot_log, log_says};
 pub use listing::{Listing, is_listing, listing_of};
 pub use pmp_match::Registers;

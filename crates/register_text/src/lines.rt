@@ -9,10 +9,12 @@ ghost use Rattle.register_text.specs.LogLines.{block_in, entry_by, entry_in, is_
 
 use crate::block::block_from;
 use crate::entry::RegionEntry;
-use crate::letters::{begins_with, behind, is_text, perm_of};
+use crate::letters::perm_of;
 use lint_texts::{len_before, split_line};
 use pmp_encoding::{Entry, Perm, Region, Xlen};
-use text_lines::{NotUnderstood, Words, number, numeral, without_return};
+use text_lines::{
+    NotUnderstood, Words, after_text, begins_with, is_text, number, numeral, without_return,
+};
 
 /// The words of a line, and none where a byte outside its comment may not stand there.
 fn words_in(raw: &[u8]) -> Words<'_>
@@ -34,7 +36,7 @@ fn is_region(mut words: Words<'_>) -> bool
     let Some(region) = words.next_word() else {
         return false;
     };
-    is_text(domain, b"Domain0") && behind(region, b"Region").is_some()
+    is_text(domain, b"Domain0") && after_text(region, b"Region").is_some()
 }
 
 /// Whether words are on a register of the protection.
@@ -51,7 +53,7 @@ fn is_register(mut words: Words<'_>) -> bool
 fn number_in(region: &[u8]) -> Option<u64>
     ensures { result ≡ number_in region.now }
 {
-    let digits = behind(region, b"Region")?;
+    let digits = after_text(region, b"Region")?;
     numeral(digits, 10)
 }
 

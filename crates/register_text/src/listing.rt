@@ -9,10 +9,9 @@ use crate::is_boot_log;
 use crate::log::log_listing;
 use crate::register_lines::line_sets;
 use crate::setting::nothing_set;
-use map_text::{AT_ONCE, next_line};
 use pmp_encoding::Xlen;
 use pmp_match::Registers;
-use text_lines::LineReader;
+use text_lines::{AT_ONCE, LineReader, next_line};
 
 /// What the lines of a listing leave.
 #[derive(Clone, Copy)]

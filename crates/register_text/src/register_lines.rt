@@ -9,36 +9,13 @@ ghost use Rattle.text_lines.specs.Numbers.{number_of};
 ghost use Rattle.std.specs.List.{list_all};
 ghost use Rattle.std.specs.Option.{option_and_then};
 ghost use Rattle.std.specs.Str.{str_eq_ignore_ascii_case};
-ghost use Rattle.register_text.specs.Lines.{IsInside, address_setting, begins_with, begins_with_letter, behind, equals_at, has_leading_zero, index_of, is_between, is_foreign, is_letter, is_no_name, is_other, line_sets, named_setting, other_setting, pair_by_words, pair_setting, plain_setting, register_setting, set_by_many, set_by_words, value_word, width_sign, without_colon, word_setting};
+ghost use Rattle.register_text.specs.Lines.{IsInside, address_setting, begins_with_letter, equals_at, has_leading_zero, index_of, is_between, is_foreign, is_letter, is_no_name, is_other, line_sets, named_setting, other_setting, pair_by_words, pair_setting, plain_setting, register_setting, set_by_many, set_by_words, value_word, width_sign, without_colon, word_setting};
 
-use crate::begins_with;
 use crate::setting::Setting;
 use pmp_encoding::Xlen;
-use text_lines::{NotUnderstood, Words, number, numeral};
-
-fn is_text(word: &[u8], text: &[u8]) -> bool
-    ensures { result ≡ bytes_eq word.now text.now }
-{
-    word == text
-}
-
-/// Whether a word is a text, in upper or lower case.
-fn is_text_in_any_case(word: &[u8], text: &[u8]) -> bool
-    ensures { result ≡ str_eq_ignore_ascii_case word.now text.now }
-{
-    word.eq_ignore_ascii_case(text)
-}
-
-/// What stands after a name that a word begins with, in upper or lower case.
-fn behind<'a>(word: &'a [u8], name: &[u8]) -> Option<&'a [u8]>
-    ensures { option_map (λ rest. rest.now) result ≡ behind word.now name.now }
-{
-    if begins_with(word, name) {
-        Some(&word[name.len()..])
-    } else {
-        None
-    }
-}
+use text_lines::{
+    NotUnderstood, Words, after_name, begins_with, is_name, is_text, number, numeral,
+};
 
 fn has_leading_zero(digits: &[u8]) -> bool
     ensures { result ≡ has_leading_zero digits.now }
@@ -124,7 +101,7 @@ fn begins_with_letter(name: &[u8]) -> bool
 fn is_foreign(name: &[u8]) -> bool
     ensures { result ≡ is_foreign name.now }
 {
-    if is_text_in_any_case(name, b"pc") || is_text_in_any_case(name, b"priv") {
+    if is_name(name, b"pc") || is_name(name, b"priv") {
         return true;
     }
     begins_with_letter(name) && !begins_with(name, b"p")
@@ -142,7 +119,7 @@ fn other_setting(name: &[u8], value: u64) -> Option<Setting>
     ensures value { result ≡ other_setting name.now value }
     ensures inside { (xlen : Xlen) → IfSome result (IsInside xlen) }
 {
-    if is_text_in_any_case(name, b"mseccfg") {
+    if is_name(name, b"mseccfg") {
         return Some(Setting::Security { value });
     }
     if is_other(name, value) {
@@ -172,10 +149,10 @@ fn plain_setting(xlen: Xlen, name: &[u8], value: u64) -> Option<Setting>
     if !xlen.fits(value) {
         return None;
     }
-    if let Some(digits) = behind(name, b"pmpaddr") {
+    if let Some(digits) = after_name(name, b"pmpaddr") {
         return address_setting(digits, value);
     }
-    if let Some(digits) = behind(name, b"pmpcfg") {
+    if let Some(digits) = after_name(name, b"pmpcfg") {
         return word_setting(xlen, digits, value);
     }
     other_setting(name, value)

@@ -6,6 +6,7 @@ pub mod WordsOfText
 pub mod Looped
 pub mod Mapped
 mod FirstByte
+mod FirstLine
 pub mod PlainText
 pub mod Letters
 mod Counters

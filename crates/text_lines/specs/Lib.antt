@@ -6,4 +6,6 @@ pub mod Counters
 pub mod Lines
 pub mod LineReaders
 pub mod LineLoop
+pub mod WholeTexts
+pub mod Bytes
 pub mod Written

@@ -6,6 +6,7 @@ ghost use Rattle.std.specs.List.{list_all, prefix_len, position_or_len};
 ghost use Rattle.text_lines.specs.Words.{is_blank, is_allowed, is_plain, split_words, words_of};
 ghost use Rattle.text_lines.specs.Numbers.{BeginsNumeral, EndsDigits, digit_of, value_of, numeral_of, number_of};
 
+use crate::bytes::{is_allowed, is_blank};
 use crate::hexadecimal::{LANES, digits_before, value_of_all};
 use memchr::memchr;
 use thiserror::Error;
@@ -14,18 +15,6 @@ use thiserror::Error;
 #[derive(Clone, Copy, Debug, PartialEq, Eq, Error)]
 #[error("not understood")]
 pub struct NotUnderstood;
-
-fn is_blank(byte: u8) -> bool
-    ensures { result ≡ is_blank byte }
-{
-    byte == b' ' || byte == b'\t'
-}
-
-fn is_allowed(byte: u8) -> bool
-    ensures { result ≡ is_allowed byte }
-{
-    byte == b'\t' || (byte >= 32 && byte <= 126)
-}
 
 /// Whether a byte may stand outside a comment and begins none.
 fn is_plain(byte: u8) -> bool

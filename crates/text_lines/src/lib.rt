@@ -1,9 +1,10 @@
 //! The lines of an input: their words and numbers, and the one loop that interprets them and writes their answers.
 //!
-//! A [`LineReader`] hands out the lines of a source through one buffer; [`Words`] are those of a line without its comment,
-//! and [`number`] is what one of them spells. [`interpret_lines`] reads line by line, lets an [`Interpreter`] do what each
-//! says, and writes its answer before it reads the next. An answer is its number, which a [`Counter`] counts up, and a [`Line`] behind
-//! that. Nothing here takes memory.
+//! A [`LineReader`] hands out the lines of a source through one buffer, and [`next_line`] those of a text that is all there.
+//! [`Words`] are those of a line without its comment; [`number`] is what one of them spells, and [`is_text`] and its neighbours
+//! compare it with a text. [`interpret_lines`] reads line by line, lets an [`Interpreter`] do what each says, and writes its
+//! answer before it reads the next. An answer is its number, which a [`Counter`] counts up, and a [`Line`] after that. Nothing
+//! here takes memory.
 //!
 //! For the layer above: the lines of a reader are those of the input, line by line; the words of a line are the runs of
 //! bytes between its blanks; a number is read exactly where it is below 2^64. However the loop ends, its clauses tie what was
@@ -23,6 +24,7 @@
 //! ```
 #![tactic(auto)]
 
+mod bytes;
 mod counter;
 mod fault;
 mod hexadecimal;
@@ -30,8 +32,10 @@ mod laws;
 mod lexical;
 mod line_loop;
 mod lines;
+mod whole_text;
 mod written;
 
+pub use bytes::{after_name, after_text, begins_with, is_allowed, is_blank, is_name, is_text};
 pub use counter::Counter;
 pub use fault::{ReadFault, RunFault};
 pub use hexadecimal::{hex_digits, word_digits};
@@ -42,4 +46,5 @@ pub use lexical::{
 };
 pub use line_loop::{Interpreter, Refusal, interpret_lines};
 pub use lines::{LONGEST, LineReader, without_return};
+pub use whole_text::{AT_ONCE, next_line};
 pub use written::{Line, hex_digit, push_decimal, push_hex, push_text, push_word_line};

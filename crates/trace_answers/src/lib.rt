@@ -1,18 +1,13 @@
-//! Answers to the lines of a trace, compared with those that its comments say.
+//! The answers to the lines of a trace, compared with those that its comments expect, or each with a comment that explains it.
 //!
-//! For the layer above: [`compare_lines`] interprets the lines of an input as `interpret_lines` does and writes the same answers, and
-//! tells the first answer that differs from the one that the comment of its line says. [`compare_judged`] does so with the accesses of a
-//! trace, judged by what an `AccessJudge` says.
+//! - `comparison`: [`compare_lines`] interprets the lines of an input as `interpret_lines` does and writes the same answers; what
+//!   it answers, [`Compared`], has the first [`Difference`] between an answer and the comment of its line. [`compare_judged`]
+//!   (`judges`) does so with the accesses of a trace, judged by what an `AccessJudge` says.
+//! - `explained`: [`explain`] puts a comment after an answer, and [`Comment`] is what a comment is written to, piece by piece.
+//! - `explaining_judges`: [`explain_judged`] judges the accesses of a trace as `judge_lines` does, and after each answer says why:
+//!   which entry decided it, as [`Deciders`] names it, and the [`Reason`].
 //!
-//! ```text
-//! let compared = compare_lines(machine, &mut source, &mut sink);
-//! ```
-//!
-//! Answers to the lines of a trace, each with a comment behind it that says what decided it.
-//!
-//! For the layer above: [`explain`] puts a comment behind an answer. [`explain_judged`] judges the accesses of a trace as
-//! `judge_lines` does, and behind each answer says which entry decided it, as [`Deciders`] names it. [`Comment`] is what a comment
-//! is written to, piece by piece. Nothing here takes memory.
+//! Nothing here takes memory, but what interprets the lines may.
 //!
 //! ```text
 //! explain_judged(&Segments::of(&bank), &bank, &mut source, &mut sink)?;

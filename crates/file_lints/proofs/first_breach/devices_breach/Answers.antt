@@ -1,6 +1,6 @@
-use Rattle.std.proofs.Common.{ap, sym, ◌≡◌, ◌∙◌, ◌+◌, ◌<◌, Some, arith}
+use Rattle.std.proofs.Common.{ap, sym, ◌∙◌, ◌+◌, Some, arith}
 use Rattle.std.specs.Option.{option_and_then}
-use Rattle.toml.specs.Data.{as_table, get_item}
+use Rattle.toml.specs.Data.{as_table}
 use Rattle.toml.specs.View.{items_view, view}
 use Rattle.toml.proofs.Views.{get_item_within}
 use Rattle.platform_file.specs.Document.{device_of}

@@ -1,5 +1,5 @@
 use Rattle.std.proofs.Common.{refl, inr}
-use Rattle.toml.specs.Data.{Members, table}
+use Rattle.toml.specs.Data.{table}
 use Rattle.toml.specs.View.{table_view}
 use Rattle.file_lints.specs.declared.breach.Place.TheVariants as places
 use Rattle.file_lints.specs.Breaches.{at_place}

@@ -1,7 +1,7 @@
 use Rattle.std.proofs.Common.{⊎_elim, List, Err, ◌≡◌, ◌∙◌, ◌+◌, ◌∷◌, ◌++◌, [], ap, refl, append_assoc, append-nil, sym, subst, arith, length, length-append}
 use Rattle.std.proofs.lemmas.Bool.{cases_lt}
 use Rattle.permission_map.specs.declared.runs.Run.{Run}
-use Rattle.map_text.specs.Lines.{left_of}
+use Rattle.text_lines.specs.WholeTexts.{left_of}
 use Rattle.text_lines.specs.Lines.{raw_lines}
 use Rattle.map_text.specs.MapFile.{IsUnknown, Leads, Makes, MakesFirst, MakesTooMany, raw_says, start, line}
 use Rattle.text_lines.proofs.InputLines.{raw_lines-are}

@@ -1,6 +1,6 @@
 use Rattle.std.proofs.Common.{◌≡◌, ◌+◌, ◌-◌, ◌^◌, ◌<◌, ℕ, List, [], ◌++◌, length}
 use Rattle.text_lines.specs.LineReaders.{came_of, most_of, number_of}
-use Rattle.map_text.specs.Lines.{left_of}
+use Rattle.text_lines.specs.WholeTexts.{left_of}
 use Rattle.text_lines.specs.Lines.{raw_lines}
 use Rattle.map_text.specs.MapFile.{FaultAt, LeadTo, MakesFirst}
 use Rattle.map_text.proofs.map_file.map_of.Given as goal

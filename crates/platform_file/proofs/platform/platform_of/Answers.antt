@@ -6,4 +6,4 @@ use Rattle.platform_file.proofs.platform.platform_of.Goals as goal
 pub returns-clause-refused : goal.returns-clause-refused
 returns-clause-refused c = λ e platform said.
     let same : said.document ≡ table_view c.in_ok-document.document = same_Some _ _ (sym said.parsed ∙ c.in_ok-document.ensures.ok) in
-    c.told.ensures.refused e platform (rw same at said.told)
+    c.platform_in.ensures.refused e platform (rw same at said.is_platform)

@@ -1,5 +1,5 @@
 use Rattle.std.proofs.Common.{◌≡◌, ◌∙◌, ◌+◌, ◌++◌, ◌∷◌, [], Some, ap, append_assoc, arith, length-append, sym}
-use Rattle.map_text.specs.Lines.{left_of}
+use Rattle.text_lines.specs.WholeTexts.{left_of}
 use Rattle.text_lines.specs.Lines.{raw_lines}
 use Rattle.register_text.specs.Lines.{raw_sets}
 use Rattle.register_text.proofs.Followed.{set_by_more, set_width, short_sets}

@@ -1,6 +1,6 @@
 use Rattle.std.proofs.Common.{◌≡◌, ◌+◌, ◌-◌, ◌^◌, ℕ, List, ◌++◌, Some, length}
 use Rattle.text_lines.specs.LineReaders.{came_of, most_of, number_of}
-use Rattle.map_text.specs.Lines.{left_of}
+use Rattle.text_lines.specs.WholeTexts.{left_of}
 use Rattle.text_lines.specs.Lines.{raw_lines}
 use Rattle.register_text.specs.Listings.{nothing_set, set_by_lines}
 use Rattle.register_text.specs.Lines.{raw_sets}

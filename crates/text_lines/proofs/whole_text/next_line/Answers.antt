@@ -2,9 +2,9 @@ use Rattle.std.proofs.Common.{List, ℕ, Bool, true, false}
 use Rattle.std.specs.Prelude.{Ok, Some}
 use Rattle.text_lines.specs.declared.lines.LineReader.{LineReader}
 use Rattle.text_lines.specs.LineReaders.{NextLine}
-use Rattle.map_text.specs.Lines.{NextOf}
-use Rattle.map_text.proofs.FirstLine.{counted, handed_next, long_next, none_next}
-use Rattle.map_text.proofs.map_file.next_line.Goals as goal
+use Rattle.text_lines.specs.WholeTexts.{NextOf}
+use Rattle.text_lines.proofs.FirstLine.{counted, handed_next, long_next, none_next}
+use Rattle.text_lines.proofs.whole_text.next_line.Goals as goal
 
 either : {size : ℕ} (more : Bool) (old new : LineReader size) (before after : List ℕ) → NextLine (Ok more) old new (Some before) (Some after) → NextOf (Ok more) old new before after
 either true old new before after n = handed_next old new before after n

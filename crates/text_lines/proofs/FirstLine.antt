@@ -8,7 +8,7 @@ use Rattle.text_lines.specs.Lines.{has_no_end}
 use Rattle.text_lines.specs.declared.lines.LineReader.{LineReader}
 use Rattle.text_lines.specs.declared.fault.ReadFault.TheVariants.{LongLine}
 use Rattle.text_lines.specs.LineReaders.{came_of, pending_of, Hands, NextLine}
-use Rattle.map_text.specs.Lines.{left_of, HandsFirst, NextOf}
+use Rattle.text_lines.specs.WholeTexts.{left_of, HandsFirst, NextOf}
 use Rattle.text_lines.specs.Lines.{begun, is_lf, raw_lines}
 
 -- a line before its LF is the first, and after it stand the others

@@ -1,0 +1,19 @@
+-- How a word of a line compares with a text.
+use Rattle.std.specs.Prelude.{ℕ, ◌&&◌, Bool, nat_le, if◌then◌else◌, List, length, take}
+use Rattle.std.specs.Prelude.{drop, Option, Some, None, bytes_eq}
+use Rattle.std.specs.Str.{str_eq_ignore_ascii_case}
+
+-- what comes after a text that a word begins with
+abbrev pub after_text : List ℕ → List ℕ → Option (List ℕ)
+after_text word text =
+    if nat_le (length text) (length word) && bytes_eq (take (length text) word) text
+    then Some (drop (length text) word) else None
+
+-- a word begins with a name, in upper or lower case
+abbrev pub begins_with : List ℕ → List ℕ → Bool
+begins_with word name = nat_le (length name) (length word)
+    && str_eq_ignore_ascii_case (take (length name) word) name
+
+-- what comes after a name that a word begins with, in upper or lower case
+abbrev pub after_name : List ℕ → List ℕ → Option (List ℕ)
+after_name word name = if begins_with word name then Some (drop (length name) word) else None

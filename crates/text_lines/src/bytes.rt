@@ -1,0 +1,68 @@
+//! Single bytes of a line, and how a word of it compares with a text.
+
+ghost use Rattle.std.specs.Prelude.{◌≡◌, bytes_eq, option_map};
+ghost use Rattle.std.specs.Str.{str_eq_ignore_ascii_case};
+ghost use Rattle.text_lines.specs.Bytes.{after_name, after_text, begins_with};
+ghost use Rattle.text_lines.specs.Words.{is_allowed, is_blank};
+
+/// Whether a byte separates words: a space or a tab.
+#[inline(always)]
+pub fn is_blank(byte: u8) -> bool
+    ensures { result ≡ is_blank byte }
+{
+    byte == b' ' || byte == b'\t'
+}
+
+/// Whether a byte is allowed outside a comment: a tab, or a visible character of ASCII, the space among them.
+#[inline(always)]
+pub fn is_allowed(byte: u8) -> bool
+    ensures { result ≡ is_allowed byte }
+{
+    byte == b'\t' || (byte >= 32 && byte <= 126)
+}
+
+/// Whether a word is a text.
+pub fn is_text(word: &[u8], text: &[u8]) -> bool
+    ensures { result ≡ bytes_eq word.now text.now }
+{
+    word == text
+}
+
+/// What comes after a text that a word begins with.
+pub fn after_text<'a>(word: &'a [u8], text: &[u8]) -> Option<&'a [u8]>
+    ensures { option_map (λ rest. rest.now) result ≡ after_text word.now text.now }
+{
+    if text.len() > word.len() {
+        return None;
+    }
+    if is_text(&word[..text.len()], text) {
+        Some(&word[text.len()..])
+    } else {
+        None
+    }
+}
+
+/// Whether a word is a name, in upper or lower case.
+pub fn is_name(word: &[u8], name: &[u8]) -> bool
+    ensures { result ≡ str_eq_ignore_ascii_case word.now name.now }
+{
+    word.eq_ignore_ascii_case(name)
+}
+
+/// Whether a word begins with a name, in upper or lower case.
+pub fn begins_with(word: &[u8], name: &[u8]) -> bool
+    ensures { result ≡ begins_with word.now name.now }
+{
+    name.len() <= word.len() && is_name(&word[..name.len()], name)
+}
+
+/// What comes after a name that a word begins with, in upper or lower case.
+pub fn after_name<'a>(word: &'a [u8], name: &[u8]) -> Option<&'a [u8]>
+    ensures { option_map (λ rest. rest.now) result ≡ after_name word.now name.now }
+{
+    if begins_with(word, name) {
+        Some(&word[name.len()..])
+    } else {
+        None
+    }
+}
