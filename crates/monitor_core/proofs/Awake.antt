@@ -22,11 +22,13 @@ own_mark s hart awake =
     let hosts = nat_lt hart s.table.layout.harts && is_host (s.worlds hart) in
     ap (λ t. if t then s.marked hart else (hosts || s.marked hart)) (eq-eqb hart hart refl) ∙ awake
 
-pub call_leaves_awake : (call : Option Call) (digests : Create → List ℕ) (s : MonitorState) (hart : ℕ) (answer : Answer) (zero : Option PageRange) (new : MonitorState) → Off s hart → DoesCall call digests s hart answer zero new → Off new hart
+pub call_leaves_awake : (call : Option Call) (digests : Create → List ℕ) (s : MonitorState) (hart : ℕ) (answer : Answer) (zero : Option PageRange)
+    (new : MonitorState) → Off s hart → DoesCall call digests s hart answer zero new → Off new hart
 call_leaves_awake None digests s hart answer zero new awake x = ap (λ y. y.marked hart) x.state ∙ awake
 call_leaves_awake (Some (calls.Create base text_pages data_pages shared_base shared_count entry_offset)) digests s hart answer zero new awake (inl x) =
     ap (λ y. y.marked hart) x.3.state ∙ own_mark (answering (record s { table = x.1 }) hart 0 x.0) hart awake
-call_leaves_awake (Some (calls.Create base text_pages data_pages shared_base shared_count entry_offset)) digests s hart answer zero new awake (inr x) = ap (λ y. y.marked hart) x.2.state ∙ awake
+call_leaves_awake (Some (calls.Create base text_pages data_pages shared_base shared_count entry_offset)) digests s hart answer zero new awake (inr x) = ap
+    (λ y. y.marked hart) x.2.state ∙ awake
 call_leaves_awake (Some (calls.Destroy id)) digests s hart answer zero new awake (inl x) =
     ap (λ y. y.marked hart) x.3.state ∙ own_mark (answering (record s { table = x.1 }) hart 0 0) hart awake
 call_leaves_awake (Some (calls.Destroy id)) digests s hart answer zero new awake (inr x) = ap (λ y. y.marked hart) x.2.state ∙ awake

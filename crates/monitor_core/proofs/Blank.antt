@@ -12,7 +12,8 @@ zeros_at (suc n) zero file is = is
 zeros_at (suc n) (suc k) file is = zeros_at n k file is
 
 -- every set zero
-pub blank : (hosts enclaves : List RegisterFile) (file : RegisterFile) → file ≡ zeros → hosts ≡ replicate 4 file → enclaves ≡ replicate 64 zeros → (who : Runner) → set_of hosts enclaves who ≡ zeros
+pub blank : (hosts enclaves : List RegisterFile) (file : RegisterFile) → file ≡ zeros → hosts ≡ replicate 4 file → enclaves ≡ replicate 64 zeros
+    → (who : Runner) → set_of hosts enclaves who ≡ zeros
 blank hosts enclaves file is four sixty (HostOf hart) = ap (λ files. slice_index_or files hart zeros) four ∙ zeros_at 4 hart file is
 blank hosts enclaves file is four sixty (EnclaveOf zero) = refl
 blank hosts enclaves file is four sixty (EnclaveOf (suc n)) = ap (λ files. slice_index_or files n zeros) sixty ∙ zeros_at 64 n zeros refl

@@ -27,7 +27,8 @@ private_clears table id e t live =
       not_monitor = λ page is. sound.not_monitor page (first_is (is_private e.parts page) (is_shared e.parts page) is);
     }
 
-pub call_clears_memory : (call : Option Call) (digests : Create → List ℕ) (s : MonitorState) (hart : ℕ) (answer : Answer) (zero : Option PageRange) (new : MonitorState) → IsTable s.table → DoesCall call digests s hart answer zero new → IfSome zero (λ range. ClearsMemory s.table.layout range)
+pub call_clears_memory : (call : Option Call) (digests : Create → List ℕ) (s : MonitorState) (hart : ℕ) (answer : Answer) (zero : Option PageRange)
+    (new : MonitorState) → IsTable s.table → DoesCall call digests s hart answer zero new → IfSome zero (λ range. ClearsMemory s.table.layout range)
 call_clears_memory call digests s hart answer zero new t x =
     let of = λ (o : Option PageRange). IfSome o (λ range. ClearsMemory s.table.layout range) in
     elim (cleared call digests s hart answer zero new x) [

@@ -53,7 +53,8 @@ current_to table Host is = refl
 current_to table (InEnclave id) is = ap is_running is.1 ∙ ap is_run is.2
 
 -- a world that is not the enclave of an id is current still where only that id changed
-pub current_other : (table : EnclaveTable) (id : ℕ) (slot : Option Enclave) (world : World) → 1 ≤ id → world ≢ InEnclave id → IsCurrent table world → IsCurrent (with_enclave table id slot) world
+pub current_other : (table : EnclaveTable) (id : ℕ) (slot : Option Enclave) (world : World) → 1 ≤ id → world ≢ InEnclave id → IsCurrent table world
+    → IsCurrent (with_enclave table id slot) world
 current_other table id slot Host above other is = tt
 current_other table id slot (InEnclave k) above other is = (is.0, set_other table.enclaves id k slot above (λ e. other (ap InEnclave e)) ∙ is.1, is.2)
 

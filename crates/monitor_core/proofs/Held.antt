@@ -1,5 +1,6 @@
 -- Each enclave that is Running runs on a hart, from change to change.
-use Rattle.std.proofs.Common.{◌≡◌, ◌≢◌, ◌∙◌, inl, inr, ℕ, zero, suc, ◌-◌, ◌<◌, ◌≤◌, List, [], ◌∷◌, Bool, true, false, ◌||◌, ◌==◌, if◌then◌else◌, Option, Some, None, slice_set, slice_index_or, refl, ap, sym, subst, arith}
+use Rattle.std.proofs.Common.{◌≡◌, ◌≢◌, ◌∙◌, inl, inr, ℕ, zero, suc, ◌-◌, ◌<◌, ◌≤◌, List, [], ◌∷◌, Bool, true, false, ◌||◌, ◌==◌, if◌then◌else◌, Option, Some}
+use Rattle.std.proofs.Common.{None, slice_set, slice_index_or, refl, ap, sym, subst, arith}
 use Rattle.std.proofs.lemmas.Bool.{eq-eqb, eqb-true, both_ways, or_cases}
 use Rattle.enclave_table.specs.Enclaves.{EnclaveTable, Live, enclave_at, with_enclave}
 use Rattle.enclave_table.specs.declared.enclave.Enclave.{Enclave}
@@ -12,18 +13,22 @@ use Rattle.monitor_core.specs.Worlds.{AreHeld}
 use Rattle.monitor_core.proofs.Cases.{both}
 
 -- what is found where something was put is what was put
-there_is : (slots : List (Option Enclave)) (place : ℕ) (slot : Option Enclave) (e : Enclave) → slice_index_or (slice_set slots place slot) place None ≡ Some e → slot ≡ Some e
+there_is : (slots : List (Option Enclave)) (place : ℕ) (slot : Option Enclave) (e : Enclave) → slice_index_or (slice_set slots place slot) place None ≡ Some e
+    → slot ≡ Some e
 there_is [] place slot e at = absurd (let h : None ≡ Some e = at in cc)
 there_is (first ∷ slots) zero slot e at = at
 there_is (first ∷ slots) (suc place) slot e at = there_is slots place slot e at
 
 -- an enclave that is live after one id changed is what was put there, or was live before
-pub put_is : (table now : EnclaveTable) (id k : ℕ) (slot : Option Enclave) (e : Enclave) → now ≡ with_enclave table id slot → Live now k e → k ≡ id → slot ≡ Some e
+pub put_is : (table now : EnclaveTable) (id k : ℕ) (slot : Option Enclave) (e : Enclave) → now ≡ with_enclave table id slot → Live now k e → k ≡ id
+    → slot ≡ Some e
 put_is table now id k slot e is live same =
-    let there : enclave_at (slice_set table.enclaves (id - 1) slot) id ≡ Some e = ap (λ j. enclave_at (slice_set table.enclaves (id - 1) slot) j) (sym same) ∙ ap (λ t. enclave_at t.enclaves k) (sym is) ∙ live in
+    let there : enclave_at (slice_set table.enclaves (id - 1) slot) id ≡ Some e = ap (λ j. enclave_at (slice_set table.enclaves (id - 1) slot) j) (sym same)
+    ∙ ap (λ t. enclave_at t.enclaves k) (sym is) ∙ live in
     there_is table.enclaves (id - 1) slot e (live_place (slice_set table.enclaves (id - 1) slot) id e there)
 
-pub was_live : (table now : EnclaveTable) (id k : ℕ) (slot : Option Enclave) (e : Enclave) → 1 ≤ id → now ≡ with_enclave table id slot → Live now k e → k ≢ id → Live table k e
+pub was_live : (table now : EnclaveTable) (id k : ℕ) (slot : Option Enclave) (e : Enclave) → 1 ≤ id → now ≡ with_enclave table id slot → Live now k e → k ≢ id
+    → Live table k e
 was_live table now id k slot e above is live other = sym (set_other table.enclaves id k slot above other) ∙ ap (λ t. enclave_at t.enclaves k) (sym is) ∙ live
 
 of_is : (w : World) (id : ℕ) → is_of w id ≡ true → w ≡ InEnclave id
@@ -41,8 +46,10 @@ found worlds (suc n) id e = elim (or_cases (is_of (worlds n) id) (is_held worlds
 told : (worlds : ℕ → World) (n id hart : ℕ) → hart < n → worlds hart ≡ InEnclave id → is_held worlds n id ≡ true
 told worlds zero id hart low at = absurd (omega (arith, low))
 told worlds (suc n) id hart low at = both (hart == n)
-    (λ yes. or_first (is_of (worlds n) id) (is_held worlds n id) (ap (λ h. is_of (worlds h) id) (sym (eqb-true hart n yes)) ∙ ap (λ w. is_of w id) at ∙ eq-eqb id id refl))
-    (λ no. or_second (is_of (worlds n) id) (is_held worlds n id) (told worlds n id hart (below hart n low (λ same. both_ways (hart == n) no (eq-eqb hart n same))) at))
+    (λ yes. or_first (is_of (worlds n) id) (is_held worlds n id) (ap (λ h. is_of (worlds h) id) (sym (eqb-true hart n yes)) ∙ ap (λ w. is_of w id) at
+    ∙ eq-eqb id id refl))
+    (λ no. or_second (is_of (worlds n) id) (is_held worlds n id) (told worlds n id hart
+    (below hart n low (λ same. both_ways (hart == n) no (eq-eqb hart n same))) at))
   where
     or_first : (a b : Bool) → a ≡ true → (a || b) ≡ true
     or_first a b is = ap (λ x. x || b) is
@@ -73,7 +80,8 @@ pub record Moves (table now : EnclaveTable) (worlds after : ℕ → World) (hart
   pub runs : (e : Enclave) → slot ≡ Some e → e.state ≡ Running → to ≡ InEnclave id
   pub left : (k : ℕ) → worlds hart ≡ InEnclave k → k ≡ id
 
-pub held_moved : (table now : EnclaveTable) (worlds after : ℕ → World) (hart id : ℕ) (slot : Option Enclave) (to : World) → Moves table now worlds after hart id slot to → AreHeld table worlds → AreHeld now after
+pub held_moved : (table now : EnclaveTable) (worlds after : ℕ → World) (hart id : ℕ) (slot : Option Enclave) (to : World)
+    → Moves table now worlds after hart id slot to → AreHeld table worlds → AreHeld now after
 held_moved table now worlds after hart id slot to m held = λ k e live runs. both (k == id)
     (λ yes.
     let is : k ≡ id = eqb-true k id yes in
@@ -90,7 +98,8 @@ held_moved table now worlds after hart id slot to m held = λ k e live runs. bot
     over h low = subst (λ t. h < t.layout.harts) (sym m.put) low
 
 -- one id changed, which is not Running now, and the worlds stayed
-pub held_placed : (table now : EnclaveTable) (worlds : ℕ → World) (id : ℕ) (slot : Option Enclave) → 1 ≤ id → now ≡ with_enclave table id slot → ((e : Enclave) → slot ≡ Some e → e.state ≢ Running) → AreHeld table worlds → AreHeld now worlds
+pub held_placed : (table now : EnclaveTable) (worlds : ℕ → World) (id : ℕ) (slot : Option Enclave) → 1 ≤ id → now ≡ with_enclave table id slot
+    → ((e : Enclave) → slot ≡ Some e → e.state ≢ Running) → AreHeld table worlds → AreHeld now worlds
 held_placed table now worlds id slot above is idle held = λ k e live runs. both (k == id)
     (λ yes. absurd (idle e (put_is table now id k slot e is live (eqb-true k id yes)) runs))
     (λ no.

@@ -14,10 +14,13 @@ use Rattle.monitor_core.specs.Steps.{DoesCall, Interrupts}
 abbrev Same : MonitorState → MonitorState → Type 0
 Same s new = new.table.layout ≡ s.table.layout
 
-pub call_keeps_layout : (call : Option Call) (digests : Create → List ℕ) (s : MonitorState) (hart : ℕ) (answer : Answer) (zero : Option PageRange) (new : MonitorState) → DoesCall call digests s hart answer zero new → Same s new
+pub call_keeps_layout : (call : Option Call) (digests : Create → List ℕ) (s : MonitorState) (hart : ℕ) (answer : Answer) (zero : Option PageRange)
+    (new : MonitorState) → DoesCall call digests s hart answer zero new → Same s new
 call_keeps_layout None digests s hart answer zero new x = ap (λ y. y.table.layout) x.state
-call_keeps_layout (Some (calls.Create base text_pages data_pages shared_base shared_count entry_offset)) digests s hart answer zero new (inl x) = ap (λ y. y.table.layout) x.3.state ∙ ap (λ t. t.layout) x.2.added
-call_keeps_layout (Some (calls.Create base text_pages data_pages shared_base shared_count entry_offset)) digests s hart answer zero new (inr x) = ap (λ y. y.table.layout) x.2.state
+call_keeps_layout (Some (calls.Create base text_pages data_pages shared_base shared_count entry_offset)) digests s hart answer zero new (inl x) = ap
+    (λ y. y.table.layout) x.3.state ∙ ap (λ t. t.layout) x.2.added
+call_keeps_layout (Some (calls.Create base text_pages data_pages shared_base shared_count entry_offset)) digests s hart answer zero new (inr x) = ap
+    (λ y. y.table.layout) x.2.state
 call_keeps_layout (Some (calls.Destroy id)) digests s hart answer zero new (inl x) = ap (λ y. y.table.layout) x.3.state ∙ ap (λ t. t.layout) x.2.removed
 call_keeps_layout (Some (calls.Destroy id)) digests s hart answer zero new (inr x) = ap (λ y. y.table.layout) x.2.state
 call_keeps_layout (Some (calls.Run id)) digests s hart answer zero new (inl x) = ap (λ y. y.table.layout) x.4.state ∙ ap (λ t. t.layout) x.3.turned.2

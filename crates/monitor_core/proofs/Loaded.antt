@@ -10,12 +10,14 @@ use Rattle.monitor_core.specs.States.{MonitorState, view_on, view_of}
 use Rattle.monitor_core.proofs.Cases.{both}
 
 -- the hart's own list, loaded anew or as it was
-own : (old new : MonitorState) (hart : ℕ) (load : Bool) (entries : List Entry) (before after : ℕ → List Entry) → LoadsAnew load old new hart → IsFewest (view_on new hart) entries → LoadsAsTold load hart entries before after
+own : (old new : MonitorState) (hart : ℕ) (load : Bool) (entries : List Entry) (before after : ℕ → List Entry) → LoadsAnew load old new hart
+    → IsFewest (view_on new hart) entries → LoadsAsTold load hart entries before after
     → IsFewest (view_on old hart) (before hart) → IsFewest (view_on new hart) (after hart)
 own old new hart true entries before after anew fewest does was = subst (IsFewest (view_on new hart)) (sym (does.told refl)) fewest
 own old new hart false entries before after anew fewest does was =
     subst (IsFewest (view_on new hart)) (sym (does.kept refl))
-    (subst (λ t. IsFewest (view_of t (new.worlds hart)) (before hart)) (sym anew.0) (subst (λ w. IsFewest (view_of old.table w) (before hart)) (sym anew.1) was))
+    (subst (λ t. IsFewest (view_of t (new.worlds hart)) (before hart)) (sym anew.0)
+    (subst (λ w. IsFewest (view_of old.table w) (before hart)) (sym anew.1) was))
 
 pub keeps_loaded : KeepsLoaded
 keeps_loaded = record {

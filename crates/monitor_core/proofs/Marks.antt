@@ -15,7 +15,8 @@ mark_is false false true m = refl
 mark_is false false false m = refl
 
 -- a hart that has its own mark, or another that is marked for the host, is in the host's world
-pub hosted : (mine known was : Bool) (w : World) → (was ≡ true → is_host w ≡ true) → (if mine then was else (known && is_host w || was)) ≡ true → is_host w ≡ true
+pub hosted : (mine known was : Bool) (w : World) → (was ≡ true → is_host w ≡ true) → (if mine then was else (known && is_host w || was)) ≡ true
+    → is_host w ≡ true
 hosted true known was w so on = so on
 hosted false true was Host so on = refl
 hosted false true was (InEnclave id) so on = so on

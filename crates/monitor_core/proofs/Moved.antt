@@ -1,5 +1,6 @@
 -- The parts together, after the table changed at one id, or a hart went from one world to another.
-use Rattle.std.proofs.Common.{◌≡◌, ◌≢◌, ◌∙◌, option_map, ℕ, ◌+◌, ◌<◌, ◌≤◌, List, Bool, true, false, ◌==◌, if◌then◌else◌, Option, Some, None, refl, ap, sym, subst, arith}
+use Rattle.std.proofs.Common.{◌≡◌, ◌≢◌, ◌∙◌, option_map, ℕ, ◌+◌, ◌<◌, ◌≤◌, List, Bool, true, false, ◌==◌, if◌then◌else◌, Option, Some, None, refl, ap, sym}
+use Rattle.std.proofs.Common.{subst, arith}
 use Rattle.std.proofs.lemmas.Bool.{eq-eqb, eqb-true, both_ways}
 use Rattle.std.proofs.lemmas.Option.{same_Some}
 use Rattle.enclave_table.specs.Enclaves.{EnclaveTable, Live, enclave_at, with_enclave}
@@ -46,13 +47,15 @@ pub record Turning (kept now : Kept) (worlds after : List World) (marks : List B
   pub runs : stage ≡ Running → to ≡ InEnclave id
   pub left : (k : ℕ) → world_in worlds hart ≡ InEnclave k → k ≡ id
 
-pub whole_turned : (kept now : Kept) (worlds after : List World) (marks : List Bool) (hart id : ℕ) (to : World) → Turning kept now worlds after marks hart id to → HoldsTogether kept worlds marks → HoldsTogether now after marks
+pub whole_turned : (kept now : Kept) (worlds after : List World) (marks : List Bool) (hart id : ℕ) (to : World) → Turning kept now worlds after marks hart id to
+    → HoldsTogether kept worlds marks → HoldsTogether now after marks
 whole_turned kept now worlds after marks hart id to t w = record {
   few = subst (λ l. l.harts ≤ 4) (sym layout) w.few;
   current = λ i. both (i == hart)
       (λ e. ap (is_current now.table) (here i e) ∙ current_to now.table to t.current)
       (λ e. ap (is_current now.table) (away i e) ∙ current_to now.table (world_in worlds i) (subst (λ x. IsCurrent x (world_in worlds i)) (sym t.turned.2)
-      (current_other kept.table id (Some (record t.turned.0 { state = t.stage })) (world_in worlds i) (live_above kept.table.enclaves id t.turned.0 t.turned.1) (t.free i (differ i e)) (current_from kept.table (world_in worlds i) (w.current i)))));
+      (current_other kept.table id (Some (record t.turned.0 { state = t.stage })) (world_in worlds i) (live_above kept.table.enclaves id t.turned.0 t.turned.1)
+      (t.free i (differ i e)) (current_from kept.table (world_in worlds i) (w.current i)))));
   alone = λ i j k at there. both (i == hart)
       (λ e. both (j == hart)
       (λ f. eqb-true i hart e ∙ sym (eqb-true j hart f))
@@ -60,18 +63,21 @@ whole_turned kept now worlds after marks hart id to t w = record {
       (λ e. both (j == hart)
       (λ f. absurd (t.free i (differ i e) (sym (away i e) ∙ at ∙ ap InEnclave (t.only k (sym (here j f) ∙ there)))))
       (λ f. w.alone i j k (sym (away i e) ∙ at) (sym (away j f) ∙ there)));
-  held = held_to now.table (world_in after) (held_moved kept.table now.table (world_in worlds) (world_in after) hart id (Some (record t.turned.0 { state = t.stage })) to
+  held = held_to now.table (world_in after) (held_moved kept.table now.table (world_in worlds) (world_in after) hart id
+      (Some (record t.turned.0 { state = t.stage })) to
       (record {
         low = t.low;
         above = live_above kept.table.enclaves id t.turned.0 t.turned.1;
         put = t.turned.2;
         went = λ h low. t.went h;
-        runs = λ e put is. let same : record t.turned.0 { state = t.stage } ≡ e = same_Some (record t.turned.0 { state = t.stage }) e put in t.runs (ap (λ g. g.state) same ∙ is);
+        runs = λ e put is. let same : record t.turned.0 { state = t.stage } ≡ e = same_Some (record t.turned.0 { state = t.stage }) e put in t.runs
+            (ap (λ g. g.state) same ∙ is);
         left = t.left;
       })
       (held_from kept.table (world_in worlds) w.held));
   idle = λ i past. both (i == hart)
-      (λ e. let is : i ≡ hart = eqb-true i hart e in let p : kept.table.layout.harts ≤ i = subst (λ l. l.harts ≤ i) layout past in absurd (omega (arith, is, p, t.low)))
+      (λ e. let is : i ≡ hart = eqb-true i hart e in let p : kept.table.layout.harts ≤ i = subst (λ l. l.harts ≤ i) layout past in absurd
+      (omega (arith, is, p, t.low)))
       (λ e. ap is_host (away i e) ∙ w.idle i (subst (λ l. l.harts ≤ i) layout past));
   hosted = λ i on. both (i == hart)
       (λ e. ap is_host (here i e) ∙ t.awake (ap (mark_in marks) (sym (eqb-true i hart e)) ∙ on))
@@ -91,7 +97,8 @@ whole_turned kept now worlds after marks hart id to t w = record {
     away i e = t.went i ∙ ap (λ b. if b then to else world_in worlds i) e
 
 -- an enclave that is entered runs on no hart
-pub not_there : (kept : Kept) (worlds : List World) (marks : List Bool) (world : World) (id : ℕ) (entering : Entering) (table : EnclaveTable) → HoldsTogether kept worlds marks → Enters kept.table world id (state_before entering) table → (i : ℕ) → world_in worlds i ≢ InEnclave id
+pub not_there : (kept : Kept) (worlds : List World) (marks : List Bool) (world : World) (id : ℕ) (entering : Entering) (table : EnclaveTable)
+    → HoldsTogether kept worlds marks → Enters kept.table world id (state_before entering) table → (i : ℕ) → world_in worlds i ≢ InEnclave id
 not_there kept worlds marks world id entering table w en i is =
     let now : IsCurrent kept.table (InEnclave id) = subst (IsCurrent kept.table) is (current_from kept.table (world_in worlds i) (w.current i)) in
     never entering (sym (en.passes.1.1.0 now.0 now.1) ∙ now.2)
@@ -104,8 +111,11 @@ pub same_id : (a b : ℕ) → InEnclave a ≡ InEnclave b → b ≡ a
 same_id a b e = let z : a ≡ b = cc in sym z
 
 -- an enclave is entered
-pub entering_turns : (kept now : Kept) (worlds after : List World) (marks : List Bool) (hart id : ℕ) (world : World) (entering : Entering) → HoldsTogether kept worlds marks → world ≡ world_in worlds hart → Enters kept.table world id (state_before entering) now.table → hart < kept.table.layout.harts
-    → mark_in marks hart ≡ false → ((i : ℕ) → world_in after i ≡ (if i == hart then InEnclave id else world_in worlds i)) → Turning kept now worlds after marks hart id (InEnclave id)
+pub entering_turns : (kept now : Kept) (worlds after : List World) (marks : List Bool) (hart id : ℕ) (world : World) (entering : Entering)
+    → HoldsTogether kept worlds marks → world ≡ world_in worlds hart → Enters kept.table world id (state_before entering) now.table
+    → hart < kept.table.layout.harts
+    → mark_in marks hart ≡ false → ((i : ℕ) → world_in after i ≡ (if i == hart then InEnclave id else world_in worlds i))
+    → Turning kept now worlds after marks hart id (InEnclave id)
 entering_turns kept now worlds after marks hart id world entering w there en low off went =
     let e = en.turned.0 in
     let live = en.turned.1 in
@@ -115,7 +125,13 @@ entering_turns kept now worlds after marks hart id world entering w there en low
       low = low;
       went = went;
       free = λ i other. not_there kept worlds marks world id entering now.table w en i;
-      current = (record e { state = Running }, ap (λ t. enclave_at t.enclaves id) en.turned.2 ∙ set_same kept.table.enclaves id (Some (record e { state = Running })) (live_above kept.table.enclaves id e live) (live_inside kept.table.enclaves id e live), refl);
+      current = (
+        record e { state = Running },
+        ap (λ t. enclave_at t.enclaves id) en.turned.2
+            ∙ set_same kept.table.enclaves id (Some (record e { state = Running })) (live_above kept.table.enclaves id e live)
+            (live_inside kept.table.enclaves id e live),
+        refl,
+      );
       only = λ k is. same_id id k is;
       awake = λ on. let z : false ≡ true = sym off ∙ on in absurd cc;
       runs = λ is. refl;
@@ -123,7 +139,8 @@ entering_turns kept now worlds after marks hart id world entering w there en low
     }
 
 -- an enclave is left
-pub leaving_turns : (kept now : Kept) (worlds after : List World) (marks : List Bool) (hart id : ℕ) (leaving : Leaving) → HoldsTogether kept worlds marks → Leaves kept.table (world_in worlds hart) (state_after leaving) id now.table → hart < kept.table.layout.harts
+pub leaving_turns : (kept now : Kept) (worlds after : List World) (marks : List Bool) (hart id : ℕ) (leaving : Leaving) → HoldsTogether kept worlds marks
+    → Leaves kept.table (world_in worlds hart) (state_after leaving) id now.table → hart < kept.table.layout.harts
     → ((i : ℕ) → world_in after i ≡ (if i == hart then Host else world_in worlds i)) → Turning kept now worlds after marks hart id Host
 leaving_turns kept now worlds after marks hart id leaving w x low went = record {
   stage = state_after leaving;
@@ -143,21 +160,25 @@ leaving_turns kept now worlds after marks hart id leaving w x low went = record 
     never Exit e = let z : Exited ≡ Running = e in cc
 
 -- where it is entered
-pub entry_is : (table now : EnclaveTable) (id pc : ℕ) (stage : Stage) (t : Turns table id stage now) → Some pc ≡ option_map (λ (e : Enclave). e.parts.base + e.parts.entry_offset) (enclave_at now.enclaves id) → pc ≡ t.0.parts.base + t.0.parts.entry_offset
+pub entry_is : (table now : EnclaveTable) (id pc : ℕ) (stage : Stage) (t : Turns table id stage now)
+    → Some pc ≡ option_map (λ (e : Enclave). e.parts.base + e.parts.entry_offset) (enclave_at now.enclaves id) → pc ≡ t.0.parts.base + t.0.parts.entry_offset
 entry_is table now id pc stage t at =
     let e = t.0 in
     let there : enclave_at now.enclaves id ≡ Some (record e { state = stage }) =
-    ap (λ x. enclave_at x.enclaves id) t.2 ∙ set_same table.enclaves id (Some (record e { state = stage })) (live_above table.enclaves id e t.1) (live_inside table.enclaves id e t.1) in
+    ap (λ x. enclave_at x.enclaves id) t.2 ∙ set_same table.enclaves id (Some (record e { state = stage })) (live_above table.enclaves id e t.1)
+    (live_inside table.enclaves id e t.1) in
     same_Some pc (e.parts.base + e.parts.entry_offset) (at ∙ ap (option_map (λ (e : Enclave). e.parts.base + e.parts.entry_offset)) there)
 
 -- an id that is free runs on no hart
-pub free_runs_nowhere : (kept : Kept) (worlds : List World) (marks : List Bool) (id : ℕ) → HoldsTogether kept worlds marks → enclave_at kept.table.enclaves id ≡ None → (i : ℕ) → world_in worlds i ≢ InEnclave id
+pub free_runs_nowhere : (kept : Kept) (worlds : List World) (marks : List Bool) (id : ℕ) → HoldsTogether kept worlds marks
+    → enclave_at kept.table.enclaves id ≡ None → (i : ℕ) → world_in worlds i ≢ InEnclave id
 free_runs_nowhere kept worlds marks id w free i is =
     let now : IsCurrent kept.table (InEnclave id) = subst (IsCurrent kept.table) is (current_from kept.table (world_in worlds i) (w.current i)) in
     let z : None ≡ Some now.0 = sym free ∙ now.1 in absurd cc
 
 -- nor one that is destroyed
-pub gone_runs_nowhere : (kept : Kept) (worlds : List World) (marks : List Bool) (world : World) (id : ℕ) (range : PageRange) (table : EnclaveTable) → HoldsTogether kept worlds marks → Destroys kept.table world id range table → (i : ℕ) → world_in worlds i ≢ InEnclave id
+pub gone_runs_nowhere : (kept : Kept) (worlds : List World) (marks : List Bool) (world : World) (id : ℕ) (range : PageRange) (table : EnclaveTable)
+    → HoldsTogether kept worlds marks → Destroys kept.table world id range table → (i : ℕ) → world_in worlds i ≢ InEnclave id
 gone_runs_nowhere kept worlds marks world id range table w d i is =
     let now : IsCurrent kept.table (InEnclave id) = subst (IsCurrent kept.table) is (current_from kept.table (world_in worlds i) (w.current i)) in
     d.passes.1.1.0 now.0 now.1 now.2
@@ -172,16 +193,21 @@ pub none_rests : (e : Enclave) → None ≡ Some e → e.state ≢ Running
 none_rests e put runs = cc
 
 -- the parts belong together where one id changed that runs on no hart
-pub whole_placed : (kept now : Kept) (worlds : List World) (marks : List Bool) (id : ℕ) (slot : Option Enclave) → HoldsTogether kept worlds marks → 1 ≤ id → ((i : ℕ) → world_in worlds i ≢ InEnclave id) → ((e : Enclave) → slot ≡ Some e → e.state ≢ Running) → now.table ≡ with_enclave kept.table id slot → HoldsTogether now worlds marks
+pub whole_placed : (kept now : Kept) (worlds : List World) (marks : List Bool) (id : ℕ) (slot : Option Enclave) → HoldsTogether kept worlds marks → 1 ≤ id
+    → ((i : ℕ) → world_in worlds i ≢ InEnclave id) → ((e : Enclave) → slot ≡ Some e → e.state ≢ Running) → now.table ≡ with_enclave kept.table id slot
+    → HoldsTogether now worlds marks
 whole_placed kept now worlds marks id slot w above nowhere stays is = record {
   few = subst (λ t. t.layout.harts ≤ 4) (sym is) w.few;
-  current = λ i. current_to now.table (world_in worlds i) (subst (λ t. IsCurrent t (world_in worlds i)) (sym is) (current_other kept.table id slot (world_in worlds i) above (nowhere i) (current_from kept.table (world_in worlds i) (w.current i))));
+  current = λ i. current_to now.table (world_in worlds i) (subst (λ t. IsCurrent t (world_in worlds i)) (sym is)
+      (current_other kept.table id slot (world_in worlds i) above (nowhere i) (current_from kept.table (world_in worlds i) (w.current i))));
   alone = w.alone;
-  held = held_to now.table (world_in worlds) (held_placed kept.table now.table (world_in worlds) id slot above is stays (held_from kept.table (world_in worlds) w.held));
+  held = held_to now.table (world_in worlds) (held_placed kept.table now.table (world_in worlds) id slot above is stays
+      (held_from kept.table (world_in worlds) w.held));
   idle = λ i past. w.idle i (subst (λ t. t.layout.harts ≤ i) is past);
   hosted = w.hosted;
 }
 
 -- the parts belong together where no mark is on a hart that is not in the host's world
-pub whole_marked : (kept : Kept) (worlds : List World) (marks after : List Bool) → HoldsTogether kept worlds marks → ((i : ℕ) → mark_in after i ≡ true → is_host (world_in worlds i) ≡ true) → HoldsTogether kept worlds after
+pub whole_marked : (kept : Kept) (worlds : List World) (marks after : List Bool) → HoldsTogether kept worlds marks
+    → ((i : ℕ) → mark_in after i ≡ true → is_host (world_in worlds i) ≡ true) → HoldsTogether kept worlds after
 whole_marked kept worlds marks after w hosted = record { few = w.few; current = w.current; alone = w.alone; held = w.held; idle = w.idle; hosted = hosted }

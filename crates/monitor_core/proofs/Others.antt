@@ -1,6 +1,7 @@
 -- What a call or an interrupt on one hart leaves of the others.
 use Rattle.measurement.specs.declared.request.Create.{Create}
-use Rattle.std.proofs.Common.{◌≡◌, ◌≢◌, ◌∙◌, inl, inr, ℕ, ◌<◌, ◌≤◌, Bool, true, false, ◌&&◌, ◌||◌, ◌==◌, nat_lt, if◌then◌else◌, List, Option, Some, None, refl, ap, ap₂, sym, subst, arith}
+use Rattle.std.proofs.Common.{◌≡◌, ◌≢◌, ◌∙◌, inl, inr, ℕ, ◌<◌, ◌≤◌, Bool, true, false, ◌&&◌, ◌||◌, ◌==◌, nat_lt, if◌then◌else◌, List, Option, Some, None, refl}
+use Rattle.std.proofs.Common.{ap, ap₂, sym, subst, arith}
 use Rattle.std.proofs.lemmas.Bool.{ne_eqb, lt-ltb}
 use Rattle.pmp_encoding.specs.declared.pages.PageRange.{PageRange}
 use Rattle.permission_map.specs.Views.{SameView}
@@ -29,11 +30,14 @@ use Rattle.monitor_core.specs.Worlds.{ArePlaced}
 use Rattle.monitor_core.proofs.Views.{view_other, view_turned}
 
 -- the view of a hart in another table, its world as it was
-there : (s new : MonitorState) (i : ℕ) (table : EnclaveTable) → new.table ≡ table → new.worlds i ≡ s.worlds i → SameView (view_of s.table (s.worlds i)) (view_of table (s.worlds i)) → SameView (view_on s i) (view_on new i)
-there s new i table is world v = subst (λ t. SameView (view_of s.table (s.worlds i)) (view_of t (new.worlds i))) (sym is) (subst (λ w. SameView (view_of s.table (s.worlds i)) (view_of table w)) (sym world) v)
+there : (s new : MonitorState) (i : ℕ) (table : EnclaveTable) → new.table ≡ table → new.worlds i ≡ s.worlds i
+    → SameView (view_of s.table (s.worlds i)) (view_of table (s.worlds i)) → SameView (view_on s i) (view_on new i)
+there s new i table is world v = subst (λ t. SameView (view_of s.table (s.worlds i)) (view_of t (new.worlds i))) (sym is)
+    (subst (λ w. SameView (view_of s.table (s.worlds i)) (view_of table w)) (sym world) v)
 
 -- table, worlds and marks stayed
-pub others_stay : (s new that : MonitorState) (hart : ℕ) → new ≡ that → that.table ≡ s.table → that.worlds ≡ s.worlds → that.marked ≡ s.marked → KeepsOthers s new hart
+pub others_stay : (s new that : MonitorState) (hart : ℕ) → new ≡ that → that.table ≡ s.table → that.worlds ≡ s.worlds → that.marked ≡ s.marked
+    → KeepsOthers s new hart
 others_stay s new that hart is table worlds marked = record {
   awake = λ i other off. sym (ap (λ y. y.marked i) is ∙ ap (λ f. f i) marked) ∙ off;
   views = λ i other low off. there s new i s.table (ap (λ y. y.table) is ∙ table) (ap (λ y. y.worlds i) is ∙ ap (λ f. f i) worlds) (λ page small. refl);
@@ -44,35 +48,44 @@ neither true b e = absurd (let h : true ≡ false = e in cc)
 neither false b e = (refl, e)
 
 -- an enclave was made or taken away, which runs nowhere; the harts in the host's world are marked
-owned : (s new : MonitorState) (hart id : ℕ) (slot : Option Enclave) (harts : ℕ) → 1 ≤ id → harts ≡ s.table.layout.harts → ((i : ℕ) → i < s.table.layout.harts → s.worlds i ≢ InEnclave id)
+owned : (s new : MonitorState) (hart id : ℕ) (slot : Option Enclave) (harts : ℕ) → 1 ≤ id → harts ≡ s.table.layout.harts
+    → ((i : ℕ) → i < s.table.layout.harts → s.worlds i ≢ InEnclave id)
     → new.table ≡ with_enclave s.table id slot → ((i : ℕ) → new.worlds i ≡ s.worlds i)
     → ((i : ℕ) → new.marked i ≡ (if i == hart then s.marked i else (nat_lt i harts && is_host (s.worlds i) || s.marked i))) → KeepsOthers s new hart
 owned s new hart id slot harts above many free table worlds marks = record {
   awake = λ i other off. (neither (nat_lt i harts && is_host (s.worlds i)) (s.marked i)
-      (sym (ap (λ (t : Bool). if t then s.marked i else (nat_lt i harts && is_host (s.worlds i) || s.marked i)) (ne_eqb i hart other)) ∙ sym (marks i) ∙ off)).1;
+      (sym (ap (λ (t : Bool). if t then s.marked i else (nat_lt i harts && is_host (s.worlds i) || s.marked i)) (ne_eqb i hart other)) ∙ sym (marks i)
+      ∙ off)).1;
   views = λ i other low off.
       let mark = λ (mine known : Bool). if mine then s.marked i else (known && is_host (s.worlds i) || s.marked i) in
-      let parts = neither (is_host (s.worlds i)) (s.marked i) (sym (ap₂ mark (ne_eqb i hart other) (lt-ltb i harts (omega (arith, many, low)))) ∙ sym (marks i) ∙ off) in
+      let parts = neither (is_host (s.worlds i)) (s.marked i) (sym (ap₂ mark (ne_eqb i hart other) (lt-ltb i harts (omega (arith, many, low)))) ∙ sym (marks i)
+      ∙ off) in
       there s new i (with_enclave s.table id slot) table (worlds i) (view_other s.table id slot (s.worlds i) above (free i low) parts.0);
 }
 
 -- a hart went from one world to another, and an enclave that no other hart runs into another state
-moved : (s new : MonitorState) (hart id : ℕ) (e : Enclave) (stage : Stage) (to : World) → Live s.table id e → ((i : ℕ) → i ≢ hart → i < s.table.layout.harts → s.worlds i ≢ InEnclave id)
-    → new.table ≡ with_enclave s.table id (Some (record e { state = stage })) → ((i : ℕ) → new.worlds i ≡ (if i == hart then to else s.worlds i)) → ((i : ℕ) → new.marked i ≡ s.marked i) → KeepsOthers s new hart
+moved : (s new : MonitorState) (hart id : ℕ) (e : Enclave) (stage : Stage) (to : World) → Live s.table id e
+    → ((i : ℕ) → i ≢ hart → i < s.table.layout.harts → s.worlds i ≢ InEnclave id)
+    → new.table ≡ with_enclave s.table id (Some (record e { state = stage })) → ((i : ℕ) → new.worlds i ≡ (if i == hart then to else s.worlds i))
+    → ((i : ℕ) → new.marked i ≡ s.marked i) → KeepsOthers s new hart
 moved s new hart id e stage to live free table worlds marks = record {
   awake = λ i other off. sym (marks i) ∙ off;
   views = λ i other low off.
-      there s new i (with_enclave s.table id (Some (record e { state = stage }))) table (worlds i ∙ ap (λ (t : Bool). if t then to else s.worlds i) (ne_eqb i hart other)) (view_turned s.table id e stage (s.worlds i) live (free i other low));
+      there s new i (with_enclave s.table id (Some (record e { state = stage }))) table
+      (worlds i ∙ ap (λ (t : Bool). if t then to else s.worlds i) (ne_eqb i hart other))
+      (view_turned s.table id e stage (s.worlds i) live (free i other low));
 }
 
 -- an id that is free runs on no hart
-free_nowhere : (s : MonitorState) (id : ℕ) → ArePlaced s → enclave_at s.table.enclaves id ≡ None → (i : ℕ) → i < s.table.layout.harts → s.worlds i ≢ InEnclave id
+free_nowhere : (s : MonitorState) (id : ℕ) → ArePlaced s → enclave_at s.table.enclaves id ≡ None → (i : ℕ) → i < s.table.layout.harts
+    → s.worlds i ≢ InEnclave id
 free_nowhere s id w free i low is =
     let now : IsCurrent s.table (InEnclave id) = subst (IsCurrent s.table) is (w.current i low) in
     let z : None ≡ Some now.0 = sym free ∙ now.1 in absurd cc
 
 -- nor one that is entered
-entered_nowhere : (s : MonitorState) (id : ℕ) (world : World) (entering : Entering) (table : EnclaveTable) → ArePlaced s → Enters s.table world id (state_before entering) table → (i : ℕ) → i < s.table.layout.harts → s.worlds i ≢ InEnclave id
+entered_nowhere : (s : MonitorState) (id : ℕ) (world : World) (entering : Entering) (table : EnclaveTable) → ArePlaced s
+    → Enters s.table world id (state_before entering) table → (i : ℕ) → i < s.table.layout.harts → s.worlds i ≢ InEnclave id
 entered_nowhere s id world entering table w en i low is =
     let now : IsCurrent s.table (InEnclave id) = subst (IsCurrent s.table) is (w.current i low) in
     never entering (sym (en.passes.1.1.0 now.0 now.1) ∙ now.2)
@@ -81,24 +94,30 @@ entered_nowhere s id world entering table w en i low is =
     never FirstRun e = let z : Fresh ≡ Running = e in cc
     never Resume e = let z : Stopped ≡ Running = e in cc
 
-enters : (entering : Entering) (s : MonitorState) (hart id : ℕ) (answer : Answer) (zero : Option PageRange) (new : MonitorState) → ArePlaced s → DoesEnter entering id s hart answer zero new → KeepsOthers s new hart
+enters : (entering : Entering) (s : MonitorState) (hart id : ℕ) (answer : Answer) (zero : Option PageRange) (new : MonitorState) → ArePlaced s
+    → DoesEnter entering id s hart answer zero new → KeepsOthers s new hart
 enters entering s hart id answer zero new w (inr x) = others_stay s new _ hart x.2.state refl refl refl
 enters FirstRun s hart id answer zero new w (inl x) =
-    moved s new hart id x.3.turned.0 _ (InEnclave id) x.3.turned.1 (λ i other low. entered_nowhere s id (s.worlds hart) FirstRun x.1 w x.3 i low) (ap (λ y. y.table) x.4.state ∙ x.3.turned.2) (λ i. ap (λ y. y.worlds i) x.4.state) (λ i. ap (λ y. y.marked i) x.4.state)
+    moved s new hart id x.3.turned.0 _ (InEnclave id) x.3.turned.1 (λ i other low. entered_nowhere s id (s.worlds hart) FirstRun x.1 w x.3 i low)
+    (ap (λ y. y.table) x.4.state ∙ x.3.turned.2) (λ i. ap (λ y. y.worlds i) x.4.state) (λ i. ap (λ y. y.marked i) x.4.state)
 enters Resume s hart id answer zero new w (inl x) =
-    moved s new hart id x.3.turned.0 _ (InEnclave id) x.3.turned.1 (λ i other low. entered_nowhere s id (s.worlds hart) Resume x.1 w x.3 i low) (ap (λ y. y.table) x.4.state ∙ x.3.turned.2) (λ i. ap (λ y. y.worlds i) x.4.state) (λ i. ap (λ y. y.marked i) x.4.state)
+    moved s new hart id x.3.turned.0 _ (InEnclave id) x.3.turned.1 (λ i other low. entered_nowhere s id (s.worlds hart) Resume x.1 w x.3 i low)
+    (ap (λ y. y.table) x.4.state ∙ x.3.turned.2) (λ i. ap (λ y. y.worlds i) x.4.state) (λ i. ap (λ y. y.marked i) x.4.state)
 
-left : (s new : MonitorState) (hart id : ℕ) (leaving : Leaving) (table : EnclaveTable) → hart < s.table.layout.harts → ArePlaced s → Leaves s.table (s.worlds hart) (state_after leaving) id table
+left : (s new : MonitorState) (hart id : ℕ) (leaving : Leaving) (table : EnclaveTable) → hart < s.table.layout.harts → ArePlaced s
+    → Leaves s.table (s.worlds hart) (state_after leaving) id table
     → new.table ≡ table → ((i : ℕ) → new.worlds i ≡ (if i == hart then Host else s.worlds i)) → ((i : ℕ) → new.marked i ≡ s.marked i) → KeepsOthers s new hart
 left s new hart id leaving table low w l is worlds marks =
     moved s new hart id l.turned.0 _ Host l.turned.1 (λ i other under at. other (w.alone i hart id under low at l.left)) (is ∙ l.turned.2) worlds marks
 
-pub others_call : (call : Option Call) (digests : Create → List ℕ) (s : MonitorState) (hart : ℕ) (answer : Answer) (zero : Option PageRange) (new : MonitorState) → hart < s.table.layout.harts → ArePlaced s → DoesCall call digests s hart answer zero new → KeepsOthers s new hart
+pub others_call : (call : Option Call) (digests : Create → List ℕ) (s : MonitorState) (hart : ℕ) (answer : Answer) (zero : Option PageRange)
+    (new : MonitorState) → hart < s.table.layout.harts → ArePlaced s → DoesCall call digests s hart answer zero new → KeepsOthers s new hart
 others_call None digests s hart answer zero new low w x = others_stay s new _ hart x.state refl refl refl
 others_call (Some (calls.Create base text_pages data_pages shared_base shared_count entry_offset)) digests s hart answer zero new low w (inl x) =
     owned s new hart x.0 _ x.1.layout.harts x.2.next.free.0 (ap (λ t. t.layout.harts) x.2.added) (free_nowhere s x.0 w x.2.next.free.2)
     (ap (λ y. y.table) x.3.state ∙ x.2.added) (λ i. ap (λ y. y.worlds i) x.3.state) (λ i. ap (λ y. y.marked i) x.3.state)
-others_call (Some (calls.Create base text_pages data_pages shared_base shared_count entry_offset)) digests s hart answer zero new low w (inr x) = others_stay s new _ hart x.2.state refl refl refl
+others_call (Some (calls.Create base text_pages data_pages shared_base shared_count entry_offset)) digests s hart answer zero new low w
+    (inr x) = others_stay s new _ hart x.2.state refl refl refl
 others_call (Some (calls.Destroy id)) digests s hart answer zero new low w (inl x) =
     let g = x.2.passes.1.0 in
     owned s new hart id None x.1.layout.harts (live_above s.table.enclaves id g.0 g.1) (ap (λ t. t.layout.harts) x.2.removed)
@@ -116,7 +135,9 @@ others_call (Some (calls.Exit value)) digests s hart answer zero new low w (inr 
 others_call (Some (calls.Measure id k)) digests s hart answer zero new low w (inl x) = others_stay s new _ hart x.2.state refl refl refl
 others_call (Some (calls.Measure id k)) digests s hart answer zero new low w (inr x) = others_stay s new _ hart x.2.state refl refl refl
 
-pub others_irq : (world : World) (s : MonitorState) (hart : ℕ) (new : MonitorState) → s.worlds hart ≡ world → hart < s.table.layout.harts → ArePlaced s → Interrupts world s hart new → KeepsOthers s new hart
+pub others_irq : (world : World) (s : MonitorState) (hart : ℕ) (new : MonitorState) → s.worlds hart ≡ world → hart < s.table.layout.harts → ArePlaced s
+    → Interrupts world s hart new → KeepsOthers s new hart
 others_irq Host s hart new at low w x = others_stay s new s hart x refl refl refl
 others_irq (InEnclave id) s hart new at low w x =
-    left s new hart id Stop x.0 low w (subst (λ v. Leaves s.table v Stopped id x.0) (sym at) x.1) (ap (λ y. y.table) x.2) (λ i. ap (λ y. y.worlds i) x.2) (λ i. ap (λ y. y.marked i) x.2)
+    left s new hart id Stop x.0 low w (subst (λ v. Leaves s.table v Stopped id x.0) (sym at) x.1) (ap (λ y. y.table) x.2) (λ i. ap (λ y. y.worlds i) x.2)
+    (λ i. ap (λ y. y.marked i) x.2)

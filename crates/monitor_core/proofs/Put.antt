@@ -19,5 +19,6 @@ same_not (HostOf a) (EnclaveOf b) n = refl
 same_not (EnclaveOf a) (HostOf b) n = refl
 same_not (EnclaveOf a) (EnclaveOf b) n = ne_eqb a b (λ e. n (ap EnclaveOf e))
 
-pub put_other : (s : MonitorState) (hart : ℕ) (file : RegisterFile) (who : Runner) → who ≢ runner_of hart (s.worlds hart) → (with_running s hart file).registers who ≡ s.registers who
+pub put_other : (s : MonitorState) (hart : ℕ) (file : RegisterFile) (who : Runner) → who ≢ runner_of hart (s.worlds hart)
+    → (with_running s hart file).registers who ≡ s.registers who
 put_other s hart file who other = ap (λ b. if b then file else s.registers who) (same_not who (runner_of hart (s.worlds hart)) other)

@@ -32,18 +32,23 @@ pub call_there : (s mid new : MonitorState) (hart : ℕ) (file : RegisterFile) (
     → DoesCall (call_of (past_call file)) digests (with_running s hart (past_call file)) hart answer zero new
 call_there s mid new hart file digests answer zero put step =
     subst (λ m. DoesCall (call_of (past_call file)) digests m hart answer zero new) (running_over s hart file (past_call file))
-    (subst (λ f. DoesCall (call_of (past_call f)) digests (with_running (with_running s hart file) hart (past_call f)) hart answer zero new) (put_there s hart file)
-    (subst (λ m. DoesCall (call_of (past_call (running_registers m hart))) digests (with_running m hart (past_call (running_registers m hart))) hart answer zero new) put step))
+    (subst (λ f. DoesCall (call_of (past_call f)) digests (with_running (with_running s hart file) hart (past_call f)) hart answer zero new)
+    (put_there s hart file)
+    (subst (λ m. DoesCall (call_of (past_call (running_registers m hart))) digests
+    (with_running m hart (past_call (running_registers m hart))) hart answer zero new) put step))
 
 -- what was so after they were put is so as it was before
-pub others_put : (s mid new : MonitorState) (hart : ℕ) (file : RegisterFile) → mid ≡ with_running s hart file → KeepsOthers mid new hart → KeepsOthers s new hart
+pub others_put : (s mid new : MonitorState) (hart : ℕ) (file : RegisterFile) → mid ≡ with_running s hart file → KeepsOthers mid new hart
+    → KeepsOthers s new hart
 others_put s mid new hart file put kept =
     let k = subst (λ m. KeepsOthers m new hart) put kept in
     record { awake = k.awake; views = k.views }
 
-anew_put : (load : Bool) (s new : MonitorState) (hart : ℕ) (file : RegisterFile) → LoadsAnew load (with_running s hart file) new hart → LoadsAnew load s new hart
+anew_put : (load : Bool) (s new : MonitorState) (hart : ℕ) (file : RegisterFile) → LoadsAnew load (with_running s hart file) new hart
+    → LoadsAnew load s new hart
 anew_put true s new hart file anew = anew
 anew_put false s new hart file anew = anew
 
-pub loads_put : (load : Bool) (s mid new : MonitorState) (hart : ℕ) (file : RegisterFile) → mid ≡ with_running s hart file → LoadsAnew load mid new hart → LoadsAnew load s new hart
+pub loads_put : (load : Bool) (s mid new : MonitorState) (hart : ℕ) (file : RegisterFile) → mid ≡ with_running s hart file → LoadsAnew load mid new hart
+    → LoadsAnew load s new hart
 loads_put load s mid new hart file put anew = anew_put load s new hart file (subst (λ m. LoadsAnew load m new hart) put anew)

@@ -29,10 +29,12 @@ same : (table new : EnclaveTable) → new ≡ table → IsTable table → IsTabl
 same table new is t = subst IsTable (sym is) t
 
 -- one more enclave, after all checks
-created : (digests : Create → List ℕ) (old : EnclaveTable) (world : World) (asked : Create) (id : ℕ) (new : EnclaveTable) → Creates digests old world asked id new → IsTable old → IsTable new
+created : (digests : Create → List ℕ) (old : EnclaveTable) (world : World) (asked : Create) (id : ℕ) (new : EnclaveTable)
+    → Creates digests old world asked id new → IsTable old → IsTable new
 created digests old world asked id new x t =
     same (with_enclave old id (Some (fresh digests (parts_of asked)))) new x.added
-    (added_table old id (fresh digests (parts_of asked)) (free_place old id t x.next.free.0 x.next.free.1) t (sound_from old world (parts_of asked) x.passes) (apart_from old world (parts_of asked) x.passes))
+    (added_table old id (fresh digests (parts_of asked)) (free_place old id t x.next.free.0 x.next.free.1) t (sound_from old world (parts_of asked) x.passes)
+    (apart_from old world (parts_of asked) x.passes))
 
 -- one enclave fewer
 destroyed : (old : EnclaveTable) (world : World) (id : ℕ) (range : PageRange) (new : EnclaveTable) → Destroys old world id range new → IsTable old → IsTable new
@@ -44,24 +46,33 @@ destroyed old world id range new x t =
 turned : (old : EnclaveTable) (id : ℕ) (stage : Stage) (new : EnclaveTable) → Turns old id stage new → IsTable old → IsTable new
 turned old id stage new x t = same (with_enclave old id (Some (record x.0 { state = stage }))) new x.2 (turned_table old id x.0 stage x.1 t)
 
-pub call_keeps_table : (call : Option Call) (digests : Create → List ℕ) (s : MonitorState) (hart : ℕ) (answer : Answer) (zero : Option PageRange) (new : MonitorState) → DoesCall call digests s hart answer zero new → IsTable s.table → IsTable new.table
+pub call_keeps_table : (call : Option Call) (digests : Create → List ℕ) (s : MonitorState) (hart : ℕ) (answer : Answer) (zero : Option PageRange)
+    (new : MonitorState) → DoesCall call digests s hart answer zero new → IsTable s.table → IsTable new.table
 call_keeps_table None digests s hart answer zero new x t = same s.table new.table (ap (λ y. y.table) x.state) t
-call_keeps_table (Some (calls.Create base text_pages data_pages shared_base shared_count entry_offset)) digests s hart answer zero new (inl x) t = same x.1 new.table (ap (λ y. y.table) x.3.state) (created digests s.table (s.worlds hart) _ x.0 x.1 x.2 t)
-call_keeps_table (Some (calls.Create base text_pages data_pages shared_base shared_count entry_offset)) digests s hart answer zero new (inr x) t = same s.table new.table (ap (λ y. y.table) x.2.state) t
-call_keeps_table (Some (calls.Destroy id)) digests s hart answer zero new (inl x) t = same x.1 new.table (ap (λ y. y.table) x.3.state) (destroyed s.table (s.worlds hart) id x.0 x.1 x.2 t)
+call_keeps_table (Some (calls.Create base text_pages data_pages shared_base shared_count entry_offset)) digests s hart answer zero new
+    (inl x) t = same x.1 new.table (ap (λ y. y.table) x.3.state) (created digests s.table (s.worlds hart) _ x.0 x.1 x.2 t)
+call_keeps_table (Some (calls.Create base text_pages data_pages shared_base shared_count entry_offset)) digests s hart answer zero new
+    (inr x) t = same s.table new.table (ap (λ y. y.table) x.2.state) t
+call_keeps_table (Some (calls.Destroy id)) digests s hart answer zero new (inl x) t = same x.1 new.table (ap (λ y. y.table) x.3.state)
+    (destroyed s.table (s.worlds hart) id x.0 x.1 x.2 t)
 call_keeps_table (Some (calls.Destroy id)) digests s hart answer zero new (inr x) t = same s.table new.table (ap (λ y. y.table) x.2.state) t
-call_keeps_table (Some (calls.Run id)) digests s hart answer zero new (inl x) t = same x.1 new.table (ap (λ y. y.table) x.4.state) (turned s.table id _ x.1 x.3.turned t)
+call_keeps_table (Some (calls.Run id)) digests s hart answer zero new (inl x) t = same x.1 new.table (ap (λ y. y.table) x.4.state)
+    (turned s.table id _ x.1 x.3.turned t)
 call_keeps_table (Some (calls.Run id)) digests s hart answer zero new (inr x) t = same s.table new.table (ap (λ y. y.table) x.2.state) t
-call_keeps_table (Some calls.Stop) digests s hart answer zero new (inl x) t = same x.1 new.table (ap (λ y. y.table) x.3.state) (turned s.table x.0 _ x.1 x.2.turned t)
+call_keeps_table (Some calls.Stop) digests s hart answer zero new (inl x) t = same x.1 new.table (ap (λ y. y.table) x.3.state)
+    (turned s.table x.0 _ x.1 x.2.turned t)
 call_keeps_table (Some calls.Stop) digests s hart answer zero new (inr x) t = same s.table new.table (ap (λ y. y.table) x.2.state) t
-call_keeps_table (Some (calls.Resume id)) digests s hart answer zero new (inl x) t = same x.1 new.table (ap (λ y. y.table) x.4.state) (turned s.table id _ x.1 x.3.turned t)
+call_keeps_table (Some (calls.Resume id)) digests s hart answer zero new (inl x) t = same x.1 new.table (ap (λ y. y.table) x.4.state)
+    (turned s.table id _ x.1 x.3.turned t)
 call_keeps_table (Some (calls.Resume id)) digests s hart answer zero new (inr x) t = same s.table new.table (ap (λ y. y.table) x.2.state) t
-call_keeps_table (Some (calls.Exit value)) digests s hart answer zero new (inl x) t = same x.1 new.table (ap (λ y. y.table) x.3.state) (turned s.table x.0 _ x.1 x.2.turned t)
+call_keeps_table (Some (calls.Exit value)) digests s hart answer zero new (inl x) t = same x.1 new.table (ap (λ y. y.table) x.3.state)
+    (turned s.table x.0 _ x.1 x.2.turned t)
 call_keeps_table (Some (calls.Exit value)) digests s hart answer zero new (inr x) t = same s.table new.table (ap (λ y. y.table) x.2.state) t
 call_keeps_table (Some (calls.Measure id k)) digests s hart answer zero new (inl x) t = same s.table new.table (ap (λ y. y.table) x.2.state) t
 call_keeps_table (Some (calls.Measure id k)) digests s hart answer zero new (inr x) t = same s.table new.table (ap (λ y. y.table) x.2.state) t
 
-pub interrupt_keeps_table : (world : World) (s : MonitorState) (hart : ℕ) (new : MonitorState) → Interrupts world s hart new → IsTable s.table → IsTable new.table
+pub interrupt_keeps_table : (world : World) (s : MonitorState) (hart : ℕ) (new : MonitorState) → Interrupts world s hart new → IsTable s.table
+    → IsTable new.table
 interrupt_keeps_table Host s hart new x t = same s.table new.table (ap (λ y. y.table) x) t
 interrupt_keeps_table (InEnclave id) s hart new x t = same x.0 new.table (ap (λ y. y.table) x.2) (turned s.table id _ x.0 x.1.turned t)
 

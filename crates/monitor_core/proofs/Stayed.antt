@@ -7,7 +7,8 @@ use Rattle.enclave_table.proofs.Places.{live_above, live_inside, set_same}
 
 pub not_added : (table now : EnclaveTable) (id : ℕ) (e : Enclave) → IsTable table → IsNextId table id → now ≡ with_enclave table id (Some e) → now ≡ table → ⊥
 not_added table now id e is next added same =
-    let z : Some e ≡ None = sym (set_same table.enclaves id (Some e) next.free.0 (omega (arith, is.places, next.free.1, next.free.0))) ∙ ap (λ t. enclave_at t.enclaves id) (sym added ∙ same) ∙ next.free.2 in cc
+    let z : Some e ≡ None = sym (set_same table.enclaves id (Some e) next.free.0 (omega (arith, is.places, next.free.1, next.free.0)))
+    ∙ ap (λ t. enclave_at t.enclaves id) (sym added ∙ same) ∙ next.free.2 in cc
 
 pub not_removed : (table now : EnclaveTable) (id : ℕ) (e : Enclave) → Live table id e → now ≡ with_enclave table id None → now ≡ table → ⊥
 not_removed table now id e live removed same =

@@ -15,7 +15,8 @@ use Rattle.enclave_table.specs.Create.{OutgrowsByCreate, fresh}
 use Rattle.enclave_table.specs.Enclaves.{IsNextId}
 use Rattle.measurement.specs.declared.request.Create.{Create}
 use Rattle.enclave_table.specs.declared.refusal.Refusal.{Refusal}
-use Rattle.enclave_table.specs.declared.refusal.Refusal.TheVariants.{NotHost, NotEnclave, BadCount, BadAddress, BadEntry, NotRam, Overlap, TableFull, NoEntries, NoMemory, BadId, BadState, BadWord}
+use Rattle.enclave_table.specs.declared.refusal.Refusal.TheVariants.{NotHost, NotEnclave, BadCount, BadAddress, BadEntry, NotRam, Overlap, TableFull, NoEntries}
+use Rattle.enclave_table.specs.declared.refusal.Refusal.TheVariants.{NoMemory, BadId, BadState, BadWord}
 use Rattle.enclave_table.specs.Tables.{IsTable}
 use Rattle.enclave_table.specs.declared.enclave.Stage.TheVariants.{Fresh, Stopped}
 use Rattle.enclave_table.proofs.Placed.{free_place, host_added}
@@ -59,10 +60,12 @@ under_zero (pos n) = 0
 under_zero (negsuc n) = n
 
 -- what a call that is refused, and one that is done, is answered with
-refused_says : (number : ℕ) (s : MonitorState) (hart : ℕ) (answer : Answer) (zero : Option PageRange) (new : MonitorState) → Refuses number s hart answer zero new → answer.status ≡ below_zero number
+refused_says : (number : ℕ) (s : MonitorState) (hart : ℕ) (answer : Answer) (zero : Option PageRange) (new : MonitorState)
+    → Refuses number s hart answer zero new → answer.status ≡ below_zero number
 refused_says number s hart answer zero new x = ap (λ a. a.status) x.told
 
-done_says : (that : MonitorState) (value : ℕ) (pages : Option PageRange) (answer : Answer) (zero : Option PageRange) (new : MonitorState) → Done that value pages answer zero new → answer.status ≡ pos 0
+done_says : (that : MonitorState) (value : ℕ) (pages : Option PageRange) (answer : Answer) (zero : Option PageRange) (new : MonitorState)
+    → Done that value pages answer zero new → answer.status ≡ pos 0
 done_says that value pages answer zero new x = ap (λ a. a.status) x.told
 
 -- a call that was done was not refused
@@ -81,25 +84,32 @@ one_next table id other n m = omega (arith, n.smallest other m.free, m.smallest 
 abbrev ExactlyWhere : Type 0 → Answer → Type 0
 ExactlyWhere More answer = (IsAnsweredBy answer NoEntries → More) × (More → IsAnsweredBy answer NoEntries ⊎ IsAnsweredBy answer NoMemory)
 
-create_refused : (asked : Create) (digests : Create → List ℕ) (s : MonitorState) (hart : ℕ) (answer : Answer) (refusal : Refusal) → AllPass (create_checks s.table (s.worlds hart) (parts_of asked))
-    → RefusesBy (create_checks s.table (s.worlds hart) (parts_of asked)) (OutgrowsByCreate digests s.table asked) refusal → IsAnsweredBy answer refusal → ExactlyWhere (OutgrowsByCreate digests s.table asked) answer
+create_refused : (asked : Create) (digests : Create → List ℕ) (s : MonitorState) (hart : ℕ) (answer : Answer) (refusal : Refusal)
+    → AllPass (create_checks s.table (s.worlds hart) (parts_of asked))
+    → RefusesBy (create_checks s.table (s.worlds hart) (parts_of asked)) (OutgrowsByCreate digests s.table asked) refusal → IsAnsweredBy answer refusal
+    → ExactlyWhere (OutgrowsByCreate digests s.table asked) answer
 create_refused asked digests s hart answer NoEntries pass why x = ((λ is. why.1), (λ out. inl x))
 create_refused asked digests s hart answer NoMemory pass why x = ((λ is. absurd (not_both answer x is)), (λ out. inr x))
 create_refused asked digests s hart answer NotHost pass why x = absurd (none_fails (create_checks s.table (s.worlds hart) (parts_of asked)) NotHost pass why)
-create_refused asked digests s hart answer NotEnclave pass why x = absurd (none_fails (create_checks s.table (s.worlds hart) (parts_of asked)) NotEnclave pass why)
+create_refused asked digests s hart answer NotEnclave pass why x = absurd
+    (none_fails (create_checks s.table (s.worlds hart) (parts_of asked)) NotEnclave pass why)
 create_refused asked digests s hart answer BadCount pass why x = absurd (none_fails (create_checks s.table (s.worlds hart) (parts_of asked)) BadCount pass why)
-create_refused asked digests s hart answer BadAddress pass why x = absurd (none_fails (create_checks s.table (s.worlds hart) (parts_of asked)) BadAddress pass why)
+create_refused asked digests s hart answer BadAddress pass why x = absurd
+    (none_fails (create_checks s.table (s.worlds hart) (parts_of asked)) BadAddress pass why)
 create_refused asked digests s hart answer BadEntry pass why x = absurd (none_fails (create_checks s.table (s.worlds hart) (parts_of asked)) BadEntry pass why)
 create_refused asked digests s hart answer NotRam pass why x = absurd (none_fails (create_checks s.table (s.worlds hart) (parts_of asked)) NotRam pass why)
 create_refused asked digests s hart answer Overlap pass why x = absurd (none_fails (create_checks s.table (s.worlds hart) (parts_of asked)) Overlap pass why)
-create_refused asked digests s hart answer TableFull pass why x = absurd (none_fails (create_checks s.table (s.worlds hart) (parts_of asked)) TableFull pass why)
+create_refused asked digests s hart answer TableFull pass why x = absurd (none_fails
+    (create_checks s.table (s.worlds hart) (parts_of asked)) TableFull pass why)
 create_refused asked digests s hart answer BadId pass why x = absurd (none_fails (create_checks s.table (s.worlds hart) (parts_of asked)) BadId pass why)
 create_refused asked digests s hart answer BadState pass why x = absurd (none_fails (create_checks s.table (s.worlds hart) (parts_of asked)) BadState pass why)
 create_refused asked digests s hart answer BadWord pass why x = absurd (none_fails (create_checks s.table (s.worlds hart) (parts_of asked)) BadWord pass why)
 
-pub creates_by_need : (asked : Create) (digests : Create → List ℕ) (s : MonitorState) (hart : ℕ) (answer : Answer) (zero : Option PageRange) (new : MonitorState) → AllPass (create_checks s.table (s.worlds hart) (parts_of asked)) → DoesCall (creates_of asked) digests s hart answer zero new
+pub creates_by_need : (asked : Create) (digests : Create → List ℕ) (s : MonitorState) (hart : ℕ) (answer : Answer) (zero : Option PageRange)
+    (new : MonitorState) → AllPass (create_checks s.table (s.worlds hart) (parts_of asked)) → DoesCall (creates_of asked) digests s hart answer zero new
     → ExactlyWhere (OutgrowsByCreate digests s.table asked) answer
-creates_by_need asked digests s hart answer zero new pass (inr x) = create_refused asked digests s hart answer x.0 pass x.1 (refused_says _ s hart answer zero new x.2)
+creates_by_need asked digests s hart answer zero new pass (inr x) = create_refused asked digests s hart answer x.0 pass x.1
+    (refused_says _ s hart answer zero new x.2)
 creates_by_need asked digests s hart answer zero new pass (inl x) = (
   (λ is. absurd (not_refused NoEntries answer (done_says _ _ _ answer zero new x.3) is)),
   (λ out. absurd (elim out [
@@ -109,12 +119,14 @@ creates_by_need asked digests s hart answer zero new pass (inl x) = (
         fits_not_more s.table.layout.limit (host_view made)
         (subst (λ t. FitsIn t.layout.limit (host_view t)) x.2.added x.2.host_fits)
         (subst (λ n. NeedsMore s.table.layout.limit (host_view (with_enclave s.table n (Some (fresh digests (parts_of asked)))))) (sym same) host.2)
-    | inr own ↦ fits_not_more s.table.layout.limit (enclave_view (parts_of asked)) (subst (λ t. FitsIn t.layout.limit (enclave_view (parts_of asked))) x.2.added x.2.enclave_fits) own
+    | inr own ↦ fits_not_more s.table.layout.limit (enclave_view (parts_of asked))
+        (subst (λ t. FitsIn t.layout.limit (enclave_view (parts_of asked))) x.2.added x.2.enclave_fits) own
   ])),
 )
 
 destroy_refused : (id : ℕ) (s : MonitorState) (hart : ℕ) (answer : Answer) (refusal : Refusal) → AllPass (host_checks MayDestroy s.table (s.worlds hart) id)
-    → RefusesBy (host_checks MayDestroy s.table (s.worlds hart) id) (NeedsMore s.table.layout.limit (host_view (with_enclave s.table id None))) refusal → IsAnsweredBy answer refusal → ExactlyWhere (NeedsMore s.table.layout.limit (host_view (with_enclave s.table id None))) answer
+    → RefusesBy (host_checks MayDestroy s.table (s.worlds hart) id) (NeedsMore s.table.layout.limit (host_view (with_enclave s.table id None))) refusal
+    → IsAnsweredBy answer refusal → ExactlyWhere (NeedsMore s.table.layout.limit (host_view (with_enclave s.table id None))) answer
 destroy_refused id s hart answer NoEntries pass why x = ((λ is. why.1), (λ out. inl x))
 destroy_refused id s hart answer NoMemory pass why x = ((λ is. absurd (not_both answer x is)), (λ out. inr x))
 destroy_refused id s hart answer NotHost pass why x = absurd (none_fails (host_checks MayDestroy s.table (s.worlds hart) id) NotHost pass why)
@@ -129,12 +141,14 @@ destroy_refused id s hart answer BadId pass why x = absurd (none_fails (host_che
 destroy_refused id s hart answer BadState pass why x = absurd (none_fails (host_checks MayDestroy s.table (s.worlds hart) id) BadState pass why)
 destroy_refused id s hart answer BadWord pass why x = absurd (none_fails (host_checks MayDestroy s.table (s.worlds hart) id) BadWord pass why)
 
-pub destroys_by_need : (id : ℕ) (digests : Create → List ℕ) (s : MonitorState) (hart : ℕ) (answer : Answer) (zero : Option PageRange) (new : MonitorState) → AllPass (host_checks MayDestroy s.table (s.worlds hart) id) → DoesCall (Some (calls.Destroy id)) digests s hart answer zero new
+pub destroys_by_need : (id : ℕ) (digests : Create → List ℕ) (s : MonitorState) (hart : ℕ) (answer : Answer) (zero : Option PageRange) (new : MonitorState)
+    → AllPass (host_checks MayDestroy s.table (s.worlds hart) id) → DoesCall (Some (calls.Destroy id)) digests s hart answer zero new
     → ExactlyWhere (NeedsMore s.table.layout.limit (host_view (with_enclave s.table id None))) answer
 destroys_by_need id digests s hart answer zero new pass (inr x) = destroy_refused id s hart answer x.0 pass x.1 (refused_says _ s hart answer zero new x.2)
 destroys_by_need id digests s hart answer zero new pass (inl x) = (
   (λ is. absurd (not_refused NoEntries answer (done_says _ _ _ answer zero new x.3) is)),
-  (λ out. absurd (fits_not_more s.table.layout.limit (host_view (with_enclave s.table id None)) (subst (λ t. FitsIn t.layout.limit (host_view t)) x.2.removed x.2.host_fits) out)),
+  (λ out. absurd (fits_not_more s.table.layout.limit (host_view (with_enclave s.table id None))
+      (subst (λ t. FitsIn t.layout.limit (host_view t)) x.2.removed x.2.host_fits) out)),
 )
 
 -- an answer to a call that is neither want of entries nor out of memory
@@ -146,8 +160,14 @@ abbrev ByNeed : Option Call → EnclaveTable → World → Answer → Type 0
 ByNeed call table world answer = IsRefusedByNeed call table world (IsAnsweredBy answer)
 
 -- a call that is never refused so
-never : (call : Option Call) (table : EnclaveTable) (world : World) (answer : Answer) → ((wants_of call table world).0 → ⊥) → Neither answer → ByNeed call table world answer
-never call table world answer none n = record { entries = λ is. absurd (n.entries is); outgrown = λ pass out. absurd (none pass); memory = λ is. absurd (n.memory is) }
+never : (call : Option Call) (table : EnclaveTable) (world : World) (answer : Answer) → ((wants_of call table world).0 → ⊥) → Neither answer
+    → ByNeed call table world answer
+never call table world answer none n = record {
+  entries = λ is. absurd (n.entries is);
+  outgrown = λ pass out. absurd (none pass);
+  memory = λ is. absurd
+      (n.memory is);
+}
 
 -- an answer with another status
 other_status : (answer : Answer) (status : ℤ) → answer.status ≡ status → (under_zero status ≡ 107 → ⊥) → (under_zero status ≡ 108 → ⊥) → Neither answer
@@ -214,29 +234,41 @@ fails_other (check ∷ checks) refusal o (inl x) = subst IsOther (sym x.0) o.0
 fails_other (check ∷ checks) refusal o (inr x) = fails_other checks refusal o.1 x.1
 
 -- the host's view of the table with the new enclave is the one with its private digests closed
-closes : (digests : Create → List ℕ) (table : EnclaveTable) (id : ℕ) (parts : Create) → IsTable table → IsNextId table id → SameView (closed_view table parts) (host_view (with_enclave table id (Some (fresh digests parts))))
+closes : (digests : Create → List ℕ) (table : EnclaveTable) (id : ℕ) (parts : Create) → IsTable table → IsNextId table id
+    → SameView (closed_view table parts) (host_view (with_enclave table id (Some (fresh digests parts))))
 closes digests table id parts t next = host_added table id (fresh digests parts) (free_place table id t next.free.0 next.free.1) next.free.2
 
-opens : (digests : Create → List ℕ) (table : EnclaveTable) (id : ℕ) (parts : Create) → IsTable table → IsNextId table id → SameView (host_view (with_enclave table id (Some (fresh digests parts)))) (closed_view table parts)
+opens : (digests : Create → List ℕ) (table : EnclaveTable) (id : ℕ) (parts : Create) → IsTable table → IsNextId table id
+    → SameView (host_view (with_enclave table id (Some (fresh digests parts)))) (closed_view table parts)
 opens digests table id parts t next page small = sym (closes digests table id parts t next page small)
 
 -- a call that succeeded or failed another check, which it then does not pass
-otherwise : (call : Option Call) (table : EnclaveTable) (world : World) (answer : Answer) → ((wants_of call table world).0 → (wants_of call table world).1 → ⊥) → Neither answer → ByNeed call table world answer
-otherwise call table world answer none n = record { entries = λ is. absurd (n.entries is); outgrown = λ pass out. absurd (none pass out); memory = λ is. absurd (n.memory is) }
+otherwise : (call : Option Call) (table : EnclaveTable) (world : World) (answer : Answer) → ((wants_of call table world).0 → (wants_of call table world).1 → ⊥)
+    → Neither answer → ByNeed call table world answer
+otherwise call table world answer none n = record {
+  entries = λ is. absurd (n.entries is);
+  outgrown = λ pass out. absurd (none pass out);
+  memory = λ is. absurd
+      (n.memory is);
+}
 
-create_failed : (asked : Create) (s : MonitorState) (hart : ℕ) (answer : Answer) (refusal : Refusal) → FailsFirst (create_checks s.table (s.worlds hart) (parts_of asked)) refusal → IsOther refusal
+create_failed : (asked : Create) (s : MonitorState) (hart : ℕ) (answer : Answer) (refusal : Refusal)
+    → FailsFirst (create_checks s.table (s.worlds hart) (parts_of asked)) refusal → IsOther refusal
     → IsAnsweredBy answer refusal → ByNeed (creates_of asked) s.table (s.worlds hart) answer
 create_failed asked s hart answer refusal why other x =
-    otherwise (creates_of asked) s.table (s.worlds hart) answer (λ pass out. none_fails (create_checks s.table (s.worlds hart) (parts_of asked)) refusal pass why) (checked refusal answer other x)
+    otherwise (creates_of asked) s.table (s.worlds hart) answer (λ pass out. none_fails
+    (create_checks s.table (s.worlds hart) (parts_of asked)) refusal pass why) (checked refusal answer other x)
 
 -- a creation that is refused, by its refusal
-create_by_need : (asked : Create) (digests : Create → List ℕ) (s : MonitorState) (hart : ℕ) (answer : Answer) (refusal : Refusal) → IsTable s.table → RefusesBy (create_checks s.table (s.worlds hart) (parts_of asked)) (OutgrowsByCreate digests s.table asked) refusal
+create_by_need : (asked : Create) (digests : Create → List ℕ) (s : MonitorState) (hart : ℕ) (answer : Answer) (refusal : Refusal) → IsTable s.table
+    → RefusesBy (create_checks s.table (s.worlds hart) (parts_of asked)) (OutgrowsByCreate digests s.table asked) refusal
     → IsAnsweredBy answer refusal → ByNeed (creates_of asked) s.table (s.worlds hart) answer
 create_by_need asked digests s hart answer NoEntries t why x = record {
   entries = λ is. (
     why.0,
     elim why.1 [
-      | inl host ↦ inl (more_same s.table.layout.limit (host_view (with_enclave s.table host.0 (Some (fresh digests (parts_of asked))))) (closed_view s.table (parts_of asked)) (opens digests s.table host.0 (parts_of asked) t host.1) host.2)
+      | inl host ↦ inl (more_same s.table.layout.limit (host_view (with_enclave s.table host.0 (Some (fresh digests (parts_of asked)))))
+          (closed_view s.table (parts_of asked)) (opens digests s.table host.0 (parts_of asked) t host.1) host.2)
       | inr own ↦ inr own
     ],
   );
@@ -260,12 +292,15 @@ create_by_need asked digests s hart answer BadId t why x = create_failed asked s
 create_by_need asked digests s hart answer BadState t why x = create_failed asked s hart answer BadState why tt x
 create_by_need asked digests s hart answer BadWord t why x = create_failed asked s hart answer BadWord why tt x
 
-destroy_failed : (id : ℕ) (s : MonitorState) (hart : ℕ) (answer : Answer) (refusal : Refusal) → FailsFirst (host_checks MayDestroy s.table (s.worlds hart) id) refusal → IsOther refusal
+destroy_failed : (id : ℕ) (s : MonitorState) (hart : ℕ) (answer : Answer) (refusal : Refusal)
+    → FailsFirst (host_checks MayDestroy s.table (s.worlds hart) id) refusal → IsOther refusal
     → IsAnsweredBy answer refusal → ByNeed (Some (calls.Destroy id)) s.table (s.worlds hart) answer
 destroy_failed id s hart answer refusal why other x =
-    otherwise (Some (calls.Destroy id)) s.table (s.worlds hart) answer (λ pass out. none_fails (host_checks MayDestroy s.table (s.worlds hart) id) refusal pass why) (checked refusal answer other x)
+    otherwise (Some (calls.Destroy id)) s.table (s.worlds hart) answer (λ pass out. none_fails
+    (host_checks MayDestroy s.table (s.worlds hart) id) refusal pass why) (checked refusal answer other x)
 
-destroy_by_need : (id : ℕ) (s : MonitorState) (hart : ℕ) (answer : Answer) (refusal : Refusal) → RefusesBy (host_checks MayDestroy s.table (s.worlds hart) id) (NeedsMore s.table.layout.limit (host_view (with_enclave s.table id None))) refusal
+destroy_by_need : (id : ℕ) (s : MonitorState) (hart : ℕ) (answer : Answer) (refusal : Refusal)
+    → RefusesBy (host_checks MayDestroy s.table (s.worlds hart) id) (NeedsMore s.table.layout.limit (host_view (with_enclave s.table id None))) refusal
     → IsAnsweredBy answer refusal → ByNeed (Some (calls.Destroy id)) s.table (s.worlds hart) answer
 destroy_by_need id s hart answer NoEntries why x = record {
   entries = λ is. (why.0, why.1);
@@ -290,38 +325,71 @@ destroy_by_need id s hart answer BadState why x = destroy_failed id s hart answe
 destroy_by_need id s hart answer BadWord why x = destroy_failed id s hart answer BadWord why tt x
 
 -- a call of another kind that is refused
-refused_other : (call : Option Call) (checks : List (Refusal × Type 0)) (s : MonitorState) (hart : ℕ) (answer : Answer) (refusal : Refusal) → ((wants_of call s.table (s.worlds hart)).0 → ⊥) → AreOthers checks → FailsFirst checks refusal
+refused_other : (call : Option Call) (checks : List (Refusal × Type 0)) (s : MonitorState) (hart : ℕ) (answer : Answer) (refusal : Refusal)
+    → ((wants_of call s.table (s.worlds hart)).0 → ⊥) → AreOthers checks → FailsFirst checks refusal
     → IsAnsweredBy answer refusal → ByNeed call s.table (s.worlds hart) answer
 refused_other call checks s hart answer refusal none others why x =
     never call s.table (s.worlds hart) answer none (checked refusal answer (fails_other checks refusal others why) x)
 
-pub call_refused_by_need : (call : Option Call) (digests : Create → List ℕ) (s : MonitorState) (hart : ℕ) (answer : Answer) (zero : Option PageRange) (new : MonitorState) → IsTable s.table → DoesCall call digests s hart answer zero new → ByNeed call s.table (s.worlds hart) answer
+pub call_refused_by_need : (call : Option Call) (digests : Create → List ℕ) (s : MonitorState) (hart : ℕ) (answer : Answer) (zero : Option PageRange)
+    (new : MonitorState) → IsTable s.table → DoesCall call digests s hart answer zero new → ByNeed call s.table (s.worlds hart) answer
 call_refused_by_need None digests s hart answer zero new t x =
-    never None s.table (s.worlds hart) answer (λ none. none) (numbered 2 answer (λ e. let z : 1 ≡ 107 = e in omega (arith, z)) (λ e. let z : 1 ≡ 108 = e in omega (arith, z)) (refused_says 2 s hart answer zero new x))
+    never None s.table (s.worlds hart) answer (λ none. none) (numbered 2 answer (λ e. let z : 1 ≡ 107 = e in omega (arith, z))
+    (λ e. let z : 1 ≡ 108 = e in omega (arith, z)) (refused_says 2 s hart answer zero new x))
 call_refused_by_need (Some (calls.Create base text_pages data_pages shared_base shared_count entry_offset)) digests s hart answer zero new t (inl x) =
-    let asked : Create = record { base = base; text_pages = text_pages; data_pages = data_pages; shared_base = shared_base; shared_count = shared_count; entry_offset = entry_offset } in
+    let asked : Create = record {
+      base = base;
+      text_pages = text_pages;
+      data_pages = data_pages;
+      shared_base = shared_base;
+      shared_count = shared_count;
+      entry_offset = entry_offset;
+    } in
     let parts = parts_of asked in
     let made = with_enclave s.table x.0 (Some (fresh digests parts)) in
     otherwise (creates_of asked) s.table (s.worlds hart) answer
     (λ pass out. elim out [
-      | inl host ↦ fits_not_more s.table.layout.limit (host_view made) (subst (λ t. FitsIn t.layout.limit (host_view t)) x.2.added x.2.host_fits) (more_same s.table.layout.limit (closed_view s.table parts) (host_view made) (closes digests s.table x.0 parts t x.2.next) host)
-      | inr own ↦ fits_not_more s.table.layout.limit (enclave_view parts) (subst (λ t. FitsIn t.layout.limit (enclave_view parts)) x.2.added x.2.enclave_fits) own
+      | inl host ↦ fits_not_more s.table.layout.limit (host_view made) (subst (λ t. FitsIn t.layout.limit (host_view t)) x.2.added x.2.host_fits)
+          (more_same s.table.layout.limit (closed_view s.table parts) (host_view made) (closes digests s.table x.0 parts t x.2.next) host)
+      | inr own ↦ fits_not_more s.table.layout.limit (enclave_view parts)
+          (subst (λ t. FitsIn t.layout.limit (enclave_view parts)) x.2.added x.2.enclave_fits) own
     ])
     (well answer (done_says _ _ _ answer zero new x.3))
 call_refused_by_need (Some (calls.Create base text_pages data_pages shared_base shared_count entry_offset)) digests s hart answer zero new t (inr x) =
-    let asked : Create = record { base = base; text_pages = text_pages; data_pages = data_pages; shared_base = shared_base; shared_count = shared_count; entry_offset = entry_offset } in
+    let asked : Create = record {
+      base = base;
+      text_pages = text_pages;
+      data_pages = data_pages;
+      shared_base = shared_base;
+      shared_count = shared_count;
+      entry_offset = entry_offset;
+    } in
     create_by_need asked digests s hart answer x.0 t x.1 (refused_says _ s hart answer zero new x.2)
 call_refused_by_need (Some (calls.Destroy id)) digests s hart answer zero new t (inl x) =
     otherwise (Some (calls.Destroy id)) s.table (s.worlds hart) answer
-    (λ pass out. fits_not_more s.table.layout.limit (host_view (with_enclave s.table id None)) (subst (λ t. FitsIn t.layout.limit (host_view t)) x.2.removed x.2.host_fits) out) (well answer (done_says _ _ _ answer zero new x.3))
-call_refused_by_need (Some (calls.Destroy id)) digests s hart answer zero new t (inr x) = destroy_by_need id s hart answer x.0 x.1 (refused_says _ s hart answer zero new x.2)
-call_refused_by_need (Some (calls.Run id)) digests s hart answer zero new t (inl x) = never (Some (calls.Run id)) s.table (s.worlds hart) answer (λ none. none) (well answer (done_says _ _ _ answer zero new x.4))
-call_refused_by_need (Some (calls.Run id)) digests s hart answer zero new t (inr x) = refused_other (Some (calls.Run id)) (host_checks (λ state. state ≡ Fresh) s.table (s.worlds hart) id) s hart answer x.0 (λ none. none) (tt, (tt, (tt, tt))) x.1 (refused_says _ s hart answer zero new x.2)
-call_refused_by_need (Some calls.Stop) digests s hart answer zero new t (inl x) = never (Some calls.Stop) s.table (s.worlds hart) answer (λ none. none) (well answer (done_says _ _ _ answer zero new x.3))
-call_refused_by_need (Some calls.Stop) digests s hart answer zero new t (inr x) = refused_other (Some calls.Stop) (leave_checks (s.worlds hart)) s hart answer x.0 (λ none. none) (tt, tt) x.1 (refused_says _ s hart answer zero new x.2)
-call_refused_by_need (Some (calls.Resume id)) digests s hart answer zero new t (inl x) = never (Some (calls.Resume id)) s.table (s.worlds hart) answer (λ none. none) (well answer (done_says _ _ _ answer zero new x.4))
-call_refused_by_need (Some (calls.Resume id)) digests s hart answer zero new t (inr x) = refused_other (Some (calls.Resume id)) (host_checks (λ state. state ≡ Stopped) s.table (s.worlds hart) id) s hart answer x.0 (λ none. none) (tt, (tt, (tt, tt))) x.1 (refused_says _ s hart answer zero new x.2)
-call_refused_by_need (Some (calls.Exit value)) digests s hart answer zero new t (inl x) = never (Some (calls.Exit value)) s.table (s.worlds hart) answer (λ none. none) (well answer (done_says _ _ _ answer zero new x.3))
-call_refused_by_need (Some (calls.Exit value)) digests s hart answer zero new t (inr x) = refused_other (Some (calls.Exit value)) (leave_checks (s.worlds hart)) s hart answer x.0 (λ none. none) (tt, tt) x.1 (refused_says _ s hart answer zero new x.2)
-call_refused_by_need (Some (calls.Measure id k)) digests s hart answer zero new t (inl x) = never (Some (calls.Measure id k)) s.table (s.worlds hart) answer (λ none. none) (well answer (done_says _ _ _ answer zero new x.2))
-call_refused_by_need (Some (calls.Measure id k)) digests s hart answer zero new t (inr x) = refused_other (Some (calls.Measure id k)) (word_checks s.table id k) s hart answer x.0 (λ none. none) (tt, (tt, tt)) x.1 (refused_says _ s hart answer zero new x.2)
+    (λ pass out. fits_not_more s.table.layout.limit (host_view (with_enclave s.table id None))
+    (subst (λ t. FitsIn t.layout.limit (host_view t)) x.2.removed x.2.host_fits) out) (well answer (done_says _ _ _ answer zero new x.3))
+call_refused_by_need (Some (calls.Destroy id)) digests s hart answer zero new t (inr x) = destroy_by_need id s hart answer x.0 x.1
+    (refused_says _ s hart answer zero new x.2)
+call_refused_by_need (Some (calls.Run id)) digests s hart answer zero new t (inl x) = never (Some (calls.Run id)) s.table (s.worlds hart) answer (λ none. none)
+    (well answer (done_says _ _ _ answer zero new x.4))
+call_refused_by_need (Some (calls.Run id)) digests s hart answer zero new t (inr x) = refused_other (Some (calls.Run id))
+    (host_checks (λ state. state ≡ Fresh) s.table (s.worlds hart) id) s hart answer x.0 (λ none. none) (tt, (tt, (tt, tt))) x.1
+    (refused_says _ s hart answer zero new x.2)
+call_refused_by_need (Some calls.Stop) digests s hart answer zero new t (inl x) = never (Some calls.Stop) s.table (s.worlds hart) answer (λ none. none)
+    (well answer (done_says _ _ _ answer zero new x.3))
+call_refused_by_need (Some calls.Stop) digests s hart answer zero new t (inr x) = refused_other (Some calls.Stop)
+    (leave_checks (s.worlds hart)) s hart answer x.0 (λ none. none) (tt, tt) x.1 (refused_says _ s hart answer zero new x.2)
+call_refused_by_need (Some (calls.Resume id)) digests s hart answer zero new t (inl x) = never (Some (calls.Resume id)) s.table (s.worlds hart) answer
+    (λ none. none) (well answer (done_says _ _ _ answer zero new x.4))
+call_refused_by_need (Some (calls.Resume id)) digests s hart answer zero new t (inr x) = refused_other (Some (calls.Resume id))
+    (host_checks (λ state. state ≡ Stopped) s.table (s.worlds hart) id) s hart answer x.0 (λ none. none) (tt, (tt, (tt, tt))) x.1
+    (refused_says _ s hart answer zero new x.2)
+call_refused_by_need (Some (calls.Exit value)) digests s hart answer zero new t (inl x) = never (Some (calls.Exit value)) s.table (s.worlds hart) answer
+    (λ none. none) (well answer (done_says _ _ _ answer zero new x.3))
+call_refused_by_need (Some (calls.Exit value)) digests s hart answer zero new t (inr x) = refused_other (Some (calls.Exit value))
+    (leave_checks (s.worlds hart)) s hart answer x.0 (λ none. none) (tt, tt) x.1 (refused_says _ s hart answer zero new x.2)
+call_refused_by_need (Some (calls.Measure id k)) digests s hart answer zero new t (inl x) = never (Some (calls.Measure id k)) s.table (s.worlds hart) answer
+    (λ none. none) (well answer (done_says _ _ _ answer zero new x.2))
+call_refused_by_need (Some (calls.Measure id k)) digests s hart answer zero new t (inr x) = refused_other (Some (calls.Measure id k))
+    (word_checks s.table id k) s hart answer x.0 (λ none. none) (tt, (tt, tt)) x.1 (refused_says _ s hart answer zero new x.2)

@@ -13,9 +13,11 @@ middle : (a k n : ℕ) (xs ys : List ℕ) → a ≤ length xs → n ≤ length y
 middle a k n xs ys within fits =
     let same : (a + n) - a ≡ n = omega arith in
     let after = post_of a k xs in
-    ap (take ((a + n) - a)) (drop_at (take a xs) (ys ++ after) a (length-take-le a xs within)) ∙ ap (λ m. take m (ys ++ after)) same ∙ take-append-le n ys after fits
+    ap (take ((a + n) - a)) (drop_at (take a xs) (ys ++ after) a (length-take-le a xs within)) ∙ ap (λ m. take m (ys ++ after)) same
+    ∙ take-append-le n ys after fits
 
 -- the bytes that stood there, and those that came after them
 pub joined : (a k n : ℕ) (xs ys : List ℕ) → a ≤ length xs → n ≤ length ys → take a xs ++ take n ys ≡ take (a + n) (put_mid a k xs ys)
 joined a k n xs ys within fits =
-    ap (λ l. take a xs ++ l) (sym (middle a k n xs ys within fits)) ∙ split a (a + n) xs (put_mid a k xs ys) (omega arith) (take-put_mid_below a k xs ys a (le_refl a) within)
+    ap (λ l. take a xs ++ l) (sym (middle a k n xs ys within fits)) ∙ split a (a + n) xs (put_mid a k xs ys) (omega arith)
+    (take-put_mid_below a k xs ys a (le_refl a) within)

@@ -20,7 +20,11 @@ ram_length bytes (suc n) = omega (arith, length-append (ram_in bytes n) ((word_a
 pub device_length : (bytes : List ℕ) (n : ℕ) → length (device_words bytes n) ≡ n
 device_length bytes zero = refl
 device_length bytes (suc n) =
-    omega (arith, length-append (device_words bytes n) ((word_at bytes (71 + 3 * n), word_at bytes (72 + 3 * n), word_at bytes (73 + 3 * n)) ∷ []), device_length bytes n)
+    omega (
+      arith,
+      length-append (device_words bytes n) ((word_at bytes (71 + 3 * n), word_at bytes (72 + 3 * n), word_at bytes (73 + 3 * n)) ∷ []),
+      device_length bytes n,
+    )
 
 none_less : 1 ≤ 0 → ⊥
 none_less some = omega (arith, some)
@@ -37,12 +41,14 @@ devices_room items bytes n is = sym (length-map items words_of_device) ∙ ap le
 
 -- a device more
 pub device_step :
-    (items : List (ℕ × ℕ × Perm)) (bytes : List ℕ) (n a b : ℕ) (perm : Perm) → words_of items ≡ device_words bytes n → a ≡ word_at bytes (71 + 3 * n) → b ≡ word_at bytes (72 + 3 * n)
+    (items : List (ℕ × ℕ × Perm)) (bytes : List ℕ) (n a b : ℕ) (perm : Perm) → words_of items ≡ device_words bytes n → a ≡ word_at bytes (71 + 3 * n)
+    → b ≡ word_at bytes (72 + 3 * n)
     → bits_of perm ≡ word_at bytes (73 + 3 * n) → words_of (items ++ ((a, b, perm) ∷ [])) ≡ device_words bytes (n + 1)
 device_step items bytes n a b perm is p q r =
     let e : suc n ≡ n + 1 = omega arith in
     let same : (a, b, bits_of perm) ≡ (word_at bytes (71 + 3 * n), word_at bytes (72 + 3 * n), word_at bytes (73 + 3 * n)) = rw (p, q, r) refl in
-    map-append words_of_device items ((a, b, perm) ∷ []) ∙ ap (λ xs. xs ++ ((a, b, bits_of perm) ∷ [])) is ∙ ap (λ (d : ℕ × ℕ × ℕ). device_words bytes n ++ (d ∷ [])) same ∙ ap (device_words bytes) e
+    map-append words_of_device items ((a, b, perm) ∷ []) ∙ ap (λ xs. xs ++ ((a, b, bits_of perm) ∷ [])) is
+    ∙ ap (λ (d : ℕ × ℕ × ℕ). device_words bytes n ++ (d ∷ [])) same ∙ ap (device_words bytes) e
 
 -- an entry more
 pub cfg_step : (entries : List Entry) (n : ℕ) → cfg_bytes entries n ++ cfg_at entries n ∷ [] ≡ cfg_bytes entries (n + 1)

@@ -11,7 +11,8 @@ within (x ∷ xs) zero a b h = refl
 within (x ∷ xs) (suc i) a b h = within xs i a b (omega (arith, h))
 
 -- one that was set
-pub set_one : (hosts : List ControlWords) (i j : ℕ) (x d : ControlWords) → i < length hosts → slice_index_or (slice_set hosts i x) j d ≡ (if j == i then x else slice_index_or hosts j d)
+pub set_one : (hosts : List ControlWords) (i j : ℕ) (x d : ControlWords) → i < length hosts
+    → slice_index_or (slice_set hosts i x) j d ≡ (if j == i then x else slice_index_or hosts j d)
 set_one hosts i j x d h = grind (arith, nat_tests, common_steps, h)
 
 -- four that are the same

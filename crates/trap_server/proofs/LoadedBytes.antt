@@ -1,5 +1,6 @@
 -- What stands in the bytes of an answer: the hart and the woken, and the entries as registers.
-use Rattle.std.proofs.Common.{◌≡◌, ◌≢◌, ◌∙◌, ℕ, zero, suc, ◌+◌, ◌*◌, ◌/◌, ◌%◌, ◌^◌, ◌<◌, ◌≤◌, ⊎_elim, ◌==◌, ◌||◌, Bool, true, false, List, [], ◌∷◌, ◌++◌, length, drop, slice_get, slice_index_or, Option, Some, None, ap, sym, subst, refl, arith, lit<, lit≤, append_assoc, length-append}
+use Rattle.std.proofs.Common.{◌≡◌, ◌≢◌, ◌∙◌, ℕ, zero, suc, ◌+◌, ◌*◌, ◌/◌, ◌%◌, ◌^◌, ◌<◌, ◌≤◌, ⊎_elim, ◌==◌, ◌||◌, Bool, true, false, List, [], ◌∷◌, ◌++◌}
+use Rattle.std.proofs.Common.{length, drop, slice_get, slice_index_or, Option, Some, None, ap, sym, subst, refl, arith, lit<, lit≤, append_assoc, length-append}
 use Rattle.std.proofs.Math.Seq.{drop-append_seam}
 use Rattle.std.proofs.lemmas.Bool.{cases_lt, ne_eqb}
 use Rattle.byteorder.specs.Endian.{little_bytes, little_number}
@@ -16,7 +17,8 @@ use Rattle.trap_server.specs.declared.answer.Head.{Head}
 use Rattle.trap_server.specs.declared.words.ControlWords.{ControlWords}
 use Rattle.trap_server.specs.Words.{answer_tag, bytes_of, word_at}
 use Rattle.monitor_core.specs.Answers.{world_number}
-use Rattle.trap_server.specs.Answers.{address_at, address_bytes, address_in, answer_bytes, bit_of, cfg_at, cfg_bytes, cfg_in, control_bytes, head_bytes, pages_of, register_bytes, wake_word}
+use Rattle.trap_server.specs.Answers.{address_at, address_bytes, address_in, answer_bytes, bit_of, cfg_at, cfg_bytes, cfg_in, control_bytes, head_bytes}
+use Rattle.trap_server.specs.Answers.{pages_of, register_bytes, wake_word}
 use Rattle.trap_server.specs.Firmware.{is_loaded, loaded_address, loaded_cfg, loaded_pairs}
 use Rattle.trap_server.proofs.Lengths.{word_length}
 
@@ -27,12 +29,14 @@ word_after front rest n x size small =
     ∙ ap (little_number 8) (drop-append_seam front (little_bytes 8 x ++ rest)) ∙ little_number-reads_back 8 x rest small
 
 -- word k of some, after n words and before any
-word_between : (words front rest : List ℕ) (n k : ℕ) → length front ≡ 8 * n → k < length words → slice_index_or words k 0 < 2 ^ 64 → word_at (front ++ (bytes_of words ++ rest)) (n + k) ≡ slice_index_or words k 0
+word_between : (words front rest : List ℕ) (n k : ℕ) → length front ≡ 8 * n → k < length words → slice_index_or words k 0 < 2 ^ 64
+    → word_at (front ++ (bytes_of words ++ rest)) (n + k) ≡ slice_index_or words k 0
 word_between [] front rest n k size inside small = absurd (omega (arith, inside))
 word_between (x ∷ words) front rest n zero size inside small =
     let same : n + zero ≡ n = omega arith in
     ap (word_at (front ++ (bytes_of (x ∷ words) ++ rest))) same
-    ∙ ap (λ bytes. word_at (front ++ bytes) n) (append_assoc (little_bytes 8 x) (bytes_of words) rest) ∙ word_after front (bytes_of words ++ rest) n x size small
+    ∙ ap (λ bytes. word_at (front ++ bytes) n) (append_assoc (little_bytes 8 x) (bytes_of words) rest)
+    ∙ word_after front (bytes_of words ++ rest) n x size small
 word_between (x ∷ words) front rest n (suc k) size inside small =
     let same : n + suc k ≡ (n + 1) + k = omega arith in
     let more : length (front ++ little_bytes 8 x) ≡ 8 * (n + 1) = omega (arith, length-append front (little_bytes 8 x), word_length x, size) in
@@ -55,7 +59,13 @@ cfg_length entries (suc n) = omega (arith, length-append (cfg_bytes entries n) (
 
 address_length : (entries : List Entry) (n : ℕ) → length (address_bytes entries n) ≡ 8 * n
 address_length entries zero = refl
-address_length entries (suc n) = omega (arith, length-append (address_bytes entries n) (little_bytes 8 (address_at entries n)), word_length (address_at entries n), address_length entries n)
+address_length entries (suc n) = omega (
+  arith,
+  length-append (address_bytes entries n) (little_bytes 8 (address_at entries n)),
+  word_length
+      (address_at entries n),
+  address_length entries n,
+)
 
 -- the configuration byte of entry i
 cfg_there : (entries : List Entry) (rest : List ℕ) (n i : ℕ) → i < n → slice_index_or (cfg_bytes entries n ++ rest) i 0 ≡ cfg_at entries i
@@ -75,7 +85,8 @@ address_small : (o : Option Entry) → address_in o < 2 ^ 64
 address_small None = lit< tt
 address_small (Some e) = ⊎_elim (λ four. let small = four.small in omega (arith, small)) (λ more. let small = more.small in omega (arith, small)) (pair_is e)
 
-address_there : (entries : List Entry) (front rest : List ℕ) (k n i : ℕ) → length front ≡ 8 * k → i < n → word_at (front ++ (address_bytes entries n ++ rest)) (k + i) ≡ address_at entries i
+address_there : (entries : List Entry) (front rest : List ℕ) (k n i : ℕ) → length front ≡ 8 * k → i < n
+    → word_at (front ++ (address_bytes entries n ++ rest)) (k + i) ≡ address_at entries i
 address_there entries front rest k zero i size low = absurd (omega (arith, low))
 address_there entries front rest k (suc n) i size low =
     let last = little_bytes 8 (address_at entries n) in
@@ -83,15 +94,23 @@ address_there entries front rest k (suc n) i size low =
     ∙ ⊎_elim (λ less. address_there entries front (last ++ rest) k n i size less)
     (λ more.
     let same : i ≡ n = omega (arith, low, more) in
-    let whole : length (front ++ address_bytes entries n) ≡ 8 * (k + n) = omega (arith, length-append front (address_bytes entries n), address_length entries n, size) in
+    let whole : length (front ++ address_bytes entries n) ≡ 8 * (k + n) = omega
+    (arith, length-append front (address_bytes entries n), address_length entries n, size) in
     ap (λ j. word_at (front ++ (address_bytes entries n ++ (last ++ rest))) (k + j)) same
     ∙ ap (λ bytes. word_at bytes (k + n)) (sym (append_assoc front (address_bytes entries n) (last ++ rest)))
-    ∙ word_after (front ++ address_bytes entries n) rest (k + n) (address_at entries n) whole (address_small (slice_get entries n)) ∙ ap (address_at entries) (sym same))
+    ∙ word_after (front ++ address_bytes entries n) rest (k + n) (address_at entries n) whole (address_small (slice_get entries n))
+    ∙ ap (address_at entries) (sym same))
     (cases_lt i n)
 
 register_length : (file : RegisterFile) (n : ℕ) → length (register_bytes file (suc n)) ≡ 8 * suc n
 register_length file zero = refl
-register_length file (suc n) = omega (arith, length-append (register_bytes file (suc n)) (little_bytes 8 (x_of file (suc n))), word_length (x_of file (suc n)), register_length file n)
+register_length file (suc n) = omega (
+  arith,
+  length-append (register_bytes file (suc n)) (little_bytes 8 (x_of file (suc n))),
+  word_length
+      (x_of file (suc n)),
+  register_length file n,
+)
 
 -- a bit of the word of those that are woken
 is_bit : (b : Bool) (n : ℕ) → n ≡ bit_of b → (n == 1) ≡ b
@@ -105,10 +124,12 @@ bit_small true = lit≤ tt
 abbrev bit_in : List Bool → ℕ → ℕ
 bit_in woken i = bit_of (slice_index_or woken i false)
 
-four_bits : (a b c d : ℕ) → a ≤ 1 → b ≤ 1 → c ≤ 1 → d ≤ 1 → ((a + 2 * b + 4 * c + 8 * d) / 2 ^ 0 % 2 ≡ a) × ((a + 2 * b + 4 * c + 8 * d) / 2 ^ 1 % 2 ≡ b) × ((a + 2 * b + 4 * c + 8 * d) / 2 ^ 2 % 2 ≡ c) × ((a + 2 * b + 4 * c + 8 * d) / 2 ^ 3 % 2 ≡ d)
+four_bits : (a b c d : ℕ) → a ≤ 1 → b ≤ 1 → c ≤ 1 → d ≤ 1 → ((a + 2 * b + 4 * c + 8 * d) / 2 ^ 0 % 2 ≡ a) × ((a + 2 * b + 4 * c + 8 * d) / 2 ^ 1 % 2 ≡ b)
+    × ((a + 2 * b + 4 * c + 8 * d) / 2 ^ 2 % 2 ≡ c) × ((a + 2 * b + 4 * c + 8 * d) / 2 ^ 3 % 2 ≡ d)
 four_bits a b c d p q r s = (omega (arith, p, q, r, s), omega (arith, p, q, r, s), omega (arith, p, q, r, s), omega (arith, p, q, r, s))
 
-bits_in : (woken : List Bool) → (wake_word woken / 2 ^ 0 % 2 ≡ bit_in woken 0) × (wake_word woken / 2 ^ 1 % 2 ≡ bit_in woken 1) × (wake_word woken / 2 ^ 2 % 2 ≡ bit_in woken 2) × (wake_word woken / 2 ^ 3 % 2 ≡ bit_in woken 3)
+bits_in : (woken : List Bool) → (wake_word woken / 2 ^ 0 % 2 ≡ bit_in woken 0) × (wake_word woken / 2 ^ 1 % 2 ≡ bit_in woken 1)
+    × (wake_word woken / 2 ^ 2 % 2 ≡ bit_in woken 2) × (wake_word woken / 2 ^ 3 % 2 ≡ bit_in woken 3)
 bits_in woken = four_bits (bit_in woken 0) (bit_in woken 1) (bit_in woken 2) (bit_in woken 3) (bit_small _) (bit_small _) (bit_small _) (bit_small _)
 
 bit_there : (woken : List Bool) (i : ℕ) → i < 4 → (wake_word woken / 2 ^ i % 2 == 1) ≡ slice_index_or woken i false
@@ -119,7 +140,14 @@ bit_there woken (suc (suc (suc zero))) low = is_bit (slice_index_or woken 3 fals
 bit_there woken (suc (suc (suc (suc i)))) low = absurd (omega (arith, low))
 
 wake_small : (woken : List Bool) → wake_word woken < 2 ^ 64
-wake_small woken = omega (arith, bit_small (slice_index_or woken 0 false), bit_small (slice_index_or woken 1 false), bit_small (slice_index_or woken 2 false), bit_small (slice_index_or woken 3 false))
+wake_small woken = omega (
+  arith,
+  bit_small (slice_index_or woken 0 false),
+  bit_small (slice_index_or woken 1 false),
+  bit_small
+      (slice_index_or woken 2 false),
+  bit_small (slice_index_or woken 3 false),
+)
 
 -- where a list has ended there is none
 none_there : (entries : List Entry) (i : ℕ) → length entries ≤ i → slice_get entries i ≡ None
@@ -128,22 +156,29 @@ none_there (e ∷ entries) zero past = absurd (omega (arith, past))
 none_there (e ∷ entries) (suc i) past = none_there entries i (omega (arith, past))
 
 -- canonical pairs from a place on mean their entries
-listed : (entries : List Entry) (bytes : List ℕ) (first count : ℕ) → length entries ≤ count → ((i : ℕ) → i < count → (loaded_cfg bytes (first + i) ≡ cfg_at entries i) × (loaded_address bytes (first + i) ≡ address_at entries i)) → MeansList (loaded_pairs bytes first count) entries
+listed : (entries : List Entry) (bytes : List ℕ) (first count : ℕ) → length entries ≤ count
+    → ((i : ℕ) → i < count → (loaded_cfg bytes (first + i) ≡ cfg_at entries i) × (loaded_address bytes (first + i) ≡ address_at entries i))
+    → MeansList (loaded_pairs bytes first count) entries
 listed [] bytes first zero few are = done
 listed [] bytes first (suc count) few are =
-    let here = subst (λ k. (loaded_cfg bytes k ≡ 0) × (loaded_address bytes k ≡ 0)) (let same : first + 0 ≡ first = omega arith in same) (are 0 (omega arith)) in
+    let here = subst (λ k. (loaded_cfg bytes k ≡ 0) × (loaded_address bytes k ≡ 0)) (let same : first + 0 ≡ first = omega arith in same)
+    (are 0 (omega arith)) in
     skip (rw (here.0, here.1) zero_off)
-    (listed [] bytes (suc first) count (omega arith) (λ i low. let next : first + suc i ≡ suc first + i = omega arith in rw next at (are (suc i) (omega (arith, low)))))
+    (listed [] bytes (suc first) count (omega arith) (λ i low. let next : first + suc i ≡ suc first + i = omega arith in rw next at
+    (are (suc i) (omega (arith, low)))))
 listed (e ∷ entries) bytes first zero few are = absurd (omega (arith, few))
 listed (e ∷ entries) bytes first (suc count) few are =
-    let here = subst (λ k. (loaded_cfg bytes k ≡ cfg_of e) × (loaded_address bytes k ≡ address_of e)) (let same : first + 0 ≡ first = omega arith in same) (are 0 (omega arith)) in
+    let here = subst (λ k. (loaded_cfg bytes k ≡ cfg_of e) × (loaded_address bytes k ≡ address_of e)) (let same : first + 0 ≡ first = omega arith in same)
+    (are 0 (omega arith)) in
     keep (rw (here.0, here.1) (pair_is e))
-    (listed entries bytes (suc first) count (omega (arith, few)) (λ i low. let next : first + suc i ≡ suc first + i = omega arith in rw next at (are (suc i) (omega (arith, low)))))
+    (listed entries bytes (suc first) count (omega (arith, few)) (λ i low. let next : first + suc i ≡ suc first + i = omega arith in rw next at
+    (are (suc i) (omega (arith, low)))))
 
 -- nine words
 abbrev head_words : Head → ℕ → List ℕ
 head_words head used =
-    answer_tag ∷ (head.hart ∷ (world_number head.world ∷ (head.status ∷ (head.value ∷ (used ∷ ((pages_of head.zero).first ∷ ((pages_of head.zero).count ∷ (wake_word head.woken ∷ []))))))))
+    answer_tag ∷ (head.hart ∷ (world_number head.world ∷ (head.status ∷ (head.value ∷
+    (used ∷ ((pages_of head.zero).first ∷ ((pages_of head.zero).count ∷ (wake_word head.woken ∷ []))))))))
 
 head_length : (head : Head) (used : ℕ) → length (head_bytes head used) ≡ 72
 head_length head used = refl
@@ -153,7 +188,13 @@ module _ (head : Head) (file : RegisterFile) (entries : List Entry) (control : C
   front = head_bytes head (length entries) ++ register_bytes file 32
 
   front_length : length front ≡ 328
-  front_length = omega (arith, length-append (head_bytes head (length entries)) (register_bytes file 32), register_length file 31, head_length head (length entries))
+  front_length = omega (
+    arith,
+    length-append (head_bytes head (length entries)) (register_bytes file 32),
+    register_length file 31,
+    head_length head
+        (length entries),
+  )
 
   abbrev tail : List ℕ
   tail = address_bytes entries 64 ++ control_bytes control
@@ -162,32 +203,41 @@ module _ (head : Head) (file : RegisterFile) (entries : List Entry) (control : C
   parted = sym (append_assoc (head_bytes head (length entries)) (register_bytes file 32) (cfg_bytes entries 64 ++ tail))
 
   pub cfg_back : (i : ℕ) → i < 64 → loaded_cfg (answer_bytes head file entries control) i ≡ cfg_at entries i
-  cfg_back i low = ap (λ bytes. slice_index_or bytes (328 + i) 0) parted ∙ index_after front (cfg_bytes entries 64 ++ tail) 328 i front_length ∙ cfg_there entries tail 64 i low
+  cfg_back i low = ap (λ bytes. slice_index_or bytes (328 + i) 0) parted ∙ index_after front (cfg_bytes entries 64 ++ tail) 328 i front_length
+      ∙ cfg_there entries tail 64 i low
 
   pub address_back : (i : ℕ) → i < 64 → loaded_address (answer_bytes head file entries control) i ≡ address_at entries i
   address_back i low =
-      let whole : length (front ++ cfg_bytes entries 64) ≡ 8 * 49 = omega (arith, length-append front (cfg_bytes entries 64), cfg_length entries 64, front_length) in
-      ap (λ bytes. word_at bytes (49 + i)) (parted ∙ sym (append_assoc front (cfg_bytes entries 64) tail)) ∙ address_there entries (front ++ cfg_bytes entries 64) (control_bytes control) 49 64 i whole low
+      let whole : length (front ++ cfg_bytes entries 64) ≡ 8 * 49 = omega
+      (arith, length-append front (cfg_bytes entries 64), cfg_length entries 64, front_length) in
+      ap (λ bytes. word_at bytes (49 + i)) (parted ∙ sym (append_assoc front (cfg_bytes entries 64) tail))
+      ∙ address_there entries (front ++ cfg_bytes entries 64) (control_bytes control) 49 64 i whole low
 
   pub hart_back : head.hart < 4 → word_at (answer_bytes head file entries control) 1 ≡ head.hart
-  hart_back low = word_between (head_words head (length entries)) [] (register_bytes file 32 ++ (cfg_bytes entries 64 ++ tail)) 0 1 refl (lit< tt) (omega (arith, low))
+  hart_back low = word_between (head_words head (length entries)) [] (register_bytes file 32 ++ (cfg_bytes entries 64 ++ tail)) 0 1 refl (lit< tt)
+      (omega (arith, low))
 
   wake_back : word_at (answer_bytes head file entries control) 8 ≡ wake_word head.woken
-  wake_back = word_between (head_words head (length entries)) [] (register_bytes file 32 ++ (cfg_bytes entries 64 ++ tail)) 0 8 refl (lit< tt) (wake_small head.woken)
+  wake_back = word_between (head_words head (length entries)) [] (register_bytes file 32 ++ (cfg_bytes entries 64 ++ tail)) 0 8 refl (lit< tt)
+      (wake_small head.woken)
 
   -- the entries, canonical, and nothing after them
-  pub list_back : (limit : Limit) → length entries ≤ limit_number limit → MeansList (loaded_pairs (answer_bytes head file entries control) 0 (limit_number limit)) entries
+  pub list_back : (limit : Limit) → length entries ≤ limit_number limit → MeansList
+      (loaded_pairs (answer_bytes head file entries control) 0 (limit_number limit)) entries
   list_back limit room =
       let bytes = answer_bytes head file entries control in
       let most = limit_most limit in
       listed entries bytes 0 (limit_number limit) room
-      (λ i low. let inside : i < 64 = omega (arith, low, most) in subst (λ k. (loaded_cfg bytes k ≡ cfg_at entries i) × (loaded_address bytes k ≡ address_at entries i)) (let same : i ≡ 0 + i = omega arith in same) (cfg_back i inside, address_back i inside))
+      (λ i low. let inside : i < 64 = omega (arith, low, most) in subst (λ k. (loaded_cfg bytes k ≡ cfg_at entries i)
+      × (loaded_address bytes k ≡ address_at entries i)) (let same : i ≡ 0 + i = omega arith in same) (cfg_back i inside, address_back i inside))
 
-  pub off_back : (i : ℕ) → length entries ≤ i → i < 64 → (loaded_cfg (answer_bytes head file entries control) i ≡ 0) × (loaded_address (answer_bytes head file entries control) i ≡ 0)
+  pub off_back : (i : ℕ) → length entries ≤ i → i < 64 → (loaded_cfg (answer_bytes head file entries control) i ≡ 0)
+      × (loaded_address (answer_bytes head file entries control) i ≡ 0)
   off_back i past low = let none = none_there entries i past in (cfg_back i low ∙ ap cfg_in none, address_back i low ∙ ap address_in none)
 
   -- another hart loads them where it is woken
-  pub loads_back : (hart : ℕ) → head.hart < 4 → hart < 4 → hart ≢ head.hart → is_loaded (answer_bytes head file entries control) hart ≡ slice_index_or head.woken hart false
+  pub loads_back : (hart : ℕ) → head.hart < 4 → hart < 4 → hart ≢ head.hart
+      → is_loaded (answer_bytes head file entries control) hart ≡ slice_index_or head.woken hart false
   loads_back hart low inside other =
       let differs : (head.hart == hart) ≡ false = ne_eqb head.hart hart (λ same. other (sym same)) in
       ap (λ n. n == hart || word_at (answer_bytes head file entries control) 8 / 2 ^ hart % 2 == 1) (hart_back low)

@@ -1,5 +1,6 @@
 -- How far the loop has come.
-use Rattle.std.proofs.Common.{◌≡◌, ◌⊎◌, ◌∙◌, ◌+◌, ◌<◌, inl, inr, ℕ, Bool, List, [], ◌++◌, length, take, Option, None, Result, Ok, Err, ap, sym, subst, refl, append_assoc, append-nil}
+use Rattle.std.proofs.Common.{◌≡◌, ◌⊎◌, ◌∙◌, ◌+◌, ◌<◌, inl, inr, ℕ, Bool, List, [], ◌++◌, length, take, Option, None, Result, Ok, Err, ap, sym, subst, refl}
+use Rattle.std.proofs.Common.{append_assoc, append-nil}
 use Rattle.std.specs.Io.KnownBytes.{Appends, Consumes}
 use Rattle.std.proofs.KnownBytes.{Appends-trans, Consumes-trans}
 use Rattle.platforms.specs.Platform.{PlatformLayout}
@@ -49,7 +50,8 @@ appended_as held holds xs ys e c = subst (Appends held holds) e c
 
 -- the opening state
 opened_at :
-    (layout : PlatformLayout) (first opened : List ℕ) (before after held middle holds : Option (List ℕ)) → length first ≡ 1336 → IsPlatformFrame first layout → Consumes before after first → Appends held middle [] → MayOpen layout
+    (layout : PlatformLayout) (first opened : List ℕ) (before after held middle holds : Option (List ℕ)) → length first ≡ 1336 → IsPlatformFrame first layout
+    → Consumes before after first → Appends held middle [] → MayOpen layout
     → IsFirstAnswer layout opened → Appends middle holds opened → Progress 0 (opening_monitor layout) first_words before after held holds
 opened_at layout first opened before after held middle holds size platform consumed nothing opens answer wrote = record {
   layout = layout;
@@ -70,38 +72,58 @@ opened_at layout first opened before after held middle holds size platform consu
 
 -- the answer to the platform
 pub opens :
-    (s : MonitorState) (hosts : ℕ → ControlWords) (layout : PlatformLayout) (opened : List ℕ) (harts : ℕ) (woken : List Bool) → s ≡ opening_monitor layout → hosts ≡ first_words → harts ≡ s.table.layout.harts → woken ≡ others harts
+    (s : MonitorState) (hosts : ℕ → ControlWords) (layout : PlatformLayout) (opened : List ℕ) (harts : ℕ) (woken : List Bool) → s ≡ opening_monitor layout
+    → hosts ≡ first_words → harts ≡ s.table.layout.harts → woken ≡ others harts
     → IsAnswer s (given_on s hosts 0) 0 no_answer None woken opened → IsFirstAnswer layout opened
 opens s hosts layout opened harts woken is words n w answer =
-    let known = subst (λ ws. IsAnswer s (given_on s hosts 0) 0 no_answer None ws opened) (w ∙ ap others (n ∙ ap (λ (x : MonitorState). x.table.layout.harts) is)) answer in
+    let known = subst (λ ws. IsAnswer s (given_on s hosts 0) 0 no_answer None ws opened)
+    (w ∙ ap others (n ∙ ap (λ (x : MonitorState). x.table.layout.harts) is)) answer in
     let with_words = subst (λ (hs : ℕ → ControlWords). IsAnswer s (given_on s hs 0) 0 no_answer None (others layout.harts) opened) words known in
     subst (λ (x : MonitorState). IsAnswer x (given_on x first_words 0) 0 no_answer None (others layout.harts) opened) is with_words
 
 pub begins :
-    (s : MonitorState) (hosts : ℕ → ControlWords) (layout : PlatformLayout) (first opened : List ℕ) (harts : ℕ) (woken : List Bool) (before after held middle holds : Option (List ℕ)) → length first ≡ 1336 → IsPlatformFrame first layout → s ≡ opening_monitor layout → hosts ≡ first_words
-    → Consumes before after first → Appends held middle [] → MayOpen layout → harts ≡ s.table.layout.harts → woken ≡ others harts → IsAnswer s (given_on s hosts 0) 0 no_answer None woken opened → Appends middle holds opened → Progress 0 s hosts before after held holds
+    (s : MonitorState) (hosts : ℕ → ControlWords) (layout : PlatformLayout) (first opened : List ℕ) (harts : ℕ) (woken : List Bool)
+    (before after held middle holds : Option (List ℕ)) → length first ≡ 1336 → IsPlatformFrame first layout → s ≡ opening_monitor layout
+    → hosts ≡ first_words
+    → Consumes before after first → Appends held middle [] → MayOpen layout → harts ≡ s.table.layout.harts → woken ≡ others harts
+    → IsAnswer s (given_on s hosts 0) 0 no_answer None woken opened → Appends middle holds opened → Progress 0 s hosts before after held holds
 begins s hosts layout first opened harts woken before after held middle holds size platform is words consumed nothing may n w answer wrote =
     subst (λ (hs : ℕ → ControlWords). Progress 0 s hs before after held holds) (sym words)
-    (subst (λ (x : MonitorState). Progress 0 x first_words before after held holds) (sym is) (opened_at layout first opened before after held middle holds size platform consumed nothing may (opens s hosts layout opened harts woken is words n w answer) wrote))
+    (subst (λ (x : MonitorState). Progress 0 x first_words before after held holds) (sym is)
+    (opened_at layout first opened before after held middle holds size platform consumed nothing may
+    (opens s hosts layout opened harts woken is words n w answer) wrote))
 
 -- it was not written whole
 pub answer_stops :
-    (fault : ServeFault) (s : MonitorState) (hosts : ℕ → ControlWords) (layout : PlatformLayout) (first answer : List ℕ) (n harts : ℕ) (woken : List Bool) (before after held middle holds : Option (List ℕ)) → length first ≡ 1336 → IsPlatformFrame first layout → s ≡ opening_monitor layout → hosts ≡ first_words
-    → Consumes before after first → Appends held middle [] → harts ≡ s.table.layout.harts → woken ≡ others harts → fault ≡ faults.Write → IsAnswer s (given_on s hosts 0) 0 no_answer None woken answer → n < length answer → Appends middle holds (take n answer)
+    (fault : ServeFault) (s : MonitorState) (hosts : ℕ → ControlWords) (layout : PlatformLayout) (first answer : List ℕ) (n harts : ℕ) (woken : List Bool)
+    (before after held middle holds : Option (List ℕ)) → length first ≡ 1336 → IsPlatformFrame first layout → s ≡ opening_monitor layout
+    → hosts ≡ first_words
+    → Consumes before after first → Appends held middle [] → harts ≡ s.table.layout.harts → woken ≡ others harts → fault ≡ faults.Write
+    → IsAnswer s (given_on s hosts 0) 0 no_answer None woken answer → n < length answer → Appends middle holds (take n answer)
     → EndsAtFirst fault before after held holds
 answer_stops fault s hosts layout first answer n harts woken before after held middle holds size platform is words consumed nothing h w write whole less wrote =
     let part = take n answer in (
       first,
       part,
-      subst (λ f. StopsAtFirst f first part after) (sym write) (inr (layout, answer, size, platform, opens s hosts layout answer harts woken is words h w whole, (n, less, refl))),
+      subst (λ f. StopsAtFirst f first part after) (sym write) (inr (
+        layout,
+        answer,
+        size,
+        platform,
+        opens s hosts layout answer harts woken is words h w whole,
+        (n, less, refl),
+      )),
       consumed,
       Appends-trans held middle holds [] part nothing wrote,
     )
 
 -- one trap more
 pub goes_on :
-    (count : ℕ) (old new : MonitorState) (hosts kept : ℕ → ControlWords) (trap : Trap) (frame : List ℕ) (harts : ℕ) (before now mid after held middle holds : Option (List ℕ)) → Progress count old hosts before now held middle → length frame ≡ 352 → IsTrapFrame frame harts trap
-    → harts ≡ old.table.layout.harts → Consumes now mid frame → Serves (Ok tt) trap old hosts new kept mid after middle holds → Progress (count + 1) new kept before after held holds
+    (count : ℕ) (old new : MonitorState) (hosts kept : ℕ → ControlWords) (trap : Trap) (frame : List ℕ) (harts : ℕ)
+    (before now mid after held middle holds : Option (List ℕ)) → Progress count old hosts before now held middle → length frame ≡ 352
+    → IsTrapFrame frame harts trap
+    → harts ≡ old.table.layout.harts → Consumes now mid frame → Serves (Ok tt) trap old hosts new kept mid after middle holds
+    → Progress (count + 1) new kept before after held holds
 goes_on count old new hosts kept trap frame harts before now mid after held middle holds p size is n came s = record {
   layout = p.layout;
   first = p.first;
@@ -114,15 +136,18 @@ goes_on count old new hosts kept trap frame harts before now mid after held midd
   begins = p.begins;
   served = next_trap p.served trap frame s.0 s.1 s.2 new kept size (subst (λ k. IsTrapFrame frame k trap) n is) s.3;
   counted = ap (λ k. k + 1) p.counted;
-  consumed = consumed_as before after ((p.first ++ p.read) ++ (frame ++ s.0)) (p.first ++ (p.read ++ (frame ++ s.0))) (append_assoc p.first p.read (frame ++ s.0))
+  consumed = consumed_as before after ((p.first ++ p.read) ++ (frame ++ s.0)) (p.first ++ (p.read ++ (frame ++ s.0)))
+      (append_assoc p.first p.read (frame ++ s.0))
       (Consumes-trans before now after (p.first ++ p.read) (frame ++ s.0) p.consumed (Consumes-trans now mid after frame s.0 came s.6));
-  appended = appended_as held holds ((p.opened ++ p.written) ++ (s.1 ++ s.2)) (p.opened ++ (p.written ++ (s.1 ++ s.2))) (append_assoc p.opened p.written (s.1 ++ s.2))
+  appended = appended_as held holds ((p.opened ++ p.written) ++ (s.1 ++ s.2)) (p.opened ++ (p.written ++ (s.1 ++ s.2)))
+      (append_assoc p.opened p.written (s.1 ++ s.2))
       (Appends-trans held middle holds (p.opened ++ p.written) (s.1 ++ s.2) p.appended s.7);
   quiet = s.4;
 }
 
 -- what came and was written after them
-pub ran : (count : ℕ) (now : MonitorState) (hosts : ℕ → ControlWords) (before mid after held middle holds : Option (List ℕ)) (beyond rest : List ℕ) → Progress count now hosts before mid held middle → Consumes mid after beyond → Appends middle holds rest → Ran before after held holds beyond rest
+pub ran : (count : ℕ) (now : MonitorState) (hosts : ℕ → ControlWords) (before mid after held middle holds : Option (List ℕ)) (beyond rest : List ℕ)
+    → Progress count now hosts before mid held middle → Consumes mid after beyond → Appends middle holds rest → Ran before after held holds beyond rest
 ran count now hosts before mid after held middle holds beyond rest p came wrote = record {
   layout = p.layout;
   first = p.first;
@@ -139,57 +164,79 @@ ran count now hosts before mid after held middle holds beyond rest p came wrote 
   begins = p.begins;
   served = p.served;
   counted = p.counted;
-  consumed = consumed_as before after ((p.first ++ p.read) ++ beyond) (p.first ++ (p.read ++ beyond)) (append_assoc p.first p.read beyond) (Consumes-trans before mid after (p.first ++ p.read) beyond p.consumed came);
-  appended = appended_as held holds ((p.opened ++ p.written) ++ rest) (p.opened ++ (p.written ++ rest)) (append_assoc p.opened p.written rest) (Appends-trans held middle holds (p.opened ++ p.written) rest p.appended wrote);
+  consumed = consumed_as before after ((p.first ++ p.read) ++ beyond) (p.first ++ (p.read ++ beyond)) (append_assoc p.first p.read beyond)
+      (Consumes-trans before mid after (p.first ++ p.read) beyond p.consumed came);
+  appended = appended_as held holds ((p.opened ++ p.written) ++ rest) (p.opened ++ (p.written ++ rest)) (append_assoc p.opened p.written rest)
+      (Appends-trans held middle holds (p.opened ++ p.written) rest p.appended wrote);
 }
 
 -- and why the loop ends there
 pub ended :
-    (fault : ServeFault) (count : ℕ) (now : MonitorState) (hosts : ℕ → ControlWords) (before mid after held middle holds : Option (List ℕ)) (beyond rest : List ℕ) → Progress count now hosts before mid held middle → Consumes mid after beyond → Appends middle holds rest
+    (fault : ServeFault) (count : ℕ) (now : MonitorState) (hosts : ℕ → ControlWords) (before mid after held middle holds : Option (List ℕ))
+    (beyond rest : List ℕ) → Progress count now hosts before mid held middle → Consumes mid after beyond → Appends middle holds rest
     → StopsBetween fault count now beyond rest after ⊎ StopsInside fault now hosts beyond rest after → EndsEarly fault before after held holds
 unfolding ran
-ended fault count now hosts before mid after held middle holds beyond rest p came wrote why = inr (beyond, rest, ran count now hosts before mid after held middle holds beyond rest p came wrote, why)
+ended fault count now hosts before mid after held middle holds beyond rest p came wrote why = inr
+    (beyond, rest, ran count now hosts before mid after held middle holds beyond rest p came wrote, why)
 
 -- there is no next trap
 pub next_refused :
-    (result : ServeFault) (count : ℕ) (now : MonitorState) (hosts : ℕ → ControlWords) (before mid after held middle holds : Option (List ℕ)) (beyond : List ℕ) → Progress count now hosts before mid held middle → Consumes mid after beyond
+    (result : ServeFault) (count : ℕ) (now : MonitorState) (hosts : ℕ → ControlWords) (before mid after held middle holds : Option (List ℕ)) (beyond : List ℕ)
+    → Progress count now hosts before mid held middle → Consumes mid after beyond
     → RefusesNext count now beyond after → Refuses result refusals.NotUnderstood middle holds → EndsEarly result before after held holds
 next_refused result count now hosts before mid after held middle holds beyond p came why refused =
-    let e = refuse_why result refusals.NotUnderstood middle holds (λ f rest. StopsBetween f count now beyond rest after) refused (why, refl) (λ part off. (why, off)) in
+    let e = refuse_why result refusals.NotUnderstood middle holds (λ f rest. StopsBetween f count now beyond rest after) refused (why, refl)
+    (λ part off. (why, off)) in
     ended result count now hosts before mid after held middle holds beyond e.0 p came e.2 (inl e.1)
 
 -- a trap that was not read
 pub read_stops :
-    (result : ServeFault) (fault : FrameFault) (count : ℕ) (now : MonitorState) (hosts : ℕ → ControlWords) (harts : ℕ) (before mid after held middle holds : Option (List ℕ)) → Progress count now hosts before mid held middle → harts ≡ now.table.layout.harts
+    (result : ServeFault) (fault : FrameFault) (count : ℕ) (now : MonitorState) (hosts : ℕ → ControlWords) (harts : ℕ)
+    (before mid after held middle holds : Option (List ℕ)) → Progress count now hosts before mid held middle → harts ≡ now.table.layout.harts
     → ReadsTrap (Err fault) harts mid after → EndsAs result fault middle holds → EndsEarly result before after held holds
 read_stops result frames.NotUnderstood count now hosts harts before mid after held middle holds p n reads ends =
     next_refused result count now hosts before mid after held middle holds reads.0 p reads.2 (inl (subst (λ k. IsNoTrap reads.0 k after) n reads.1)) ends
 read_stops result frames.Read count now hosts harts before mid after held middle holds p n reads ends =
-    ended result count now hosts before mid after held middle holds reads.0 [] p reads.2 ends.1 (inl (subst (λ f. StopsBetween f count now reads.0 [] after) (sym ends.0) (reads.1, refl)))
+    ended result count now hosts before mid after held middle holds reads.0 [] p reads.2 ends.1
+    (inl (subst (λ f. StopsBetween f count now reads.0 [] after) (sym ends.0) (reads.1, refl)))
 read_stops result frames.Write count now hosts harts before mid after held middle holds p n reads ends = absurd reads
 
 -- a trap that was read and not served
 pub trap_stops :
-    (fault : ServeFault) (count : ℕ) (now : MonitorState) (hosts kept : ℕ → ControlWords) (new : MonitorState) (trap : Trap) (harts : ℕ) (frame : List ℕ) (before mid next after held middle holds : Option (List ℕ)) → Progress count now hosts before mid held middle
-    → harts ≡ now.table.layout.harts → length frame ≡ 352 → IsTrapFrame frame harts trap → Consumes mid next frame → Serves (Err fault) trap now hosts new kept next after middle holds → EndsEarly fault before after held holds
+    (fault : ServeFault) (count : ℕ) (now : MonitorState) (hosts kept : ℕ → ControlWords) (new : MonitorState) (trap : Trap) (harts : ℕ) (frame : List ℕ)
+    (before mid next after held middle holds : Option (List ℕ)) → Progress count now hosts before mid held middle
+    → harts ≡ now.table.layout.harts → length frame ≡ 352 → IsTrapFrame frame harts trap → Consumes mid next frame
+    → Serves (Err fault) trap now hosts new kept next after middle holds → EndsEarly fault before after held holds
 trap_stops fault count now hosts kept new trap harts frame before mid next after held middle holds p n size is came s =
-    ended fault count now hosts before mid after held middle holds (frame ++ s.0) s.1 p (Consumes-trans mid next after frame s.0 came s.3) s.4 (inr (trap, frame, s.0, size, subst (λ k. IsTrapFrame frame k trap) n is, s.2, refl))
+    ended fault count now hosts before mid after held middle holds (frame ++ s.0) s.1 p (Consumes-trans mid next after frame s.0 came s.3) s.4
+    (inr (trap, frame, s.0, size, subst (λ k. IsTrapFrame frame k trap) n is, s.2, refl))
 
 -- the first bytes are refused
 pub first_refused :
-    (result : ServeFault) (refusal : EndReason) (read : List ℕ) (before after held holds : Option (List ℕ)) → RefusesFirst refusal read after → Consumes before after read → Refuses result refusal held holds → EndsAtFirst result before after held holds
+    (result : ServeFault) (refusal : EndReason) (read : List ℕ) (before after held holds : Option (List ℕ)) → RefusesFirst refusal read after
+    → Consumes before after read → Refuses result refusal held holds → EndsAtFirst result before after held holds
 first_refused result refusal read before after held holds why came refused =
     let e = refuse_why result refusal held holds (λ f rest. StopsAtFirst f read rest after) refused (why, refl) (λ part off. inl (refusal, why, off)) in
     (read, e.0, e.1, came, e.2)
 
 -- no platform was read
 pub first_stops :
-    (result : ServeFault) (fault : FrameFault) (before after held holds : Option (List ℕ)) → ReadsPlatform (Err fault) before after → EndsAs result fault held holds → EndsAtFirst result before after held holds
-first_stops result frames.NotUnderstood before after held holds reads ends = first_refused result refusals.NotUnderstood reads.0 before after held holds (inl (reads.1, reads.2)) reads.3 ends
-first_stops result frames.Read before after held holds reads ends = (reads.0, [], subst (λ f. StopsAtFirst f reads.0 [] after) (sym ends.0) (reads.1, refl), reads.2, ends.1)
+    (result : ServeFault) (fault : FrameFault) (before after held holds : Option (List ℕ)) → ReadsPlatform (Err fault) before after
+    → EndsAs result fault held holds → EndsAtFirst result before after held holds
+first_stops result frames.NotUnderstood before after held holds reads ends = first_refused result refusals.NotUnderstood reads.0 before after held holds
+    (inl (reads.1, reads.2)) reads.3 ends
+first_stops result frames.Read before after held holds reads ends = (
+  reads.0,
+  [],
+  subst (λ f. StopsAtFirst f reads.0 [] after) (sym ends.0)
+      (reads.1, refl),
+  reads.2,
+  ends.1,
+)
 first_stops result frames.Write before after held holds reads ends = absurd reads
 
-pub refuses_first : (refusal : EndReason) (bytes : List ℕ) (after : Option (List ℕ)) → length bytes ≡ 1336 → IsNoPlatform refusal bytes → RefusesFirst refusal bytes after
+pub refuses_first : (refusal : EndReason) (bytes : List ℕ) (after : Option (List ℕ)) → length bytes ≡ 1336 → IsNoPlatform refusal bytes
+    → RefusesFirst refusal bytes after
 refuses_first refusals.NotUnderstood bytes after size not = inr (size, not)
 refuses_first (refusals.Platform fault) bytes after size not = (size, not)
 refuses_first (refusals.NeedsEntries needed) bytes after size not = absurd not
@@ -197,7 +244,8 @@ refuses_first refusals.Memory bytes after size not = absurd not
 
 -- the monitor on a platform that was read
 pub booted :
-    (result : Result Monitor ServeFault) (layout : PlatformLayout) (first : List ℕ) (before after held holds : Option (List ℕ)) → length first ≡ 1336 → IsPlatformFrame first layout → Consumes before after first → BootsOn result layout held holds
+    (result : Result Monitor ServeFault) (layout : PlatformLayout) (first : List ℕ) (before after held holds : Option (List ℕ)) → length first ≡ 1336
+    → IsPlatformFrame first layout → Consumes before after first → BootsOn result layout held holds
     → Boots result before after held holds
 booted (Ok monitor) layout first before after held holds size is consumed boots = (layout, first, size, is, boots.0, consumed, boots.1, boots.2)
 booted (Err fault) layout first before after held holds size is consumed boots = (first, boots.0, boots.1 first after size is, consumed, boots.2)

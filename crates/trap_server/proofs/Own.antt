@@ -13,7 +13,8 @@ here : (hosts : ℕ → ControlWords) (hart : ℕ) (came : ControlWords) → kee
 here hosts hart came = ap (λ b. if b then came else hosts hart) (eq-eqb hart hart refl)
 
 -- on another
-there_by : (b : Bool) (hosts : ℕ → ControlWords) (hart other : ℕ) (came : ControlWords) → (other == hart) ≡ b → other ≢ hart → (if b then came else hosts other) ≡ hosts other
+there_by : (b : Bool) (hosts : ℕ → ControlWords) (hart other : ℕ) (came : ControlWords) → (other == hart) ≡ b → other ≢ hart
+    → (if b then came else hosts other) ≡ hosts other
 there_by true hosts hart other came is differs = absurd (differs (eqb-true other hart is))
 there_by false hosts hart other came is differs = refl
 
@@ -22,7 +23,18 @@ there Host hosts hart other came differs = there_by (other == hart) hosts hart o
 there (InEnclave id) hosts hart other came differs = refl
 
 with_mie : ℕ → ControlWords
-with_mie n = record { status = width_64; satp = 0; mie = bit_or monitors_interrupts n; scounteren = 0; senvcfg = 0; hstatus = 0; medeleg = 0; mideleg = 0; mode = 0 }
+with_mie n = record {
+  status = width_64;
+  satp = 0;
+  mie = bit_or monitors_interrupts n;
+  scounteren = 0;
+  senvcfg = 0;
+  hstatus = 0;
+  medeleg = 0;
+  mideleg = 0;
+  mode
+      = 0;
+}
 
 sees_nothing : (host other : ControlWords) → bit_and host.mie hosts_interrupts ≡ bit_and other.mie hosts_interrupts → enclave_words host ≡ enclave_words other
 unfolding with_mie

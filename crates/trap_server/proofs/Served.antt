@@ -1,5 +1,6 @@
 -- A trap that was served, from what was asked, read and written.
-use Rattle.std.proofs.Common.{◌≡◌, inl, inr, subst, ℕ, zero, suc, ◌<◌, ◌≤◌, Bool, true, false, List, [], ◌++◌, take, Option, Result, Ok, Err, sym, refl, arith, append-nil}
+use Rattle.std.proofs.Common.{◌≡◌, inl, inr, subst, ℕ, zero, suc, ◌<◌, ◌≤◌, Bool, true, false, List, [], ◌++◌, take, Option, Result, Ok, Err, sym, refl, arith}
+use Rattle.std.proofs.Common.{append-nil}
 use Rattle.std.proofs.lemmas.Bool.{true≢false}
 use Rattle.std.specs.Prelude.{slice_index_or}
 use Rattle.std.specs.Io.KnownBytes.{Appends, Consumes}
@@ -51,8 +52,10 @@ awake s harts (suc (suc (suc (suc n)))) most known = absurd (none_there n harts 
 
 -- a trap was served where its answer was written
 pub serves :
-    (result : Result (Unit {0}) ServeFault) (Are : List ℕ → Type 0) (trap : Trap) (old new : MonitorState) (hosts kept : ℕ → ControlWords) (before after held middle holds : Option (List ℕ)) (question read : List ℕ)
-    → ((bytes : List ℕ) → Are bytes → ServesTrap old hosts trap read question bytes new kept) → AreAwake new → new.table.layout ≡ old.table.layout → Consumes before after read → Appends held middle question
+    (result : Result (Unit {0}) ServeFault) (Are : List ℕ → Type 0) (trap : Trap) (old new : MonitorState) (hosts kept : ℕ → ControlWords)
+    (before after held middle holds : Option (List ℕ)) (question read : List ℕ)
+    → ((bytes : List ℕ) → Are bytes → ServesTrap old hosts trap read question bytes new kept) → AreAwake new → new.table.layout ≡ old.table.layout
+    → Consumes before after read → Appends held middle question
     → Writes result Are middle holds → Serves result trap old hosts new kept before after held holds
 serves (Ok done) Are trap old new hosts kept before after held middle holds question read served quiet layout consumed asked wrote =
     (read, question, wrote.0, served wrote.0 wrote.1, quiet, layout, consumed, Appends-trans held middle holds question wrote.0 asked wrote.2)
@@ -61,7 +64,8 @@ serves (Err fault) Are trap old new hosts kept before after held middle holds qu
     let part = take wrote.3.0 answer in (
       read,
       question ++ part,
-      subst (λ f. StopsTrap f old hosts trap read (question ++ part) after) (sym wrote.0) (inr (inr (question, answer, new, kept, served answer wrote.2, (part, (wrote.3.0, wrote.3.1, refl), refl)))),
+      subst (λ f. StopsTrap f old hosts trap read (question ++ part) after) (sym wrote.0)
+          (inr (inr (question, answer, new, kept, served answer wrote.2, (part, (wrote.3.0, wrote.3.1, refl), refl)))),
       consumed,
       Appends-trans held middle holds question part asked wrote.3.2,
     )
@@ -78,7 +82,8 @@ quiet mid new n most = rw n (λ hart known. awake mid mid.table.layout.harts har
 
 -- a refusal was written, or a part of it, and why
 pub refuse_why :
-    (result : ServeFault) (refusal : EndReason) (held holds : Option (List ℕ)) (Why : ServeFault → List ℕ → Type 0) → Refuses result refusal held holds → Why (faults.Refused refusal) (end_bytes refusal)
+    (result : ServeFault) (refusal : EndReason) (held holds : Option (List ℕ)) (Why : ServeFault → List ℕ → Type 0) → Refuses result refusal held holds
+    → Why (faults.Refused refusal) (end_bytes refusal)
     → ((part : List ℕ) → IsPart part (end_bytes refusal) → Why faults.Write part) → (rest : List ℕ) × Why result rest × Appends held holds rest
 refuse_why result refusal held holds Why (inl is) why failed = (end_bytes refusal, subst (λ f. Why f (end_bytes refusal)) (sym is.0) why, is.1)
 refuse_why result refusal held holds Why (inr is) why failed =
@@ -86,7 +91,8 @@ refuse_why result refusal held holds Why (inr is) why failed =
 
 -- the same after a question that was written whole
 refuse_then :
-    (result : ServeFault) (refusal : EndReason) (question : List ℕ) (held middle holds : Option (List ℕ)) (Why : ServeFault → List ℕ → Type 0) → Appends held middle question → Refuses result refusal middle holds → Why (faults.Refused refusal) (question ++ end_bytes refusal)
+    (result : ServeFault) (refusal : EndReason) (question : List ℕ) (held middle holds : Option (List ℕ)) (Why : ServeFault → List ℕ → Type 0)
+    → Appends held middle question → Refuses result refusal middle holds → Why (faults.Refused refusal) (question ++ end_bytes refusal)
     → ((rest : List ℕ) → BreaksOff rest question (end_bytes refusal) → Why faults.Write rest) → (rest : List ℕ) × Why result rest × Appends held holds rest
 refuse_then result refusal question held middle holds Why asked refused why failed =
     let r = refuse_why result refusal middle holds (λ f last. Why f (question ++ last)) refused why (λ part is. failed (question ++ part) (part, is, refl)) in
@@ -94,21 +100,36 @@ refuse_then result refusal question held middle holds Why asked refused why fail
 
 -- a measurement that ended: what it had read, what was written, and why
 pub measure_stops :
-    (result : ServeFault) (fault : FrameFault) (s : MonitorState) (trap : Trap) (parts : Create) (before after held middle holds : Option (List ℕ)) → trap.event ≡ Call
-    → Measures (asked_in (call_of trap.registers)) s.table (s.worlds trap.hart) parts → MeasuresPages (Err fault) parts before after → Asks (Err fault) parts held middle → EndsAs result fault middle holds
+    (result : ServeFault) (fault : FrameFault) (s : MonitorState) (trap : Trap) (parts : Create) (before after held middle holds : Option (List ℕ))
+    → trap.event ≡ Call
+    → Measures (asked_in (call_of trap.registers)) s.table (s.worlds trap.hart) parts → MeasuresPages (Err fault) parts before after
+    → Asks (Err fault) parts held middle → EndsAs result fault middle holds
     → (read rest : List ℕ) × ((hosts : ℕ → ControlWords) → StopsTrap result s hosts trap read rest after) × Consumes before after read × Appends held holds rest
 measure_stops result frames.NotUnderstood s trap parts before after held middle holds call measures stops asked ends =
-    let e = refuse_then result refusals.NotUnderstood (question_of parts) held middle holds (λ f rest. (hosts : ℕ → ControlWords) → StopsTrap f s hosts trap stops.0 rest after) asked ends
+    let e = refuse_then result refusals.NotUnderstood (question_of parts) held middle holds
+    (λ f rest. (hosts : ℕ → ControlWords) → StopsTrap f s hosts trap stops.0 rest after) asked ends
     (λ hosts. (parts, (call, measures), stops.1, refl)) (λ rest off hosts. inr (inl (parts, (call, measures), stops.1, off))) in
     (stops.0, e.0, e.1, stops.2, e.2)
 measure_stops result frames.Read s trap parts before after held middle holds call measures stops asked ends =
     let question = question_of parts in
-    let wrote = subst (Appends held holds) (append-nil question) (Appends-trans held middle holds question [] asked ends.1) in
-    (stops.0, question, λ hosts. subst (λ f. StopsTrap f s hosts trap stops.0 question after) (sym ends.0) (parts, (call, measures), stops.1, refl), stops.2, wrote)
+    let wrote = subst (Appends held holds) (append-nil question) (Appends-trans held middle holds question [] asked ends.1) in (
+      stops.0,
+      question,
+      λ hosts. subst (λ f. StopsTrap f s hosts trap stops.0 question after) (sym ends.0)
+          (parts, (call, measures), stops.1, refl),
+      stops.2,
+      wrote,
+    )
 measure_stops result frames.Write s trap parts before after held middle holds call measures stops asked ends =
     let part = take asked.0 (question_of parts) in
-    let wrote = subst (Appends held holds) (append-nil part) (Appends-trans held middle holds part [] asked.2 ends.1) in
-    ([], part, λ hosts. subst (λ f. StopsTrap f s hosts trap [] part after) (sym ends.0) (inl (parts, (call, measures), refl, (asked.0, asked.1, refl))), stops, wrote)
+    let wrote = subst (Appends held holds) (append-nil part) (Appends-trans held middle holds part [] asked.2 ends.1) in (
+      [],
+      part,
+      λ hosts. subst (λ f. StopsTrap f s hosts trap [] part after) (sym ends.0)
+          (inl (parts, (call, measures), refl, (asked.0, asked.1, refl))),
+      stops,
+      wrote,
+    )
 
 -- counts over two parts, of which the first ended well
 pub reads_then : {X : Type 0} (result : Result X ServeFault) (a b d : ℕ) → b ≡ a → CountsReads result b d → CountsReads result a d
@@ -138,7 +159,8 @@ first_writes frames.NotUnderstood before after a p reads = (refl, refl)
 first_writes frames.Read before after a p reads = (refl, refl)
 first_writes frames.Write before after a p reads = absurd reads
 
-pub trap_writes : (fault : FrameFault) (harts : ℕ) (before after : Option (List ℕ)) (a b p q : ℕ) → ReadsTrap (Err fault) harts before after → (b ≡ a) × (q ≡ p) → FrameWrite fault a b p q
+pub trap_writes : (fault : FrameFault) (harts : ℕ) (before after : Option (List ℕ)) (a b p q : ℕ) → ReadsTrap (Err fault) harts before after → (b ≡ a) × (q ≡ p)
+    → FrameWrite fault a b p q
 trap_writes frames.NotUnderstood harts before after a b p q reads well = well
 trap_writes frames.Read harts before after a b p q reads well = well
 trap_writes frames.Write harts before after a b p q reads well = absurd reads

@@ -7,6 +7,7 @@ use Rattle.trap_server.specs.Words.{word_at}
 use Rattle.trap_server.specs.Traps.{IsTagOf, IsTrapFrame}
 
 -- its first word is the tag of nothing that happened
-pub no_event : (result : Option Trap) (bytes : List ℕ) (harts tag : ℕ) → tag ≡ word_at bytes 0 → ((event : TrapEvent) → IsTagOf event tag → ⊥) → IfNone result ((trap : Trap) → IsTrapFrame bytes harts trap → ⊥)
+pub no_event : (result : Option Trap) (bytes : List ℕ) (harts tag : ℕ) → tag ≡ word_at bytes 0 → ((event : TrapEvent) → IsTagOf event tag → ⊥)
+    → IfNone result ((trap : Trap) → IsTrapFrame bytes harts trap → ⊥)
 no_event (Some found) bytes harts tag is none = tt
 no_event None bytes harts tag is none = λ trap frame. none trap.event (subst (IsTagOf trap.event) (sym is) frame.tag)

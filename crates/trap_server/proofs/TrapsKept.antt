@@ -1,5 +1,6 @@
 -- What one trap keeps that was served.
-use Rattle.std.proofs.Common.{◌≡◌, ◌≢◌, ◌∙◌, ◌<◌, ◌≤◌, ◌||◌, ◌⊎◌, ◌==◌, if◌then◌else◌, inl, inr, ℕ, zero, suc, pos, false, List, Option, Some, None, IfSome, slice_index_or, refl, ap, sym, subst, arith}
+use Rattle.std.proofs.Common.{◌≡◌, ◌≢◌, ◌∙◌, ◌<◌, ◌≤◌, ◌||◌, ◌⊎◌, ◌==◌, if◌then◌else◌, inl, inr, ℕ, zero, suc, pos, false, List, Option, Some, None, IfSome}
+use Rattle.std.proofs.Common.{slice_index_or, refl, ap, sym, subst, arith}
 use Rattle.pmp_encoding.specs.Views.{SameView}
 use Rattle.pmp_encoding.specs.declared.pages.PageRange.{PageRange}
 use Rattle.measurement.specs.declared.request.Create.{Create}
@@ -46,7 +47,8 @@ use Rattle.trap_server.proofs.RegistersCame.{Through, call_through, interrupt_th
 use Rattle.trap_server.proofs.WorldsStay.{call_elsewhere, interrupt_elsewhere}
 
 -- the private pages of a creation that passes its checks
-measured_memory : (asked : Option Create) (table : EnclaveTable) (world : World) (parts : Create) → Measures asked table world parts → ClearsMemory table.layout (private_pages parts)
+measured_memory : (asked : Option Create) (table : EnclaveTable) (world : World) (parts : Create) → Measures asked table world parts
+    → ClearsMemory table.layout (private_pages parts)
 measured_memory None table world parts m = absurd m
 measured_memory (Some asked) table world parts m =
     let pass = m.1 in
@@ -58,7 +60,8 @@ measured_memory (Some asked) table world parts m =
       not_monitor = λ page is. (pass.1.1.1.1.1.0.owned page (ap (λ b. b || is_shared parts page) is)).0;
     }
 
-pub asks_memory : (asked : Option Create) (s : MonitorState) (hart : ℕ) (question read digest : List ℕ) → AsksFor asked s hart question read digest → AsksMemory s.table.layout question read
+pub asks_memory : (asked : Option Create) (s : MonitorState) (hart : ℕ) (question read digest : List ℕ) → AsksFor asked s hart question read digest
+    → AsksMemory s.table.layout question read
 asks_memory asked s hart question read digest (inl none) = inl (none.0, none.1)
 asks_memory asked s hart question read digest (inr some) =
     let parts = some.0 in
@@ -79,38 +82,45 @@ woken_registers s mid new hart woken k =
     subst (KeepsRegisters s hart) (sym woken) all
 
 woken_others :
-    (s mid new : MonitorState) (hart : ℕ) → new ≡ unmarked 4 mid → s.table.layout.harts ≤ 4 → KeepsOthers s mid hart → (other : ℕ) → other ≢ hart → other < s.table.layout.harts → slice_index_or (marks_of mid) other false ≡ false
+    (s mid new : MonitorState) (hart : ℕ) → new ≡ unmarked 4 mid → s.table.layout.harts ≤ 4 → KeepsOthers s mid hart → (other : ℕ) → other ≢ hart
+    → other < s.table.layout.harts → slice_index_or (marks_of mid) other false ≡ false
     → SameView (current_view s.table (s.worlds other)) (current_view new.table (new.worlds other))
 woken_others s mid new hart woken most keeps other differs low off =
-    subst (λ (y : MonitorState). SameView (current_view s.table (s.worlds other)) (current_view y.table (y.worlds other))) (sym woken) (keeps.views other differs low (not_marked mid other s.table.layout.harts low most off))
+    subst (λ (y : MonitorState). SameView (current_view s.table (s.worlds other)) (current_view y.table (y.worlds other))) (sym woken)
+    (keeps.views other differs low (not_marked mid other s.table.layout.harts low most off))
 
 -- an enclave is in user mode, and no world in machine mode where no host came so
 user_mode :
-    (hosts kept : ℕ → ControlWords) (hart : ℕ) (before after : World) (came given : ControlWords) → GivesWords hosts hart before after came kept given → (id : ℕ) → after ≡ InEnclave id → given.mode ≡ 0
+    (hosts kept : ℕ → ControlWords) (hart : ℕ) (before after : World) (came given : ControlWords) → GivesWords hosts hart before after came kept given
+    → (id : ℕ) → after ≡ InEnclave id → given.mode ≡ 0
 user_mode hosts kept hart before after came given w id at = ap (λ (x : ControlWords). x.mode) (w.gives ∙ ap (λ v. words_in v (kept hart)) at)
 
 abbrev pub AreBelow : (ℕ → ControlWords) → Type 0
 AreBelow hosts = (hart : ℕ) → is_machine (hosts hart).mode ≡ false
 
-kept_below : (before : World) (hosts : ℕ → ControlWords) (hart : ℕ) (came : ControlWords) → AreBelow hosts → is_machine came.mode ≡ false → AreBelow (keeping before hosts hart came)
+kept_below : (before : World) (hosts : ℕ → ControlWords) (hart : ℕ) (came : ControlWords) → AreBelow hosts → is_machine came.mode ≡ false
+    → AreBelow (keeping before hosts hart came)
 kept_below Host hosts hart came all below = λ other. both (other == hart)
     (λ yes. ap (λ t. is_machine (if t then came else hosts other).mode) yes ∙ below)
     (λ no. ap (λ t. is_machine (if t then came else hosts other).mode) no ∙ all other)
 kept_below (InEnclave id) hosts hart came all below = all
 
-pub still_below : (hosts kept : ℕ → ControlWords) (hart : ℕ) (before after : World) (came given : ControlWords) → GivesWords hosts hart before after came kept given → AreBelow hosts → is_machine came.mode ≡ false → AreBelow kept
+pub still_below : (hosts kept : ℕ → ControlWords) (hart : ℕ) (before after : World) (came given : ControlWords)
+    → GivesWords hosts hart before after came kept given → AreBelow hosts → is_machine came.mode ≡ false → AreBelow kept
 still_below hosts kept hart before after came given w all below = subst AreBelow (sym w.keeps) (kept_below before hosts hart came all below)
 
 words_below : (after : World) (host : ControlWords) → is_machine host.mode ≡ false → is_machine (words_in after host).mode ≡ false
 words_below Host host below = below
 words_below (InEnclave id) host below = refl
 
-given_below : (hosts kept : ℕ → ControlWords) (hart : ℕ) (before after : World) (came given : ControlWords) → GivesWords hosts hart before after came kept given → AreBelow kept → is_machine given.mode ≡ false
+given_below : (hosts kept : ℕ → ControlWords) (hart : ℕ) (before after : World) (came given : ControlWords) → GivesWords hosts hart before after came kept given
+    → AreBelow kept → is_machine given.mode ≡ false
 given_below hosts kept hart before after came given w all = ap (λ (x : ControlWords). is_machine x.mode) w.gives ∙ words_below after (kept hart) (all hart)
 
 -- pages that are to be made zero are those of an enclave that is gone
 destroyed :
-    (s mid new : MonitorState) (wiped : Option PageRange) → new ≡ unmarked 4 mid → IfSome wiped (λ range. ClearsMemory s.table.layout range) → (wiped ≡ None) ⊎ ((range : PageRange) × (wiped ≡ Some range) × Clears s mid range) → IfSome wiped (AreDestroyed s new)
+    (s mid new : MonitorState) (wiped : Option PageRange) → new ≡ unmarked 4 mid → IfSome wiped (λ range. ClearsMemory s.table.layout range)
+    → (wiped ≡ None) ⊎ ((range : PageRange) × (wiped ≡ Some range) × Clears s mid range) → IfSome wiped (AreDestroyed s new)
 destroyed s mid new wiped woken memory (inl none) = subst (λ o. IfSome o (AreDestroyed s new)) (sym none) tt
 destroyed s mid new wiped woken memory (inr some) =
     let c = some.2 in
@@ -132,8 +142,10 @@ pub record IsReady (s : MonitorState) (hart : ℕ) : Type 0 where
   pub placed : ArePlaced s
 
 call_kept :
-    (s : MonitorState) (hosts kept : ℕ → ControlWords) (trap : Trap) (given : ControlWords) (read question answered : List ℕ) (new : MonitorState) → IsReady s trap.hart → trap.event ≡ Call
-    → GivesWords hosts trap.hart (s.worlds trap.hart) (new.worlds trap.hart) trap.control kept given → AreBelow kept → ServesCall s trap given read question answered new → KeepsTrap s hosts trap read question answered new kept
+    (s : MonitorState) (hosts kept : ℕ → ControlWords) (trap : Trap) (given : ControlWords) (read question answered : List ℕ) (new : MonitorState)
+    → IsReady s trap.hart → trap.event ≡ Call
+    → GivesWords hosts trap.hart (s.worlds trap.hart) (new.worlds trap.hart) trap.control kept given → AreBelow kept
+    → ServesCall s trap given read question answered new → KeepsTrap s hosts trap read question answered new kept
 call_kept s hosts kept trap given read question answered new ready is words all x =
     let hart = trap.hart in
     let file = past_call trap.registers in
@@ -141,7 +153,8 @@ call_kept s hosts kept trap given read question answered new ready is words all 
     let t = with_running s hart file in
     let me = runner_on s hart in
     let placed = putting_keeps_worlds s hart file ready.placed in
-    let Refused = λ (e : TrapEvent). IsRefusedByNeed (called e trap.registers) s.table (s.worlds hart) (λ refusal. x.answer.status ≡ below_zero (refusal_number refusal)) in
+    let Refused = λ (e : TrapEvent). IsRefusedByNeed (called e trap.registers) s.table (s.worlds hart)
+    (λ refusal. x.answer.status ≡ below_zero (refusal_number refusal)) in
     record {
       answer = x.answer;
       cleared = x.cleared;
@@ -150,13 +163,19 @@ call_kept s hosts kept trap given read question answered new ready is words all 
       says = x.goes_on;
       need = subst Refused (sym is) (call_refused_by_need call (λ parts. x.digest) t hart x.answer x.cleared x.mid ready.table x.step);
       asks = asks_memory (asked_in (call_of trap.registers)) s hart question read x.digest x.asks;
-      zeroes = destroyed t x.mid new x.cleared x.woken (call_clears_memory call (λ parts. x.digest) t hart x.answer x.cleared x.mid ready.table x.step) (zeroed.cleared call (λ parts. x.digest) t hart x.answer x.cleared x.mid x.step);
-      destroys = λ id gone. lost_call call (λ parts. x.digest) t hart x.answer x.cleared x.mid id gone.0 gone.1 (sym (ap (λ (y : MonitorState). enclave_at y.table.enclaves id) x.woken) ∙ gone.2) x.step;
-      stays = λ other differs. ap (λ (y : MonitorState). y.worlds other) x.woken ∙ call_elsewhere call (λ parts. x.digest) t hart x.answer x.cleared x.mid other differs x.step;
-      others = woken_others t x.mid new hart x.woken ready.most (others_call call (λ parts. x.digest) t hart x.answer x.cleared x.mid ready.known placed x.step);
-      registers = woken_registers s x.mid new hart x.woken (put_before s x.mid hart file (call_keeps_registers call (λ parts. x.digest) t hart x.answer x.cleared x.mid x.step));
+      zeroes = destroyed t x.mid new x.cleared x.woken (call_clears_memory call (λ parts. x.digest) t hart x.answer x.cleared x.mid ready.table x.step)
+          (zeroed.cleared call (λ parts. x.digest) t hart x.answer x.cleared x.mid x.step);
+      destroys = λ id gone. lost_call call (λ parts. x.digest) t hart x.answer x.cleared x.mid id gone.0 gone.1
+          (sym (ap (λ (y : MonitorState). enclave_at y.table.enclaves id) x.woken) ∙ gone.2) x.step;
+      stays = λ other differs. ap (λ (y : MonitorState). y.worlds other) x.woken
+          ∙ call_elsewhere call (λ parts. x.digest) t hart x.answer x.cleared x.mid other differs x.step;
+      others = woken_others t x.mid new hart x.woken ready.most (others_call call
+          (λ parts. x.digest) t hart x.answer x.cleared x.mid ready.known placed x.step);
+      registers = woken_registers s x.mid new hart x.woken (put_before s x.mid hart file
+          (call_keeps_registers call (λ parts. x.digest) t hart x.answer x.cleared x.mid x.step));
       came = λ none.
-          let lived = λ (id : ℕ) (mine : me ≡ EnclaveOf id) (over : HasExited t x.mid id). none id mine (subst (λ (y : MonitorState). HasExited s y id) (sym x.woken) over) in
+          let lived = λ (id : ℕ) (mine : me ≡ EnclaveOf id) (over : HasExited t x.mid id). none id mine
+          (subst (λ (y : MonitorState). HasExited s y id) (sym x.woken) over) in
           let through = call_through call (λ parts. x.digest) t hart x.answer x.cleared x.mid (placed.current hart ready.known) x.step lived in
           subst (λ (e : TrapEvent). AreThose e trap.registers (new.registers me)) (sym is)
           (subst (λ (y : MonitorState). AreThose Call trap.registers (y.registers me)) (sym x.woken) (past trap.registers _ _ (put_there s hart file) through));
@@ -170,8 +189,10 @@ none_refused : (refusal : Refusal) → no_answer.status ≡ below_zero (refusal_
 none_refused refusal is = let z : pos 0 ≡ below_zero (refusal_number refusal) = is in cc
 
 stop_kept :
-    (s : MonitorState) (hosts kept : ℕ → ControlWords) (trap : Trap) (given : ControlWords) (read question answered : List ℕ) (new : MonitorState) → IsReady s trap.hart → trap.event ≡ Stop
-    → GivesWords hosts trap.hart (s.worlds trap.hart) (new.worlds trap.hart) trap.control kept given → AreBelow kept → ServesStop s trap given read question answered new → KeepsTrap s hosts trap read question answered new kept
+    (s : MonitorState) (hosts kept : ℕ → ControlWords) (trap : Trap) (given : ControlWords) (read question answered : List ℕ) (new : MonitorState)
+    → IsReady s trap.hart → trap.event ≡ Stop
+    → GivesWords hosts trap.hart (s.worlds trap.hart) (new.worlds trap.hart) trap.control kept given → AreBelow kept
+    → ServesStop s trap given read question answered new → KeepsTrap s hosts trap read question answered new kept
 stop_kept s hosts kept trap given read question answered new ready is words all x =
     let hart = trap.hart in
     let file = trap.registers in
@@ -186,10 +207,16 @@ stop_kept s hosts kept trap given read question answered new ready is words all 
       woken = marks_of x.mid;
       given = given;
       says = x.goes_on;
-      need = subst Refused (sym is) (record { entries = λ said. absurd (none_refused NoEntries said); outgrown = λ pass out. absurd pass; memory = λ said. absurd (none_refused NoMemory said) });
+      need = subst Refused (sym is) (record {
+        entries = λ said. absurd (none_refused NoEntries said);
+        outgrown = λ pass out. absurd pass;
+        memory = λ said.
+            absurd (none_refused NoMemory said);
+      });
       asks = inl (x.nothing_asked, x.nothing_read);
       zeroes = tt;
-      destroys = λ id gone. absurd (lost_irq world t hart x.mid id gone.0 gone.1 (sym (ap (λ (y : MonitorState). enclave_at y.table.enclaves id) x.woken) ∙ gone.2) x.step);
+      destroys = λ id gone. absurd (lost_irq world t hart x.mid id gone.0 gone.1
+          (sym (ap (λ (y : MonitorState). enclave_at y.table.enclaves id) x.woken) ∙ gone.2) x.step);
       stays = λ other differs. ap (λ (y : MonitorState). y.worlds other) x.woken ∙ interrupt_elsewhere world t hart x.mid other differs x.step;
       others = woken_others t x.mid new hart x.woken ready.most (others_irq world t hart x.mid refl ready.known placed x.step);
       registers = woken_registers s x.mid new hart x.woken (put_before s x.mid hart file (interrupt_keeps_registers world t hart x.mid refl x.step));
@@ -201,11 +228,17 @@ stop_kept s hosts kept trap given read question answered new ready is words all 
     }
 
 by_event :
-    (event : TrapEvent) (s : MonitorState) (hosts kept : ℕ → ControlWords) (trap : Trap) (given : ControlWords) (read question answered : List ℕ) (new : MonitorState) → IsReady s trap.hart → trap.event ≡ event
-    → GivesWords hosts trap.hart (s.worlds trap.hart) (new.worlds trap.hart) trap.control kept given → AreBelow kept → ServesAs event s trap given read question answered new → KeepsTrap s hosts trap read question answered new kept
-by_event Call s hosts kept trap given read question answered new ready is words all x = call_kept s hosts kept trap given read question answered new ready is words all x
-by_event Stop s hosts kept trap given read question answered new ready is words all x = stop_kept s hosts kept trap given read question answered new ready is words all x
+    (event : TrapEvent) (s : MonitorState) (hosts kept : ℕ → ControlWords) (trap : Trap) (given : ControlWords) (read question answered : List ℕ)
+    (new : MonitorState) → IsReady s trap.hart → trap.event ≡ event
+    → GivesWords hosts trap.hart (s.worlds trap.hart) (new.worlds trap.hart) trap.control kept given → AreBelow kept
+    → ServesAs event s trap given read question answered new → KeepsTrap s hosts trap read question answered new kept
+by_event Call s hosts kept trap given read question answered new ready is words all x = call_kept s hosts kept trap given read question answered new ready is
+    words all x
+by_event Stop s hosts kept trap given read question answered new ready is words all x = stop_kept s hosts kept trap given read question answered new ready is
+    words all x
 
 pub trap_kept :
-    (s : MonitorState) (hosts kept : ℕ → ControlWords) (trap : Trap) (read question answered : List ℕ) (new : MonitorState) → IsReady s trap.hart → AreBelow kept → ServesTrap s hosts trap read question answered new kept → KeepsTrap s hosts trap read question answered new kept
-trap_kept s hosts kept trap read question answered new ready all x = by_event trap.event s hosts kept trap x.given read question answered new ready refl x.words all x.step
+    (s : MonitorState) (hosts kept : ℕ → ControlWords) (trap : Trap) (read question answered : List ℕ) (new : MonitorState) → IsReady s trap.hart
+    → AreBelow kept → ServesTrap s hosts trap read question answered new kept → KeepsTrap s hosts trap read question answered new kept
+trap_kept s hosts kept trap read question answered new ready all x = by_event trap.event s hosts kept trap x.given read question answered new ready refl x.words
+    all x.step

@@ -15,11 +15,14 @@ no_mark : {P : Type 0} (s new that : MonitorState) (i : ℕ) → new ≡ that �
 no_mark s new that i is same awake marked = absurd (true≢false (sym marked ∙ ap (λ (y : MonitorState). y.marked i) is ∙ same ∙ awake))
 
 pub marks_in_host :
-    (call : Option Call) (digests : Create → List ℕ) (s : MonitorState) (hart : ℕ) (answer : Answer) (cleared : Option PageRange) (new : MonitorState) (i : ℕ) → s.marked i ≡ false → DoesCall call digests s hart answer cleared new
+    (call : Option Call) (digests : Create → List ℕ) (s : MonitorState) (hart : ℕ) (answer : Answer) (cleared : Option PageRange) (new : MonitorState) (i : ℕ)
+    → s.marked i ≡ false → DoesCall call digests s hart answer cleared new
     → new.marked i ≡ true → new.worlds hart ≡ Host
 marks_in_host None digests s hart answer cleared new i awake x m = no_mark s new _ i x.state refl awake m
-marks_in_host (Some (calls.Create base text_pages data_pages shared_base shared_count entry_offset)) digests s hart answer cleared new i awake (inl x) m = ap (λ (y : MonitorState). y.worlds hart) x.3.state ∙ x.2.passes.0
-marks_in_host (Some (calls.Create base text_pages data_pages shared_base shared_count entry_offset)) digests s hart answer cleared new i awake (inr x) m = no_mark s new _ i x.2.state refl awake m
+marks_in_host (Some (calls.Create base text_pages data_pages shared_base shared_count entry_offset)) digests s hart answer cleared new i awake (inl x) m = ap
+    (λ (y : MonitorState). y.worlds hart) x.3.state ∙ x.2.passes.0
+marks_in_host (Some (calls.Create base text_pages data_pages shared_base shared_count entry_offset)) digests s hart answer cleared new i awake
+    (inr x) m = no_mark s new _ i x.2.state refl awake m
 marks_in_host (Some (calls.Destroy id)) digests s hart answer cleared new i awake (inl x) m = ap (λ (y : MonitorState). y.worlds hart) x.3.state ∙ x.2.passes.0
 marks_in_host (Some (calls.Destroy id)) digests s hart answer cleared new i awake (inr x) m = no_mark s new _ i x.2.state refl awake m
 marks_in_host (Some (calls.Run id)) digests s hart answer cleared new i awake (inl x) m = no_mark s new _ i x.4.state refl awake m

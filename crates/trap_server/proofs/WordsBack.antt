@@ -1,5 +1,6 @@
 -- Words that were written one after another are read back.
-use Rattle.std.proofs.Common.{◌≡◌, ◌∙◌, ℕ, zero, suc, ◌+◌, ◌*◌, ◌<◌, ◌^◌, List, [], ◌∷◌, ◌++◌, length, drop, slice_index_or, arith, ap, sym, append_assoc, length-append}
+use Rattle.std.proofs.Common.{◌≡◌, ◌∙◌, ℕ, zero, suc, ◌+◌, ◌*◌, ◌<◌, ◌^◌, List, [], ◌∷◌, ◌++◌, length, drop, slice_index_or, arith, ap, sym, append_assoc}
+use Rattle.std.proofs.Common.{length-append}
 use Rattle.std.proofs.Math.Seq.{drop-append_seam}
 use Rattle.byteorder.specs.Endian.{little_bytes, little_number}
 use Rattle.byteorder.specs.Numbers.{little_number-reads_back}
@@ -15,7 +16,8 @@ first_word front rest n x size small =
     ∙ ap (little_number 8) (drop-append_seam front (little_bytes 8 x ++ rest)) ∙ little_number-reads_back 8 x rest small
 
 -- word k of them, after n words
-word_back : (words front : List ℕ) (n k : ℕ) → length front ≡ 8 * n → k < length words → slice_index_or words k 0 < 2 ^ 64 → word_at (front ++ bytes_of words) (n + k) ≡ slice_index_or words k 0
+word_back : (words front : List ℕ) (n k : ℕ) → length front ≡ 8 * n → k < length words → slice_index_or words k 0 < 2 ^ 64
+    → word_at (front ++ bytes_of words) (n + k) ≡ slice_index_or words k 0
 word_back [] front n k size inside small = absurd (omega (arith, inside))
 word_back (x ∷ words) front n zero size inside small =
     let same : n + zero ≡ n = omega arith in
@@ -29,7 +31,8 @@ word_back (x ∷ words) front n (suc k) size inside small =
 
 -- the tag and the nine words
 abbrev listed : ControlWords → List ℕ
-listed words = control_tag ∷ (words.status ∷ (words.satp ∷ (words.mie ∷ (words.scounteren ∷ (words.senvcfg ∷ (words.hstatus ∷ (words.medeleg ∷ (words.mideleg ∷ (words.mode ∷ [])))))))))
+listed words = control_tag ∷ (words.status ∷ (words.satp ∷ (words.mie ∷ (words.scounteren ∷
+    (words.senvcfg ∷ (words.hstatus ∷ (words.medeleg ∷ (words.mideleg ∷ (words.mode ∷ [])))))))))
 
 pub come_back : ComeBack
 come_back = record {

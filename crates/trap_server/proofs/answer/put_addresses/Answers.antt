@@ -9,7 +9,8 @@ pub loop-i-preserved : goal.loop-i-preserved
 loop-i-preserved c =
     let entries = c.args.entries.now in
     let i = c.loop-i.i in
-    word_more c.loop-i.frame c.put_word.new.bytes (take 392 c.args.frame.now) (address_bytes entries i) (little_bytes 8 (address_at entries i)) (392 + 8 * i) (49 + i) (392 + 8 * (i + 1)) (omega arith) (omega arith) c.loop-i.invariant
+    word_more c.loop-i.frame c.put_word.new.bytes (take 392 c.args.frame.now) (address_bytes entries i) (little_bytes 8 (address_at entries i)) (392 + 8 * i)
+    (49 + i) (392 + 8 * (i + 1)) (omega arith) (omega arith) c.loop-i.invariant
     (c.put_word.ensures.front ∙ ap (λ w. take (8 * (49 + i)) c.loop-i.frame ++ little_bytes 8 w) c.address_at.ensures)
     ∙ ap (λ xs. take 392 c.args.frame.now ++ xs) (address_step entries i)
 

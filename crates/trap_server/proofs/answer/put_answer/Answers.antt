@@ -16,4 +16,5 @@ returns c =
     let all = c.put_control.new.frame in
     let last = two_parts three four all (address_bytes entries 64) words c.put_addresses.ensures c.put_control.ensures in
     let rest = two_parts two three all (cfg_bytes entries 64) (address_bytes entries 64 ++ words) c.put_configuration.ensures last in
-    two_parts one two all file (cfg_bytes entries 64 ++ (address_bytes entries 64 ++ words)) c.put_registers.ensures rest ∙ ap (λ xs. xs ++ (file ++ (cfg_bytes entries 64 ++ (address_bytes entries 64 ++ words)))) c.put_head.ensures
+    two_parts one two all file (cfg_bytes entries 64 ++ (address_bytes entries 64 ++ words)) c.put_registers.ensures rest
+    ∙ ap (λ xs. xs ++ (file ++ (cfg_bytes entries 64 ++ (address_bytes entries 64 ++ words)))) c.put_head.ensures

@@ -11,5 +11,6 @@ loop-i-preserved c =
     let i = c.loop-i.i in
     let byte = c.cfg_at.result in
     let next : 328 + (i + 1) ≡ suc (328 + i) = omega arith in
-    ap (λ n. take n (set c.loop-i.frame (328 + i) byte)) next ∙ take-suc-set c.loop-i.frame (328 + i) byte (search rules) ∙ ap (λ xs. xs ++ byte ∷ []) c.loop-i.invariant ∙ append_assoc start (cfg_bytes entries i) (byte ∷ [])
+    ap (λ n. take n (set c.loop-i.frame (328 + i) byte)) next ∙ take-suc-set c.loop-i.frame (328 + i) byte (search rules)
+    ∙ ap (λ xs. xs ++ byte ∷ []) c.loop-i.invariant ∙ append_assoc start (cfg_bytes entries i) (byte ∷ [])
     ∙ ap (λ b. start ++ (cfg_bytes entries i ++ b ∷ [])) c.cfg_at.ensures ∙ ap (λ xs. start ++ xs) (cfg_step entries i)

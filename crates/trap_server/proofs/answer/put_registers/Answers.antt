@@ -10,7 +10,8 @@ pub loop-n-preserved : goal.loop-n-preserved
 loop-n-preserved c =
     let file = c.args.registers.now in
     let n = c.loop-n.n in
-    word_more c.loop-n.frame c.put_word-in-loop-n.new.bytes (take 72 c.args.frame.now) (register_bytes file n) (little_bytes 8 (x_of file n)) (72 + 8 * n) (n + 9) (72 + 8 * (n + 1)) (omega arith) (omega arith) c.loop-n.invariant
+    word_more c.loop-n.frame c.put_word-in-loop-n.new.bytes (take 72 c.args.frame.now) (register_bytes file n) (little_bytes 8 (x_of file n)) (72 + 8 * n)
+    (n + 9) (72 + 8 * (n + 1)) (omega arith) (omega arith) c.loop-n.invariant
     (c.put_word-in-loop-n.ensures.front ∙ ap (λ w. take (8 * (n + 9)) c.loop-n.frame ++ little_bytes 8 w) c.get.ensures)
     ∙ ap (λ xs. take 72 c.args.frame.now ++ xs) (sym (register_step file n c.loop-n.auto.n))
 

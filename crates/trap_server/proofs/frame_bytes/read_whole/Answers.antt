@@ -33,7 +33,8 @@ returns-then-n-eq0-clause-bytes g c =
       search rules,
       record {
         within = search rules;
-        consumed = subst (Consumes _ _) (came ∙ ap (λ k. take k (put_mid from room c.loop-done.buffer c.read.new.buf)) same) (Consumes-trans _ _ _ _ _ inv.consumed c.in_ok-n.ensures.bytes.0);
+        consumed = subst (Consumes _ _) (came ∙ ap (λ k. take k (put_mid from room c.loop-done.buffer c.read.new.buf)) same)
+            (Consumes-trans _ _ _ _ _ inv.consumed c.in_ok-n.ensures.bytes.0);
         at_end = λ less. c.in_ok-n.ensures.bytes.1 c.if-n-eq0.true (search rules);
       },
     )

@@ -18,7 +18,13 @@ loop-i-preserved g c =
     let old = c.loop-i.invariant.pages in
     let new = c.in-Ok-read_page.ensures.page in
     record {
-      pages = (old.0 ++ new.0, old.1 ++ (c.read_page.new.bytes ∷ []), next_page old.2 new.0 c.read_page.new.bytes new.1, Consumes-trans _ _ _ _ _ old.3 new.2, c.page.ensures (layout_of c.args.parts.now) old.1 old.4);
+      pages = (
+        old.0 ++ new.0,
+        old.1 ++ (c.read_page.new.bytes ∷ []),
+        next_page old.2 new.0 c.read_page.new.bytes new.1,
+        Consumes-trans _ _ _ _ _ old.3 new.2,
+        c.page.ensures (layout_of c.args.parts.now) old.1 old.4,
+      );
       written = c.loop-i.invariant.written;
       well = c.loop-i.invariant.well;
       failures = search rules;

@@ -6,7 +6,13 @@ pub returns-clause-page : goal.returns-clause-page
 returns-clause-page g c =
     let size = c.in-Ok.ensures.bytes.0 in (
       c.read_whole.new.buffer,
-      record { size = size; tag = search rules; number = search rules; bytes_are = c.copy_from_slice.ensures.after ∙ take_all 4096 (drop 16 c.read_whole.new.buffer) (omega (arith, length-drop 16 c.read_whole.new.buffer, size)) },
+      record {
+        size = size;
+        tag = search rules;
+        number = search rules;
+        bytes_are = c.copy_from_slice.ensures.after
+            ∙ take_all 4096 (drop 16 c.read_whole.new.buffer) (omega (arith, length-drop 16 c.read_whole.new.buffer, size));
+      },
       whole c.in-Ok.n c.read_whole.new.buffer _ _ (omega (arith, size, c.if-n-lt-PAGE_BYTES.false)) c.in-Ok.ensures.bytes.1,
     )
 
@@ -19,8 +25,10 @@ returns-then-n-lt-PAGE_BYTES-clause-page g c =
 
 pub returns-then-word-ne-TAG_PAGE-clause-page : goal.returns-then-word-ne-TAG_PAGE-clause-page
 returns-then-word-ne-TAG_PAGE-clause-page g c =
-    other_frame c.in-Ok.n c.args.page c.read_whole.new.buffer _ _ c.in-Ok.ensures.bytes.0 (omega (arith, c.if-n-lt-PAGE_BYTES.false)) c.in-Ok.ensures.bytes.1 (λ bytes is. c.if-word-ne-TAG_PAGE.true (c.word.ensures ∙ is.tag))
+    other_frame c.in-Ok.n c.args.page c.read_whole.new.buffer _ _ c.in-Ok.ensures.bytes.0 (omega (arith, c.if-n-lt-PAGE_BYTES.false)) c.in-Ok.ensures.bytes.1
+    (λ bytes is. c.if-word-ne-TAG_PAGE.true (c.word.ensures ∙ is.tag))
 
 pub returns-then-word-page-clause-page : goal.returns-then-word-page-clause-page
 returns-then-word-page-clause-page g c =
-    other_frame c.in-Ok.n c.args.page c.read_whole.new.buffer _ _ c.in-Ok.ensures.bytes.0 (omega (arith, c.if-n-lt-PAGE_BYTES.false)) c.in-Ok.ensures.bytes.1 (λ bytes is. c.if-word-page.true (c.word-2.ensures ∙ is.number))
+    other_frame c.in-Ok.n c.args.page c.read_whole.new.buffer _ _ c.in-Ok.ensures.bytes.0 (omega (arith, c.if-n-lt-PAGE_BYTES.false)) c.in-Ok.ensures.bytes.1
+    (λ bytes is. c.if-word-page.true (c.word-2.ensures ∙ is.number))

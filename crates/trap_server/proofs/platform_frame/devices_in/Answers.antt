@@ -11,5 +11,6 @@ push-requires c =
 pub loop-i-preserved : goal.loop-i-preserved
 loop-i-preserved c =
     ap words_of c.push.ensures.items
-    ∙ device_step c.loop-i.devices.items c.args.bytes.now c.loop-i.i c.word-in-loop-i.result c.word-in-loop-i-2.result c.in_ok-perm.perm c.loop-i.invariant c.word-in-loop-i.ensures c.word-in-loop-i-2.ensures
+    ∙ device_step c.loop-i.devices.items c.args.bytes.now c.loop-i.i c.word-in-loop-i.result c.word-in-loop-i-2.result c.in_ok-perm.perm c.loop-i.invariant
+    c.word-in-loop-i.ensures c.word-in-loop-i-2.ensures
     (c.in_ok-perm.ensures.some ∙ c.word.ensures)

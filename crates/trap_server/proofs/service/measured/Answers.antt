@@ -21,7 +21,8 @@ returns-in-Ok-clause-digest g c =
 
 pub returns-in-Err-clause-digest : goal.returns-in-Err-clause-digest
 returns-in-Err-clause-digest g c =
-    measure_stops c.end.result c.in-Err.fault (state_by c.args.monitor.now) c.args.trap.now c.in-Some.parts _ _ _ _ _ c.requires.call c.in-Some.ensures.parts c.in-Err.ensures.read c.in-Err.ensures.asked c.end.ensures.last
+    measure_stops c.end.result c.in-Err.fault (state_by c.args.monitor.now) c.args.trap.now c.in-Some.parts _ _ _ _ _ c.requires.call c.in-Some.ensures.parts
+    c.in-Err.ensures.read c.in-Err.ensures.asked c.end.ensures.last
 
 pub returns-in-Err-clause-reads : goal.returns-in-Err-clause-reads
 returns-in-Err-clause-reads g c = c.end.ensures.reads _ _ (frame_reads (List ℕ) c.in-Err.fault _ _ c.in-Err.ensures.failures)

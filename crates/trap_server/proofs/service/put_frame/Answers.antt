@@ -32,8 +32,24 @@ returns c =
         room = c.entries.ensures.room;
       },
       c.put_answer.ensures
-          ∙ ap (λ (w : World). answer_bytes (record { hart = hart; world = w; status = c.status_word.result; value = c.args.answer.now.value; zero = c.args.zero; woken = c.args.woken }) c.registers.result.now entries given) c.world-world.ensures
-          ∙ ap (λ (n : ℕ). answer_bytes (record { hart = hart; world = s.worlds hart; status = n; value = c.args.answer.now.value; zero = c.args.zero; woken = c.args.woken }) c.registers.result.now entries given) c.status_word.ensures
+          ∙ ap (λ (w : World). answer_bytes (record {
+            hart = hart;
+            world = w;
+            status = c.status_word.result;
+            value = c.args.answer.now.value;
+            zero =
+                c.args.zero;
+            woken = c.args.woken;
+          }) c.registers.result.now entries given) c.world-world.ensures
+          ∙ ap (λ (n : ℕ). answer_bytes (record {
+            hart = hart;
+            world = s.worlds hart;
+            status = n;
+            value = c.args.answer.now.value;
+            zero = c.args.zero;
+            woken =
+                c.args.woken;
+          }) c.registers.result.now entries given) c.status_word.ensures
           ∙ ap (λ (file : RegisterFile). answer_bytes (head_of s hart c.args.answer.now c.args.zero c.args.woken) file entries given) c.registers.ensures
           ∙ ap (λ (words : ControlWords). answer_bytes (head_of s hart c.args.answer.now c.args.zero c.args.woken) (running_registers s hart) entries words)
           (c.given-control.ensures ∙ ap (λ (w : World). words_in w (host_words c.args.hosts.now hart)) c.world-world.ensures),

@@ -13,10 +13,12 @@ use Rattle.trap_server.proofs.Waking.{marks_in_host}
 use Rattle.trap_server.proofs.service.serve_call.Goals as goal
 
 pub serve-served-requires-clause-hart : goal.serve-served-requires-clause-hart
-serve-served-requires-clause-hart g c = subst (λ (s : MonitorState). c.args.trap.now.hart < s.table.layout.harts) (sym c.put_registers.ensures.state) c.requires.hart
+serve-served-requires-clause-hart g c = subst (λ (s : MonitorState). c.args.trap.now.hart < s.table.layout.harts)
+    (sym c.put_registers.ensures.state) c.requires.hart
 
 pub serve-served-requires-clause-awake : goal.serve-served-requires-clause-awake
-serve-served-requires-clause-awake g c = ap (λ (s : MonitorState). s.marked c.args.trap.now.hart) c.put_registers.ensures.state ∙ c.requires.awake c.args.trap.now.hart c.requires.hart
+serve-served-requires-clause-awake g c = ap (λ (s : MonitorState). s.marked c.args.trap.now.hart) c.put_registers.ensures.state
+    ∙ c.requires.awake c.args.trap.now.hart c.requires.hart
 
 pub write_answer-requires-clause-woken : goal.write_answer-requires-clause-woken
 write_answer-requires-clause-woken g c =
@@ -27,12 +29,14 @@ write_answer-requires-clause-woken g c =
     let taken = c.in-Ok.ensures.digest in
     let said = c.serve-served.result in
     let put = c.put_registers.ensures.state in
-    let step = call_there s (state_by c.put_registers.new.self) mid hart c.args.trap.now.registers (λ parts. c.in-Ok.digest) said.answer said.zero put c.serve-served.ensures.step in
+    let step = call_there s (state_by c.put_registers.new.self) mid hart c.args.trap.now.registers
+    (λ parts. c.in-Ok.digest) said.answer said.zero put c.serve-served.ensures.step in
     may_wake mid (state_by c.wake_all-woken.new.monitor) hart c.wake_all-woken.result c.wake_all-woken.ensures.state c.wake_all-woken.ensures.marks
     (λ other known marked.
     let before = subst (λ t. other < t.harts) (c.serve-served.ensures.platform ∙ ap (λ (x : MonitorState). x.table.layout) put) known in (
       c.cite_invariant.ensures.worlds.marked other known marked,
-      marks_in_host (call_of file) (λ parts. c.in-Ok.digest) (with_running s hart file) hart said.answer said.zero mid other (c.requires.awake other before) step marked,
+      marks_in_host (call_of file) (λ parts. c.in-Ok.digest) (with_running s hart file) hart said.answer said.zero mid other
+          (c.requires.awake other before) step marked,
     ))
 
 pub returns-clause-served : goal.returns-clause-served
@@ -59,12 +63,14 @@ returns-clause-served g c =
         cleared = said.zero;
         mid = mid;
         asks = taken.2;
-        step = call_there s (state_by c.put_registers.new.self) mid trap.hart trap.registers (λ parts. c.in-Ok.digest) said.answer said.zero put c.serve-served.ensures.step;
+        step = call_there s (state_by c.put_registers.new.self) mid trap.hart trap.registers
+            (λ parts. c.in-Ok.digest) said.answer said.zero put c.serve-served.ensures.step;
         woken = c.wake_all-woken.ensures.state;
         goes_on = subst (λ (w : List Bool). IsAnswer new given trap.hart said.answer said.zero w bytes) c.wake_all-woken.ensures.marks is;
       });
     })
-    (quiet mid new c.wake_all-woken.ensures.state few) (ap (λ (x : MonitorState). x.table.layout) c.wake_all-woken.ensures.state ∙ platform) taken.3 taken.4 c.write_answer.ensures.bytes
+    (quiet mid new c.wake_all-woken.ensures.state few) (ap (λ (x : MonitorState). x.table.layout) c.wake_all-woken.ensures.state ∙ platform) taken.3 taken.4
+    c.write_answer.ensures.bytes
 
 pub returns-clause-reads : goal.returns-clause-reads
 returns-clause-reads g c = reads_then c.write_answer.result _ _ _ c.in-Ok.ensures.reads (c.write_answer.ensures.reads _)

@@ -11,10 +11,12 @@ use Rattle.trap_server.proofs.Served.{quiet, serves}
 use Rattle.trap_server.proofs.service.serve_stop.Goals as goal
 
 pub interrupt-load-requires-clause-hart : goal.interrupt-load-requires-clause-hart
-interrupt-load-requires-clause-hart g c = subst (λ (s : MonitorState). c.args.trap.now.hart < s.table.layout.harts) (sym c.put_registers.ensures.state) c.requires.hart
+interrupt-load-requires-clause-hart g c = subst (λ (s : MonitorState). c.args.trap.now.hart < s.table.layout.harts)
+    (sym c.put_registers.ensures.state) c.requires.hart
 
 pub interrupt-load-requires-clause-awake : goal.interrupt-load-requires-clause-awake
-interrupt-load-requires-clause-awake g c = ap (λ (s : MonitorState). s.marked c.args.trap.now.hart) c.put_registers.ensures.state ∙ c.requires.awake c.args.trap.now.hart c.requires.hart
+interrupt-load-requires-clause-awake g c = ap (λ (s : MonitorState). s.marked c.args.trap.now.hart) c.put_registers.ensures.state
+    ∙ c.requires.awake c.args.trap.now.hart c.requires.hart
 
 pub returns-clause-served : goal.returns-clause-served
 returns-clause-served g c =
@@ -41,4 +43,5 @@ returns-clause-served g c =
         goes_on = subst (λ (w : List Bool). IsAnswer new given trap.hart no_answer None w bytes) c.wake_all-woken.ensures.marks is;
       });
     })
-    (quiet mid new c.wake_all-woken.ensures.state few) (ap (λ (x : MonitorState). x.table.layout) c.wake_all-woken.ensures.state ∙ platform) (Consumes-nil before) (Appends-nil _) c.write_answer.ensures.bytes
+    (quiet mid new c.wake_all-woken.ensures.state few) (ap (λ (x : MonitorState). x.table.layout) c.wake_all-woken.ensures.state ∙ platform)
+    (Consumes-nil before) (Appends-nil _) c.write_answer.ensures.bytes

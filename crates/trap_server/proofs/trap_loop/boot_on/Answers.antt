@@ -15,11 +15,13 @@ returns-in-Err-NeedsMoreEntries-clause-boots g c =
     let why = subst (λ l. IsBootFault l (NeedsMoreEntries count)) c.into_inner.ensures told in
     refuse_why c.refuse.result (refusals.NeedsEntries count) _ _
     (λ f rest. (read : List ℕ) (after : Option (List ℕ)) → length read ≡ 1336 → IsPlatformFrame read layout → StopsAtFirst f read rest after)
-    c.refuse.ensures.last (λ read after size is. ((size, layout, is, why), refl)) (λ part off read after size is. inl (refusals.NeedsEntries count, (size, layout, is, why), off))
+    c.refuse.ensures.last (λ read after size is. ((size, layout, is, why), refl))
+    (λ part off read after size is. inl (refusals.NeedsEntries count, (size, layout, is, why), off))
 
 pub returns-in-Err-Memory-clause-boots : goal.returns-in-Err-Memory-clause-boots
 returns-in-Err-Memory-clause-boots g c =
     let layout = c.args.platform.value in
     refuse_why c.refuse-in-Err-Memory.result refusals.Memory _ _
     (λ f rest. (read : List ℕ) (after : Option (List ℕ)) → length read ≡ 1336 → IsPlatformFrame read layout → StopsAtFirst f read rest after)
-    c.refuse-in-Err-Memory.ensures.last (λ read after size is. ((size, layout, is), refl)) (λ part off read after size is. inl (refusals.Memory, (size, layout, is), off))
+    c.refuse-in-Err-Memory.ensures.last (λ read after size is. ((size, layout, is), refl))
+    (λ part off read after size is. inl (refusals.Memory, (size, layout, is), off))

@@ -14,7 +14,8 @@ pub returns-in-Ok-Err-clause-first : goal.returns-in-Ok-Err-clause-first
 returns-in-Ok-Err-clause-first g c =
     let after = g.R.Source.remaining c.read_platform.new.source in
     let read = subst (λ r. ReadsPlatform (Ok r) (g.R.Source.remaining c.args.source.now) after) c.in-Ok-Err.field-0-is c.in-Ok-Err.ensures.platform in
-    first_refused c.refuse-in-Ok-Err.result c.in-Ok-Err.refusal read.0 _ after _ _ (refuses_first c.in-Ok-Err.refusal read.0 after read.1 read.2) read.3 c.refuse-in-Ok-Err.ensures.last
+    first_refused c.refuse-in-Ok-Err.result c.in-Ok-Err.refusal read.0 _ after _ _
+    (refuses_first c.in-Ok-Err.refusal read.0 after read.1 read.2) read.3 c.refuse-in-Ok-Err.ensures.last
 
 pub returns-in-Err-new-clause-first : goal.returns-in-Err-new-clause-first
 returns-in-Err-new-clause-first g c =

@@ -38,5 +38,6 @@ returns-clause-others c =
     let old = c.args.self.now.parts in
     let s = state_in old in
     let placed = placed_from old c.args.self.now.whole in
-    let stays = others_irq (s.worlds c.args.hart) s c.args.hart (state_in c.pause.new.self) refl c.requires.hart (record { current = placed.current; alone = placed.alone; held = placed.held; marked = placed.marked }) c.pause.ensures.step in
+    let stays = others_irq (s.worlds c.args.hart) s c.args.hart (state_in c.pause.new.self) refl c.requires.hart
+    (record { current = placed.current; alone = placed.alone; held = placed.held; marked = placed.marked }) c.pause.ensures.step in
     record { awake = stays.awake; views = stays.views }

@@ -31,7 +31,8 @@ unfolding state_by
 returns-clause-awake g c =
     let file = past_call (running_registers (state_in c.args.self.now.parts) c.args.hart) in
     let s = with_running (state_in c.args.self.now.parts) c.args.hart file in
-    call_leaves_awake (call_of file) (g.D.Digests.digest_of c.args.digests.now) s c.args.hart c.serve.result.answer c.serve.result.zero (state_in c.serve.new.self) c.requires.awake c.serve.ensures.step
+    call_leaves_awake (call_of file) (g.D.Digests.digest_of c.args.digests.now) s c.args.hart c.serve.result.answer c.serve.result.zero
+    (state_in c.serve.new.self) c.requires.awake c.serve.ensures.step
 
 pub returns-clause-platform : goal.returns-clause-platform
 unfolding state_by
@@ -46,7 +47,8 @@ unfolding state_by
 returns-clause-need g c =
     let file = past_call (running_registers (state_in c.args.self.now.parts) c.args.hart) in
     let s = with_running (state_in c.args.self.now.parts) c.args.hart file in
-    call_refused_by_need (call_of file) (g.D.Digests.digest_of c.args.digests.now) s c.args.hart c.serve.result.answer c.serve.result.zero (state_in c.serve.new.self) c.cite_invariant.ensures.table c.serve.ensures.step
+    call_refused_by_need (call_of file) (g.D.Digests.digest_of c.args.digests.now) s c.args.hart c.serve.result.answer c.serve.result.zero
+    (state_in c.serve.new.self) c.cite_invariant.ensures.table c.serve.ensures.step
 
 pub returns-clause-others : goal.returns-clause-others
 unfolding state_by
@@ -55,7 +57,8 @@ returns-clause-others g c =
     let file = past_call (running_registers (state_in c.args.self.now.parts) c.args.hart) in
     let s = with_running (state_in old) c.args.hart file in
     let placed = placed_from old c.args.self.now.whole in
-    let stays = others_call (call_of file) (g.D.Digests.digest_of c.args.digests.now) s c.args.hart c.serve.result.answer c.serve.result.zero (state_in c.serve.new.self) c.requires.hart
+    let stays = others_call (call_of file) (g.D.Digests.digest_of c.args.digests.now) s c.args.hart c.serve.result.answer c.serve.result.zero
+    (state_in c.serve.new.self) c.requires.hart
     (record { current = placed.current; alone = placed.alone; held = placed.held; marked = placed.marked }) c.serve.ensures.step in
     record { awake = stays.awake; views = stays.views }
 
@@ -64,4 +67,5 @@ unfolding state_by
 returns-clause-zeroed g c =
     let file = past_call (running_registers (state_in c.args.self.now.parts) c.args.hart) in
     let s = with_running (state_in c.args.self.now.parts) c.args.hart file in
-    call_clears_memory (call_of file) (g.D.Digests.digest_of c.args.digests.now) s c.args.hart c.serve.result.answer c.serve.result.zero (state_in c.serve.new.self) c.cite_invariant.ensures.table c.serve.ensures.step
+    call_clears_memory (call_of file) (g.D.Digests.digest_of c.args.digests.now) s c.args.hart c.serve.result.answer c.serve.result.zero
+    (state_in c.serve.new.self) c.cite_invariant.ensures.table c.serve.ensures.step

@@ -17,7 +17,9 @@ answer_and_mark-requires g c =
     record {
       on = record {
         known = subst (λ t. c.args.hart < t.layout.harts) (sym done.added) c.requires.on.known;
-        whole = whole_placed old.table c.create_by.new.self old.worlds old.marked c.in-Ok.id _ c.requires.on.whole done.next.free.0 (free_runs_nowhere old.table old.worlds old.marked c.in-Ok.id c.requires.on.whole done.next.free.2) (made_rests (g.D.Digests.digest_of c.args.digests.now) (parts_of c.args.asked)) done.added;
+        whole = whole_placed old.table c.create_by.new.self old.worlds old.marked c.in-Ok.id _ c.requires.on.whole done.next.free.0
+            (free_runs_nowhere old.table old.worlds old.marked c.in-Ok.id c.requires.on.whole done.next.free.2)
+            (made_rests (g.D.Digests.digest_of c.args.digests.now) (parts_of c.args.asked)) done.added;
       };
     }
 
@@ -38,8 +40,11 @@ returns-in-Err-clause-step g c =
     let said = c.refuse_for.result in
     inr (
       c.in-Err.refusal,
-      subst (λ w. RefusesBy (create_checks old.table.table w (parts_of c.args.asked)) (OutgrowsByCreate (g.D.Digests.digest_of c.args.digests.now) old.table.table c.args.asked) c.in-Err.refusal) c.world-world.ensures c.in-Err.ensures.refused,
-      subst (λ k. Refuses (refusal_number c.in-Err.refusal) (state_in (record old { table = k })) c.args.hart said.answer said.zero (state_in c.refuse_for.new.self)) c.in-Err.ensures.kept c.refuse_for.ensures.step,
+      subst (λ w. RefusesBy (create_checks old.table.table w (parts_of c.args.asked))
+          (OutgrowsByCreate (g.D.Digests.digest_of c.args.digests.now) old.table.table c.args.asked) c.in-Err.refusal) c.world-world.ensures
+          c.in-Err.ensures.refused,
+      subst (λ k. Refuses (refusal_number c.in-Err.refusal) (state_in (record old { table = k })) c.args.hart said.answer said.zero
+          (state_in c.refuse_for.new.self)) c.in-Err.ensures.kept c.refuse_for.ensures.step,
     )
 
 pub returns-in-Ok-clause-frame : goal.returns-in-Ok-clause-frame
@@ -54,4 +59,5 @@ pub returns-in-Ok-clause-load : goal.returns-in-Ok-clause-load
 returns-in-Ok-clause-load g c = λ table world.
     let old = c.args.self.now in
     let done = c.in-Ok.ensures.done in
-    not_added old.table.table c.create_by.new.self.table c.in-Ok.id _ c.cite_invariant.ensures.table done.next done.added (ap (λ k. k.table) (sym c.answer_and_mark.ensures.table) ∙ table)
+    not_added old.table.table c.create_by.new.self.table c.in-Ok.id _ c.cite_invariant.ensures.table done.next done.added
+    (ap (λ k. k.table) (sym c.answer_and_mark.ensures.table) ∙ table)

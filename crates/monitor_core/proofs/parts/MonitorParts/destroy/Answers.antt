@@ -24,9 +24,11 @@ answer_and_mark-requires c =
     record {
       on = record {
         known = subst (λ t. c.args.hart < t.layout.harts) (sym (ap (λ k. k.table) c.drop_registers.ensures.table ∙ done.removed)) c.requires.on.known;
-        whole = whole_same now dropped.table old.worlds dropped.worlds old.marked dropped.marked c.drop_registers.ensures.table c.drop_registers.ensures.worlds c.drop_registers.ensures.marks
+        whole = whole_same now dropped.table old.worlds dropped.worlds old.marked dropped.marked c.drop_registers.ensures.table c.drop_registers.ensures.worlds
+            c.drop_registers.ensures.marks
             (whole_placed old.table now old.worlds old.marked c.args.id None c.requires.on.whole (live_above old.table.table.enclaves c.args.id e.0 e.1)
-            (gone_runs_nowhere old.table old.worlds old.marked c.world-world.result c.args.id c.in-Ok.range now.table c.requires.on.whole done) none_rests done.removed);
+            (gone_runs_nowhere old.table old.worlds old.marked c.world-world.result c.args.id c.in-Ok.range now.table c.requires.on.whole done) none_rests
+            done.removed);
       };
     }
 
@@ -38,7 +40,12 @@ returns-in-Ok-clause-step c =
       c.in-Ok.range,
       now,
       subst (λ w. Destroys old.table.table w c.args.id c.in-Ok.range now) c.world-world.ensures c.in-Ok.ensures.done,
-      record { state = c.answer_and_mark.ensures.state ∙ ap (λ s. marking_others (answering s c.args.hart 0 0) c.args.hart) c.drop_registers.ensures.state; told = c.done.ensures; zeroes = refl },
+      record {
+        state = c.answer_and_mark.ensures.state ∙ ap (λ s. marking_others (answering s c.args.hart 0 0) c.args.hart) c.drop_registers.ensures.state;
+        told
+            = c.done.ensures;
+        zeroes = refl;
+      },
     )
 
 pub returns-in-Err-clause-step : goal.returns-in-Err-clause-step
@@ -47,8 +54,11 @@ returns-in-Err-clause-step c =
     let said = c.refuse_for.result in
     inr (
       c.in-Err.refusal,
-      subst (λ w. RefusesBy (host_checks MayDestroy old.table.table w c.args.id) (NeedsMore old.table.table.layout.limit (host_view (with_enclave old.table.table c.args.id None))) c.in-Err.refusal) c.world-world.ensures c.in-Err.ensures.refused,
-      subst (λ k. Refuses (refusal_number c.in-Err.refusal) (state_in (record old { table = k })) c.args.hart said.answer said.zero (state_in c.refuse_for.new.self)) c.in-Err.ensures.kept c.refuse_for.ensures.step,
+      subst (λ w. RefusesBy (host_checks MayDestroy old.table.table w c.args.id)
+          (NeedsMore old.table.table.layout.limit (host_view (with_enclave old.table.table c.args.id None))) c.in-Err.refusal) c.world-world.ensures
+          c.in-Err.ensures.refused,
+      subst (λ k. Refuses (refusal_number c.in-Err.refusal) (state_in (record old { table = k })) c.args.hart said.answer said.zero
+          (state_in c.refuse_for.new.self)) c.in-Err.ensures.kept c.refuse_for.ensures.step,
     )
 
 pub returns-in-Ok-clause-frame : goal.returns-in-Ok-clause-frame
@@ -57,11 +67,13 @@ returns-in-Ok-clause-frame c =
     let now = c.destroy.new.self in
     let done = c.in-Ok.ensures.done in
     let e = done.passes.1.0 in
-    frame_placed old c.answer_and_mark.new.self now c.args.id None c.answer_and_mark.ensures.whole (c.answer_and_mark.ensures.table ∙ c.drop_registers.ensures.table) done.removed
+    frame_placed old c.answer_and_mark.new.self now c.args.id None c.answer_and_mark.ensures.whole
+    (c.answer_and_mark.ensures.table ∙ c.drop_registers.ensures.table) done.removed
     (not_removed old.table.table now.table c.args.id e.0 e.1 done.removed)
 
 pub returns-in-Ok-clause-load : goal.returns-in-Ok-clause-load
 returns-in-Ok-clause-load c = λ table world.
     let done = c.in-Ok.ensures.done in
     let e = done.passes.1.0 in
-    not_removed c.args.self.now.table.table c.destroy.new.self.table c.args.id e.0 e.1 done.removed (ap (λ k. k.table) (sym (c.answer_and_mark.ensures.table ∙ c.drop_registers.ensures.table)) ∙ table)
+    not_removed c.args.self.now.table.table c.destroy.new.self.table c.args.id e.0 e.1 done.removed
+    (ap (λ k. k.table) (sym (c.answer_and_mark.ensures.table ∙ c.drop_registers.ensures.table)) ∙ table)

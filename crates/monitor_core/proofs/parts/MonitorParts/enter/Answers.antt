@@ -17,8 +17,10 @@ returns-in-Err-clause-step c =
     let said = c.refuse_for.result in
     inr (
       c.in-Err.refusal,
-      subst (λ w. FailsFirst (host_checks (λ state. state ≡ state_before c.args.entering) old.table.table w c.args.id) c.in-Err.refusal) c.world-world.ensures c.in-Err.ensures.refused,
-      subst (λ k. Refuses (refusal_number c.in-Err.refusal) (state_in (record old { table = k })) c.args.hart said.answer said.zero (state_in c.refuse_for.new.self)) c.in-Err.ensures.kept c.refuse_for.ensures.step,
+      subst (λ w. FailsFirst (host_checks (λ state. state ≡ state_before c.args.entering) old.table.table w c.args.id) c.in-Err.refusal) c.world-world.ensures
+          c.in-Err.ensures.refused,
+      subst (λ k. Refuses (refusal_number c.in-Err.refusal) (state_in (record old { table = k })) c.args.hart said.answer said.zero
+          (state_in c.refuse_for.new.self)) c.in-Err.ensures.kept c.refuse_for.ensures.step,
     )
 
 pub returns-clause-step : goal.returns-clause-step
@@ -32,7 +34,9 @@ returns-clause-step c =
       done.turned.1,
       subst (λ w. Enters old.table.table w c.args.id (state_before c.args.entering) now) c.world-world.ensures done,
       record {
-        state = c.go_to.ensures.state ∙ ap (λ s. in_world s c.args.hart (InEnclave c.args.id)) (c.prepare.ensures.state done.turned.0 (entry_is old.table.table now c.args.id c.in-Some.pc _ done.turned (sym c.in-Some.is ∙ c.entry_point.ensures)));
+        state = c.go_to.ensures.state ∙ ap (λ s. in_world s c.args.hart (InEnclave c.args.id))
+            (c.prepare.ensures.state done.turned.0 (entry_is old.table.table now c.args.id c.in-Some.pc _ done.turned
+            (sym c.in-Some.is ∙ c.entry_point.ensures)));
         told = c.done.ensures;
         zeroes = refl;
       },
@@ -45,5 +49,7 @@ returns-clause-frame c =
     let new = c.go_to.new.self in
     let to = InEnclave c.args.id in
     let went = λ (i : ℕ). ap (λ s. s.worlds i) c.go_to.ensures.state ∙ ap (λ ws. if i == c.args.hart then to else world_in ws i) c.prepare.ensures.worlds in
-    let turns = entering_turns old.table now old.worlds new.worlds old.marked c.args.hart c.args.id c.world-world.result c.args.entering c.requires.on.whole c.world-world.ensures c.in-Ok.ensures.done c.requires.on.known c.requires.awake went in
-    frame_turned old new now c.args.hart c.args.id to c.requires.on.whole turns (c.go_to.ensures.table ∙ c.prepare.ensures.table) (c.go_to.ensures.marks ∙ c.prepare.ensures.marks) c.in-Ok.ensures.lists
+    let turns = entering_turns old.table now old.worlds new.worlds old.marked c.args.hart c.args.id c.world-world.result c.args.entering c.requires.on.whole
+    c.world-world.ensures c.in-Ok.ensures.done c.requires.on.known c.requires.awake went in
+    frame_turned old new now c.args.hart c.args.id to c.requires.on.whole turns (c.go_to.ensures.table ∙ c.prepare.ensures.table)
+    (c.go_to.ensures.marks ∙ c.prepare.ensures.marks) c.in-Ok.ensures.lists

@@ -17,4 +17,5 @@ returns-in-Ok-clause-step c =
     let old = c.args.self.now in
     let new = c.leave.new.self in
     let d = c.in-Ok.ensures.done in
-    subst (λ w. Interrupts w (state_in old) c.args.hart (state_in new)) (sym d.1.left) (new.table.table, subst (λ w. Leaves old.table.table w Stopped d.0 new.table.table) d.1.left d.1, d.2)
+    subst (λ w. Interrupts w (state_in old) c.args.hart (state_in new)) (sym d.1.left)
+    (new.table.table, subst (λ w. Leaves old.table.table w Stopped d.0 new.table.table) d.1.left d.1, d.2)

@@ -6,4 +6,5 @@ use Rattle.monitor_core.proofs.parts.MonitorParts.refuse_for.Goals as goal
 pub returns-clause-step : goal.returns-clause-step
 returns-clause-step c =
     let said = c.refuse.result in
-    subst (λ n. Refuses n (state_in c.args.self.now) c.args.hart said.answer said.zero (state_in c.refuse.new.self)) (c.from.ensures ∙ c.number.ensures) c.refuse.ensures.step
+    subst (λ n. Refuses n (state_in c.args.self.now) c.args.hart said.answer said.zero (state_in c.refuse.new.self))
+    (c.from.ensures ∙ c.number.ensures) c.refuse.ensures.step

@@ -14,5 +14,7 @@ returns-clause-step g c =
     let said = c.call.result in
     let new = state_in c.call.new.self in
     let put : state_in c.pass_call.new.self ≡ with_running s c.args.hart file = c.pass_call.ensures.state in
-    subst (λ x. DoesCall (call_of x) (g.D.Digests.digest_of c.args.digests.now) (with_running s c.args.hart file) c.args.hart said.answer said.zero new) (put_there s c.args.hart file)
-    (subst (λ x. DoesCall (call_of (running_registers x c.args.hart)) (g.D.Digests.digest_of c.args.digests.now) x c.args.hart said.answer said.zero new) put c.call.ensures.step)
+    subst (λ x. DoesCall (call_of x) (g.D.Digests.digest_of c.args.digests.now) (with_running s c.args.hart file) c.args.hart said.answer said.zero new)
+    (put_there s c.args.hart file)
+    (subst (λ x. DoesCall (call_of (running_registers x c.args.hart)) (g.D.Digests.digest_of c.args.digests.now) x c.args.hart said.answer said.zero new) put
+    c.call.ensures.step)

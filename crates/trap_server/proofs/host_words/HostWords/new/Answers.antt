@@ -8,4 +8,5 @@ use Rattle.trap_server.proofs.host_words.HostWords.new.Goals as goal
 
 pub returns : goal.returns
 unfolding host_words
-returns c = fun_ext (λ hart. ap (λ (x : ControlWords). slice_index_or (x ∷ (x ∷ (x ∷ (x ∷ [])))) hart first_host_words) c.of_first_host.ensures ∙ all_same first_host_words hart)
+returns c = fun_ext (λ hart. ap (λ (x : ControlWords). slice_index_or (x ∷ (x ∷ (x ∷ (x ∷ [])))) hart first_host_words) c.of_first_host.ensures
+    ∙ all_same first_host_words hart)
