@@ -9,18 +9,21 @@ use Rattle.certificate_check.specs.Spans.{IsSpanOf, ReadsAs, Covers, AreBlocks, 
 
 -- of two blocks of one size that have a page in common none begins before the other
 not_before :
-    (e f : Entry) (s t : Span) (page : ℕ) → IsSpanOf e s → IsSpanOf f t → e.region.log2 ≡ f.region.log2 → Covers s page → Covers t page → e.region.base < f.region.base → ⊥
+    (e f : Entry) (s t : Span) (page : ℕ) → IsSpanOf e s → IsSpanOf f t → e.region.log2 ≡ f.region.log2 → Covers s page → Covers t page
+    → e.region.base < f.region.base → ⊥
 not_before e f s t page p q same here there less =
     let m : ℕ = 2 ^ e.region.log2 in
     let a : IsMultiple m e.region.base = multiple_from_mod m e.region.base e.region.block.aligned in
-    let b : IsMultiple m f.region.base = subst (λ (k : ℕ). IsMultiple (2 ^ k) f.region.base) (sym same) (multiple_from_mod (2 ^ f.region.log2) f.region.base f.region.block.aligned) in
+    let b : IsMultiple m f.region.base = subst (λ (k : ℕ). IsMultiple (2 ^ k) f.region.base) (sym same)
+    (multiple_from_mod (2 ^ f.region.log2) f.region.base f.region.block.aligned) in
     let gap : e.region.base + 2 ^ e.region.log2 ≤ f.region.base = next_multiple m e.region.base f.region.base a b less in
     let past : page < s.end = here.1 in
     let begun : t.first ≤ page = there.0 in
     omega (arith, p.last, q.first, gap, past, begun)
 
 same_block :
-    (e f : Entry) (s t : Span) (page : ℕ) → IsSpanOf e s → IsSpanOf f t → s.size ≡ t.size → Covers s page → Covers t page → (s.first ≡ t.first) × (s.end ≡ t.end)
+    (e f : Entry) (s t : Span) (page : ℕ) → IsSpanOf e s → IsSpanOf f t → s.size ≡ t.size → Covers s page → Covers t page
+    → (s.first ≡ t.first) × (s.end ≡ t.end)
 same_block e f s t page p q size here there =
     let same : e.region.log2 ≡ f.region.log2 = omega (arith, p.size, q.size, size) in
     let long : 2 ^ e.region.log2 ≡ 2 ^ f.region.log2 = ap (λ k. 2 ^ k) same in

@@ -16,7 +16,8 @@ chains_append spans a (x ∷ xs) m k r chain = (r.0, chains_append spans x xs m 
 
 -- one more span that begins where all before it have ended
 pub chain_grown :
-    (spans : ℕ → Span) (from i last first : ℕ) → first ≡ (spans i).first → last ≤ first → IsChain spans from i → ((j : ℕ) → from ≤ j → j < i → (spans j).end ≤ last)
+    (spans : ℕ → Span) (from i last first : ℕ) → first ≡ (spans i).first → last ≤ first → IsChain spans from i
+    → ((j : ℕ) → from ≤ j → j < i → (spans j).end ≤ last)
     → IsChain spans from (i + 1)
 chain_grown spans from i last first is after chain ended j k low less high =
     ⊎_elim (λ below. chain j k low less below)
@@ -63,14 +64,16 @@ IsNextInChain spans from to page s = (i : ℕ) × (from ≤ i) × (i < to) × Ha
 
 -- the next of a chain covers the page
 pub chain_decided :
-    (spans : ℕ → Span) (count page end to' from to : ℕ) (s : Span) → IsNextInChain spans from to page s → to ≤ count → s.first ≤ page → page < s.end → to' ≡ min end s.end
+    (spans : ℕ → Span) (count page end to' from to : ℕ) (s : Span) → IsNextInChain spans from to page s → to ≤ count → s.first ≤ page → page < s.end
+    → to' ≡ min end s.end
     → AreClear spans from page end → (at : ℕ) → page ≤ at → at < to' → Decides spans count at s.perm
 chain_decided spans count page end to' from to s (i, low, high, ended, is) inside first last shorter clear =
     decided_by spans count page end to' i s is (omega arith) first last shorter (clear_past spans from i page end clear ended)
 
 -- the next of a chain begins later, up to where it begins
 pub chain_clear_later :
-    (spans : ℕ → Span) (page end to' from to : ℕ) (s : Span) → IsNextInChain spans from to page s → IsChain spans from to → s.first < s.end → to' ≡ min end s.first
+    (spans : ℕ → Span) (page end to' from to : ℕ) (s : Span) → IsNextInChain spans from to page s → IsChain spans from to → s.first < s.end
+    → to' ≡ min end s.first
     → AreClear spans from page end → AreClear spans to page to'
 chain_clear_later spans page end to' from to s (i, low, high, ended, is) chain some shorter clear j at below after before covers =
     ⊎_elim (λ less. clear_past spans from i page end clear ended j at less after (omega arith) covers)

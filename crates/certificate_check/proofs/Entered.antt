@@ -1,5 +1,6 @@
 -- The spans of a list of entries, and what they decide.
-use Rattle.std.proofs.Common.{◌≡◌, ℕ, zero, suc, ◌+◌, ◌*◌, ◌/◌, ◌-◌, ◌^◌, ◌<◌, ◌≤◌, ◌↔◌, Bool, true, false, cond, nat_le, nat_lt, List, [], ◌∷◌, ◌++◌, length, take, drop, length-append, IsTrue, arith, sym, subst, ap, refl, ◌∙◌}
+use Rattle.std.proofs.Common.{◌≡◌, ℕ, zero, suc, ◌+◌, ◌*◌, ◌/◌, ◌-◌, ◌^◌, ◌<◌, ◌≤◌, ◌↔◌, Bool, true, false, cond, nat_le, nat_lt, List, [], ◌∷◌, ◌++◌, length}
+use Rattle.std.proofs.Common.{take, drop, length-append, IsTrue, arith, sym, subst, ap, refl, ◌∙◌}
 use Rattle.std.specs.Prelude.{slice_index}
 use Rattle.std.specs.List.{All}
 use Rattle.std.proofs.Math.Seq.{drop-append-add}
@@ -58,8 +59,10 @@ later_at : (before rest : List ℕ) (j : ℕ) (s : Span) → length before ≡ 9
 later_at before rest j s nine at =
     let index : 9 * suc j ≡ length before + 9 * j = omega (arith, nine) in
     let behind : 9 * suc j + 1 ≡ length before + (9 * j + 1) = omega (arith, nine) in
-    let cfg : slice_index (before ++ rest) (9 * suc j) ≡ slice_index rest (9 * j) = ap (λ n. slice_index (before ++ rest) n) index ∙ get_or-append-add before rest (9 * j) 0 in
-    let tail : drop (9 * suc j + 1) (before ++ rest) ≡ drop (9 * j + 1) rest = ap (λ n. drop n (before ++ rest)) behind ∙ drop-append-add before rest (9 * j + 1) in
+    let cfg : slice_index (before ++ rest) (9 * suc j) ≡ slice_index rest (9 * j) = ap (λ n. slice_index (before ++ rest) n) index
+    ∙ get_or-append-add before rest (9 * j) 0 in
+    let tail : drop (9 * suc j + 1) (before ++ rest) ≡ drop (9 * j + 1) rest = ap (λ n. drop n (before ++ rest)) behind
+    ∙ drop-append-add before rest (9 * j + 1) in
     record {
       entry = at.entry;
       means = subst (λ (n : ℕ). MeansEntry n (little_number 8 (drop (9 * suc j + 1) (before ++ rest))) at.entry) (sym cfg)
@@ -117,7 +120,8 @@ covers_to e page h covers =
 
 -- the spans after the first
 behind_first :
-    (e : Entry) (es : List Entry) (n page : ℕ) (p : Perm) → (Covers (span_for e) page → ⊥) → Decides (spans_of es) n page p → Decides (spans_of (e ∷ es)) (suc n) page p
+    (e : Entry) (es : List Entry) (n page : ℕ) (p : Perm) → (Covers (span_for e) page → ⊥) → Decides (spans_of es) n page p
+    → Decides (spans_of (e ∷ es)) (suc n) page p
 behind_first e es n page p missed (first i below here before) =
     first (suc i) (omega arith) here (λ j less covers. earlier j less covers)
   where
@@ -154,16 +158,19 @@ all_pages (e ∷ es) h (suc k) d less = all_pages es h.1 k d (omega arith)
 
 decides_means :
     (es : List Entry) (view : View) → AreNoSubPages es → ((page : ℕ) → page < 2 ^ 44 → Decides (spans_of es) (length es) page (view page)) → Means es view
-decides_means es view pages all = (page_law_proof es view (all_pages es pages)).1 (λ page small. one_decided (spans_of es) (length es) page _ _ (decides_listed es page pages) (all page small))
+decides_means es view pages all = (page_law_proof es view (all_pages es pages)).1
+    (λ page small. one_decided (spans_of es) (length es) page _ _ (decides_listed es page pages) (all page small))
 
 means_decides :
     (es : List Entry) (view : View) → AreNoSubPages es → Means es view → (page : ℕ) → page < 2 ^ 44 → Decides (spans_of es) (length es) page (view page)
-means_decides es view pages means page small = subst (λ (p : Perm). Decides (spans_of es) (length es) page p) (Means_at es view means page small) (decides_listed es page pages)
+means_decides es view pages means page small = subst (λ (p : Perm). Decides (spans_of es) (length es) page p) (Means_at es view means page small)
+    (decides_listed es page pages)
 
 -- an answer for every way to read the spans is one on the meaning
 pub meaning :
     (listed : List ℕ) (es : List Entry) (view : View) (said : Bool) → SpellsEntries listed es → AreNoSubPages es
-    → ((spans : ℕ → Span) → ReadsAs listed spans → IsTrue said ↔ ((page : ℕ) → page < 2 ^ 44 → Decides spans (count_in listed) page (view page))) → IsTrue said ↔ Means es view
+    → ((spans : ℕ → Span) → ReadsAs listed spans → IsTrue said ↔ ((page : ℕ) → page < 2 ^ 44 → Decides spans (count_in listed) page (view page)))
+    → IsTrue said ↔ Means es view
 meaning listed es view said spelled pages answer =
     let here = answer (spans_of es) (reads_listed listed es spelled pages) in
     let count : count_in listed ≡ length es = count_listed listed es spelled in (

@@ -1,5 +1,6 @@
 -- A sound bound of a map's view is small: for each size at most one for each end of a run inside the space, and one more.
-use Rattle.std.proofs.Common.{◌≡◌, ℕ, zero, suc, ◌+◌, ◌*◌, ◌^◌, ◌<◌, ◌≤◌, List, [], ◌∷◌, length, Result, Ok, Err, Bool, true, false, cond, ⊎_elim, pow_pos, pow-suc, add_assoc, mul-le-mul_left, mul-add, suc-mul, arith, sym, refl, ap, ◌∙◌}
+use Rattle.std.proofs.Common.{◌≡◌, ℕ, zero, suc, ◌+◌, ◌*◌, ◌^◌, ◌<◌, ◌≤◌, List, [], ◌∷◌, length, Result, Ok, Err, Bool, true, false, cond, ⊎_elim, pow_pos}
+use Rattle.std.proofs.Common.{pow-suc, add_assoc, mul-le-mul_left, mul-add, suc-mul, arith, sym, refl, ap, ◌∙◌}
 use Rattle.std.specs.Prelude.{IfOk, nat_lt, ◌&&◌, if◌then◌else◌}
 use Rattle.std.proofs.lemmas.Bool.{cases_lt, eq-eqb}
 use Rattle.std.proofs.lemmas.Bool.Decides.{nat_tests}
@@ -46,11 +47,13 @@ same_side :
     → in_range start count page ≡ in_range start count first
 same_side first end start count page a b from to = grind (arith, nat_tests, common_steps)
 
-one_permission : (runs : List Run) (first end page : ℕ) → edges runs first end ≡ 0 → first ≤ page → page < end → view_of_runs runs page ≡ view_of_runs runs first
+one_permission : (runs : List Run) (first end page : ℕ) → edges runs first end ≡ 0 → first ≤ page → page < end
+    → view_of_runs runs page ≡ view_of_runs runs first
 one_permission [] first end page none from to = refl
 one_permission (run ∷ runs) first end page none from to =
     let later : view_of_runs runs page ≡ view_of_runs runs first = one_permission runs first end page (omega arith) from to in
-    let side : in_range run.first run.count page ≡ in_range run.first run.count first = same_side first end run.first run.count page (omega arith) (omega arith) from to in
+    let side : in_range run.first run.count page ≡ in_range run.first run.count first = same_side first end run.first run.count page (omega arith)
+    (omega arith) from to in
     ap (λ t. cond t run.perm (view_of_runs runs page)) side ∙ ap (λ p. cond (in_range run.first run.count first) run.perm p) later
 
 -- ---- the bound of a block of one permission
@@ -81,7 +84,11 @@ uniform_small view (suc k) first (Branch bounds lower upper) perm uniform (low, 
     let double : 2 ^ suc k ≡ 2 ^ k * 2 = pow-suc 2 k in
     let l = uniform_small view k first lower perm (λ i less. uniform i (omega arith)) low in
     let u = uniform_small view k (first + 2 ^ k) upper perm (λ i less. rw add_assoc (uniform (2 ^ k + i) (omega arith))) high in
-    record { own = (let s = same perm in let a = l.own in let b = u.own in omega arith); any = λ p. let s = any p perm in let a = l.own in let b = u.own in omega arith }
+    record {
+      own = (let s = same perm in let a = l.own in let b = u.own in omega arith);
+      any = λ p. let s = any p perm in let a = l.own in let b = u.own in
+          omega arith;
+    }
 
 -- ---- the bound of any block
 
@@ -92,7 +99,8 @@ halves_most k e e1 e2 split some =
     let more : suc k * e ≡ k * e + e = suc-mul k e in
     omega arith
 
-bound_most : (runs : List Run) (k first : ℕ) (tree : BoundTree) → IsSoundAt (view_of_runs runs) k first tree → (p : Perm) → bound_of tree p ≤ 1 + k * edges runs first (first + 2 ^ k)
+bound_most : (runs : List Run) (k first : ℕ) (tree : BoundTree) → IsSoundAt (view_of_runs runs) k first tree → (p : Perm)
+    → bound_of tree p ≤ 1 + k * edges runs first (first + 2 ^ k)
 bound_most runs k first (Leaf q) sound p = let l = leaf_most q p in omega arith
 bound_most runs zero first (Branch bounds lower upper) sound p = absurd sound
 bound_most runs (suc k) first (Branch bounds lower upper) (low, high, same, any) p =

@@ -53,7 +53,8 @@ magic_grows held later BadTag enough h = h
 magic_grows held later BadPerm enough h = h
 magic_grows held later BadLimit enough h = h
 
-version_grows : (held rest later : List ℕ) (fault : ReadFault) → 10 ≤ length held → held ≡ magic ++ rest → VersionFault rest fault → VersionFault (rest ++ later) fault
+version_grows : (held rest later : List ℕ) (fault : ReadFault) → 10 ≤ length held → held ≡ magic ++ rest → VersionFault rest fault
+    → VersionFault (rest ++ later) fault
 version_grows held rest later Truncated enough e (inl h) = absurd (omega (arith, enough, ap length e, ap length h))
 version_grows held rest later Truncated enough e (inr h) = absurd (omega (arith, enough, ap length e, ap length h))
 version_grows held rest later BadVersion enough e (b, more, same, not_one, not_two) = (b, more ++ later, ap (λ xs. xs ++ later) same, not_one, not_two)
@@ -66,7 +67,8 @@ version_long : (version : Version) → length (version_bytes version) ≤ 2
 version_long One = omega arith
 version_long (Two limit) = omega arith
 
-count_there : (held rest : List ℕ) (version : Version) (fault : ReadFault) (P : Type 0) → 10 ≤ length held → held ≡ magic ++ (version_bytes version ++ rest) → ShortFault 4 rest fault → P
+count_there : (held rest : List ℕ) (version : Version) (fault : ReadFault) (P : Type 0) → 10 ≤ length held → held ≡ magic ++ (version_bytes version ++ rest)
+    → ShortFault 4 rest fault → P
 count_there held rest version Truncated P enough e h =
     absurd (omega (arith, enough, ap length e, length-append (version_bytes version) rest, version_long version, h))
 count_there held rest version BadMagic P enough e h = absurd h
@@ -78,7 +80,8 @@ count_there held rest version BadLimit P enough e h = absurd h
 pub header_grows : (held later : List ℕ) (fault : ReadFault) → AreEnough 10 held later → HeaderFault held fault → HeaderFault (held ++ later) fault
 header_grows held later fault (inr none) h = nothing_more (λ xs. HeaderFault xs fault) held later none h
 header_grows held later fault (inl enough) (in_magic h) = in_magic (magic_grows held later fault enough h)
-header_grows held later fault (inl enough) (in_version rest e h) = in_version (rest ++ later) (ap (λ xs. xs ++ later) e) (version_grows held rest later fault enough e h)
+header_grows held later fault (inl enough) (in_version rest e h) = in_version (rest ++ later) (ap (λ xs. xs ++ later) e)
+    (version_grows held rest later fault enough e h)
 header_grows held later fault (inl enough) (in_count version rest e h) = count_there held rest version fault (HeaderFault (held ++ later) fault) enough e h
 
 pub entry_grows : (held later : List ℕ) (refusal : CheckRefusal) → AreEnough 9 held later → EntryFault held refusal → EntryFault (held ++ later) refusal

@@ -61,7 +61,8 @@ whole_read view bytes behind middle rest header entries tree headed small counte
 }
 
 pub right_from_whole :
-    (view : View) (bytes rest : List ℕ) (entries : List Entry) (tree : BoundTree) (n : ℕ) → IsReadWhole view bytes rest entries tree → rest ≡ [] → length entries ≡ n
+    (view : View) (bytes rest : List ℕ) (entries : List Entry) (tree : BoundTree) (n : ℕ) → IsReadWhole view bytes rest entries tree → rest ≡ []
+    → length entries ≡ n
     → length entries ≤ bound_of tree NoAccess → Means entries view → IsRight view bytes n
 right_from_whole view bytes rest entries tree n whole end count few means =
     let listed = whole.listed in
@@ -76,7 +77,8 @@ right_from_whole view bytes rest entries tree n whole end count few means =
       certificate = record {
         spells = record {
           listed = listed.listed;
-          spelled = whole.headed ∙ ap (λ xs. xs ++ whole.behind) header ∙ ap (λ xs. header_bytes (record { version = whole.header.version; count = length entries }) ++ xs) behind;
+          spelled = whole.headed ∙ ap (λ xs. xs ++ whole.behind) header ∙ ap
+              (λ xs. header_bytes (record { version = whole.header.version; count = length entries }) ++ xs) behind;
           counted = (let c = whole.counted in let s = whole.small in omega arith);
           in_order = listed.spelled;
           fits = whole.right.fits;
@@ -100,7 +102,8 @@ fewest_of view bytes n h = record {
   count = h.count;
   fewest = record {
     means = h.means;
-    least = λ others m. (let most : bound_of h.tree NoAccess ≤ length others = least view h.tree others h.sound m in let few = h.certificate.few in omega arith);
+    least = λ others m. (let most : bound_of h.tree NoAccess ≤ length others = least view h.tree others h.sound m in let few = h.certificate.few in omega
+        arith);
   };
 }
 
@@ -118,6 +121,7 @@ if_least view bytes (Ok n) h = λ others m.
     omega arith)
 if_least view bytes (Err r) h = tt
 
-pub right_where : (view : View) (bytes : List ℕ) (result : Result ℕ CheckRefusal) (n : ℕ) → IfOk result (IsRight view bytes) → result ≡ Ok n → IsRight view bytes n
+pub right_where : (view : View) (bytes : List ℕ) (result : Result ℕ CheckRefusal) (n : ℕ) → IfOk result (IsRight view bytes) → result ≡ Ok n
+    → IsRight view bytes n
 right_where view bytes (Ok m) n h e = subst (λ (k : ℕ). IsRight view bytes k) (cc) h
 right_where view bytes (Err r) n h e = absurd (cc)

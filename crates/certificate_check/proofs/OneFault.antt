@@ -50,7 +50,8 @@ data PartFault (view : View) (bytes : List ℕ) (refusal : CheckRefusal) : Type 
       (header : Header) (rest : List ℕ) → bytes ≡ header_bytes header ++ rest → header.count < 2 ^ 32 → EntriesFault view rest header.count refusal
       → PartFault view bytes refusal
 
-last_part : (view : View) (bytes rest : List ℕ) (entries : List Entry) (tree : BoundTree) (refusal : CheckRefusal) → IsReadWhole view bytes rest entries tree → LastFault view entries tree rest refusal → PartFault view bytes refusal
+last_part : (view : View) (bytes rest : List ℕ) (entries : List Entry) (tree : BoundTree) (refusal : CheckRefusal) → IsReadWhole view bytes rest entries tree
+    → LastFault view entries tree rest refusal → PartFault view bytes refusal
 last_part view bytes rest entries tree refusal whole fault =
     past_header whole.header whole.behind whole.headed whole.small
     (past_entries entries (node_bytes tree ++ rest) whole.listed (sym whole.counted) (past_root tree rest refl whole.right fault))
@@ -70,7 +71,8 @@ few_or_many : (m n : ℕ) → m < n → n ≤ m → ⊥
 few_or_many m n h w = omega (arith, h, w)
 
 last_once :
-    (view : View) (entries : List Entry) (tree : BoundTree) (rest : List ℕ) (a b : CheckRefusal) → LastFault view entries tree rest a → LastFault view entries tree rest b → a ≡ b
+    (view : View) (entries : List Entry) (tree : BoundTree) (rest : List ℕ) (a b : CheckRefusal) → LastFault view entries tree rest a
+    → LastFault view entries tree rest b → a ≡ b
 last_once view entries tree rest a b (many over x) (many over' y) = x ∙ sym y
 last_once view entries tree rest a b (many over x) (meaning few not y) = absurd (few_or_many _ _ over few)
 last_once view entries tree rest a b (many over x) (more few means some y) = absurd (few_or_many _ _ over few)
@@ -125,7 +127,8 @@ last_stands view bytes n refusal p (many over x) = few_or_many _ _ over p.few
 last_stands view bytes n refusal p (meaning few not x) = not p.means
 last_stands view bytes n refusal p (more few means some x) = some refl
 
-root_stands : (view : View) (bytes : List ℕ) (n : ℕ) (refusal : CheckRefusal) (p : AreParts view bytes n) → RootFault view (node_bytes p.tree) p.entries refusal → ⊥
+root_stands : (view : View) (bytes : List ℕ) (n : ℕ) (refusal : CheckRefusal) (p : AreParts view bytes n) → RootFault view (node_bytes p.tree) p.entries refusal
+    → ⊥
 root_stands view bytes n refusal p (at_root h) = node_stands view 44 0 (node_bytes p.tree) [] p.tree refusal h p.right (sym (append-nil (node_bytes p.tree)))
 root_stands view bytes n refusal p (past_root tree rest e right h) =
     let same = same_node view 44 0 tree p.tree rest [] right p.right (sym e ∙ sym (append-nil (node_bytes p.tree))) in
@@ -134,7 +137,8 @@ root_stands view bytes n refusal p (past_root tree rest e right h) =
     in
     last_stands view bytes n refusal p here
 
-entries_stand : (view : View) (bytes : List ℕ) (n : ℕ) (refusal : CheckRefusal) (p : AreParts view bytes n) → EntriesFault view p.behind p.header.count refusal → ⊥
+entries_stand : (view : View) (bytes : List ℕ) (n : ℕ) (refusal : CheckRefusal) (p : AreParts view bytes n) → EntriesFault view p.behind p.header.count refusal
+    → ⊥
 entries_stand view bytes n refusal p (at_entries h) = list_stands p.behind (node_bytes p.tree) p.entries p.header.count refusal p.listed p.counted h
 entries_stand view bytes n refusal p (past_entries entries rest listed all h) =
     let same = same_list p.behind rest (node_bytes p.tree) entries p.entries listed p.listed (all ∙ sym p.counted) in
@@ -158,11 +162,16 @@ right_stands view bytes n refusal right stands = parts_stand view bytes n refusa
 
 -- an answer that is right where it is a yes, and whose fault stands where it is a no, is the only one
 pub refused_exactly :
-    (view : View) (bytes : List ℕ) (result : Result ℕ CheckRefusal) → IfOk result (IsRight view bytes) → IfErr result (RefusalStands view bytes) → (refusal : CheckRefusal)
+    (view : View) (bytes : List ℕ) (result : Result ℕ CheckRefusal) → IfOk result (IsRight view bytes) → IfErr result (RefusalStands view bytes)
+    → (refusal : CheckRefusal)
     → (result ≡ Err refusal) ↔ RefusalStands view bytes refusal
 refused_exactly view bytes (Ok n) right fault = λ refusal. ((λ e. absurd (cc)), λ stands. absurd (right_stands view bytes n refusal right stands))
 refused_exactly view bytes (Err r) right fault =
-    λ refusal. ((λ e. let same : r ≡ refusal = cc in subst (λ (x : CheckRefusal). RefusalStands view bytes x) same fault), λ stands. ap (λ x. Err x) (refusal_once view bytes r refusal fault stands))
+    λ refusal. (
+      (λ e. let same : r ≡ refusal = cc in subst (λ (x : CheckRefusal). RefusalStands view bytes x) same fault),
+      λ stands. ap (λ x. Err x)
+          (refusal_once view bytes r refusal fault stands),
+    )
 
 -- right certificates of the same bytes have one number of entries
 one_number : (view : View) (bytes : List ℕ) (m n : ℕ) → IsRight view bytes m → IsRight view bytes n → m ≡ n
@@ -174,7 +183,8 @@ one_number view bytes m n p q =
 
 -- such an answer is a yes for right bytes
 pub accepted_exactly :
-    (view : View) (bytes : List ℕ) (result : Result ℕ CheckRefusal) (n : ℕ) → IfOk result (IsRight view bytes) → IfErr result (RefusalStands view bytes) → IsRight view bytes n
+    (view : View) (bytes : List ℕ) (result : Result ℕ CheckRefusal) (n : ℕ) → IfOk result (IsRight view bytes) → IfErr result (RefusalStands view bytes)
+    → IsRight view bytes n
     → result ≡ Ok n
 accepted_exactly view bytes (Ok m) n right fault is = ap (λ k. Ok k) (one_number view bytes m n right is)
 accepted_exactly view bytes (Err r) n right fault is = absurd (right_stands view bytes n r is fault)

@@ -42,13 +42,16 @@ same_spelled :
 same_spelled bytes front front' rest rest' e e' split spells split' spells' =
     let small = means_small spells.pair.0 spells.pair.1 e spells.means in
     let small' = means_small spells'.pair.0 spells'.pair.1 e' spells'.means in
-    let same = same_pair spells.pair spells'.pair rest rest' small small' (sym (pair_at bytes front rest e split spells) ∙ pair_at bytes front' rest' e' split' spells') in
+    let same = same_pair spells.pair spells'.pair rest rest' small small'
+    (sym (pair_at bytes front rest e split spells) ∙ pair_at bytes front' rest' e' split' spells') in
     (one_entry spells'.pair.0 spells'.pair.1 e e' (subst (λ (p : ℕ × ℕ). MeansEntry p.0 p.1 e) same.0 spells.means) spells'.means, same.1)
 
-entry_stands : (bytes front rest : List ℕ) (e : Entry) (refusal : CheckRefusal) → bytes ≡ front ++ rest → SpellsEntry front e → 12 ≤ e.region.log2 → EntryFault bytes refusal → ⊥
+entry_stands : (bytes front rest : List ℕ) (e : Entry) (refusal : CheckRefusal) → bytes ≡ front ++ rest → SpellsEntry front e → 12 ≤ e.region.log2
+    → EntryFault bytes refusal → ⊥
 entry_stands bytes front rest e Truncated split spells page h = short_pair bytes bytes rest spells.pair refl h (pair_at bytes front rest e split spells)
 entry_stands bytes front rest e BadEntry split spells page (pair, rest', at, fits, none) =
-    let same = same_pair spells.pair pair rest rest' (means_small spells.pair.0 spells.pair.1 e spells.means) fits (sym (pair_at bytes front rest e split spells) ∙ at) in
+    let same = same_pair spells.pair pair rest rest' (means_small spells.pair.0 spells.pair.1 e spells.means) fits
+    (sym (pair_at bytes front rest e split spells) ∙ at) in
     none e (subst (λ (p : ℕ × ℕ). MeansEntry p.0 p.1 e) same.0 spells.means)
 entry_stands bytes front rest e SubPageEntry split spells page (pair, rest', at, entry, means, less) =
     let same = same_spelled bytes front (pair_bytes pair) rest rest' e entry split spells at (record { pair = pair; means = means; spelled = refl }) in
@@ -96,9 +99,11 @@ same_list bytes rest rest' (e ∷ es) (e' ∷ es') h w count =
     (ap₂ (λ (x : Entry) (xs : List Entry). x ∷ xs) (sym same.0) later.0, later.1)
 
 behind_once :
-    (bytes rest rest' : List ℕ) (es es' : List Entry) (a b : CheckRefusal) → IsListed bytes rest es → EntryFault rest a → IsListed bytes rest' es' → EntryFault rest' b → a ≡ b
+    (bytes rest rest' : List ℕ) (es es' : List Entry) (a b : CheckRefusal) → IsListed bytes rest es → EntryFault rest a → IsListed bytes rest' es'
+    → EntryFault rest' b → a ≡ b
 behind_once bytes rest rest' [] [] a b h f w g =
-    entry_once bytes a b (subst (λ (xs : List ℕ). EntryFault xs a) (sym (none_of_list bytes rest h)) f) (subst (λ (xs : List ℕ). EntryFault xs b) (sym (none_of_list bytes rest' w)) g)
+    entry_once bytes a b (subst (λ (xs : List ℕ). EntryFault xs a) (sym (none_of_list bytes rest h)) f)
+    (subst (λ (xs : List ℕ). EntryFault xs b) (sym (none_of_list bytes rest' w)) g)
 behind_once bytes rest rest' [] (e' ∷ es') a b h f w g =
     let q = first_of_list bytes rest' e' es' w in
     absurd (entry_stands bytes q.front q.behind e' a q.split q.spells q.page (subst (λ (xs : List ℕ). EntryFault xs a) (sym (none_of_list bytes rest h)) f))
@@ -111,7 +116,8 @@ behind_once bytes rest rest' (e ∷ es) (e' ∷ es') a b h f w g =
     let same = same_spelled bytes q.front p.front q.behind p.behind e' e q.split q.spells p.split p.spells in
     behind_once p.behind rest rest' es es' a b p.listed f (subst (λ (xs : List ℕ). IsListed xs rest' es') same.1 q.listed) g
 
-behind_stands : (bytes rest rest' : List ℕ) (es es' : List Entry) (a : CheckRefusal) → IsListed bytes rest es → EntryFault rest a → IsListed bytes rest' es' → length es < length es' → ⊥
+behind_stands : (bytes rest rest' : List ℕ) (es es' : List Entry) (a : CheckRefusal) → IsListed bytes rest es → EntryFault rest a → IsListed bytes rest' es'
+    → length es < length es' → ⊥
 behind_stands bytes rest rest' es [] a h f w less = omega (arith, less)
 behind_stands bytes rest rest' [] (e' ∷ es') a h f w less =
     let q = first_of_list bytes rest' e' es' w in
@@ -127,5 +133,7 @@ pub list_once : (bytes : List ℕ) (count : ℕ) (a b : CheckRefusal) → ListFa
 list_once bytes count a b h w = behind_once bytes h.rest w.rest h.entries w.entries a b h.before h.fault w.before w.fault
 
 -- no fault stands where so many entries stand
-pub list_stands : (bytes rest : List ℕ) (es : List Entry) (count : ℕ) (refusal : CheckRefusal) → IsListed bytes rest es → length es ≡ count → ListFault bytes count refusal → ⊥
-list_stands bytes rest es count refusal h all w = behind_stands bytes w.rest rest w.entries es refusal w.before w.fault h (let few = w.fewer in omega (arith, few, all))
+pub list_stands : (bytes rest : List ℕ) (es : List Entry) (count : ℕ) (refusal : CheckRefusal) → IsListed bytes rest es → length es ≡ count
+    → ListFault bytes count refusal → ⊥
+list_stands bytes rest es count refusal h all w = behind_stands bytes w.rest rest w.entries es refusal w.before w.fault h
+    (let few = w.fewer in omega (arith, few, all))

@@ -15,7 +15,8 @@ use Rattle.certificate_format.proofs.Trees.{one_function, tags_differ, same_perm
 use Rattle.certificate_check.specs.declared.refusal.CheckRefusal.{CheckRefusal}
 use Rattle.certificate_check.specs.declared.refusal.CheckRefusal.TheVariants.{TooDeep, LeafNotUniform, WrongLeaf, CostTooHigh, CostOverflow}
 use Rattle.certificate_check.specs.Refusals.{refusal_of}
-use Rattle.certificate_check.specs.Nodes.{IsRightNode, HaveSums, IsAllowed, IsTooLarge, IsTooHigh, NodeFault, in_tag, in_perm, not_uniform, another, a_page, in_costs, in_lower, in_upper, overflow, too_high}
+use Rattle.certificate_check.specs.Nodes.{IsRightNode, HaveSums, IsAllowed, IsTooLarge, IsTooHigh, NodeFault, in_tag, in_perm, not_uniform, another, a_page}
+use Rattle.certificate_check.specs.Nodes.{in_costs, in_lower, in_upper, overflow, too_high}
 use Rattle.certificate_check.proofs.Walked.{branch_at, no_branch_at, leaf_at, tag_at}
 
 -- ---- none where a right node stands
@@ -26,7 +27,8 @@ one_uniform view k first p q h w = sym (h 0 (pow_pos k)) ∙ w 0 (pow_pos k)
 
 -- two right nodes at the front of the same bytes are one
 pub same_node :
-    (view : View) (k first : ℕ) (s t : BoundTree) (a b : List ℕ) → IsRightNode view k first s → IsRightNode view k first t → node_bytes s ++ a ≡ node_bytes t ++ b
+    (view : View) (k first : ℕ) (s t : BoundTree) (a b : List ℕ) → IsRightNode view k first s → IsRightNode view k first t
+    → node_bytes s ++ a ≡ node_bytes t ++ b
     → (s ≡ t) × (a ≡ b)
 same_node view k first s t a b right right' e = same_tree k s t a b right.fits right'.fits e
 
@@ -43,7 +45,8 @@ allowed_costs costs lower upper allowed (p, q, high) =
     ⊎_elim (λ over. omega (arith, over, same)) (λ over. omega (arith, over, any)) high
 
 pub node_stands :
-    (view : View) (k first : ℕ) (bytes rest : List ℕ) (tree : BoundTree) (refusal : CheckRefusal) → NodeFault view k first bytes refusal → IsRightNode view k first tree
+    (view : View) (k first : ℕ) (bytes rest : List ℕ) (tree : BoundTree) (refusal : CheckRefusal) → NodeFault view k first bytes refusal
+    → IsRightNode view k first tree
     → bytes ≡ node_bytes tree ++ rest → ⊥
 node_stands view k first bytes rest tree _ (in_tag fault h) right spelled =
     let tag = tag_at tree rest bytes spelled in
@@ -70,10 +73,12 @@ node_stands view k first bytes rest tree refusal (in_upper half costs lower left
     node_stands view half (first + 2 ^ half) left rest at.upper refusal fault at.halves.high down.1
 node_stands view k first bytes rest tree _ (overflow half costs lower upper left is e low high large) right spelled =
     let at = branch_at view k half first tree rest bytes (costs_bytes costs ++ (node_bytes lower ++ (node_bytes upper ++ left))) is e right spelled in
-    let down = same_node view half first lower at.lower (node_bytes upper ++ left) (node_bytes at.upper ++ rest) low at.halves.low (behind_costs costs at.costs _ _ at.left_is) in
+    let down = same_node view half first lower at.lower (node_bytes upper ++ left) (node_bytes at.upper ++ rest) low at.halves.low
+    (behind_costs costs at.costs _ _ at.left_is) in
     let up = same_node view half (first + 2 ^ half) upper at.upper left rest high at.halves.high down.1 in
     let here : IsTooLarge (bound_of at.lower) (bound_of at.upper) =
-    subst (λ (x : BoundTree). IsTooLarge (bound_of at.lower) (bound_of x)) up.0 (subst (λ (x : BoundTree). IsTooLarge (bound_of x) (bound_of upper)) down.0 large)
+    subst (λ (x : BoundTree). IsTooLarge (bound_of at.lower) (bound_of x)) up.0
+    (subst (λ (x : BoundTree). IsTooLarge (bound_of x) (bound_of upper)) down.0 large)
     in
     allowed_sums at.costs (bound_of at.lower) (bound_of at.upper) at.halves.allowed here
 node_stands view k first bytes rest tree _ (too_high half costs lower upper left is e small low high sums over) right spelled =
@@ -93,7 +98,8 @@ node_stands view k first bytes rest tree _ (too_high half costs lower upper left
 -- after a leaf's tag
 data LeafFault (view : View) (k first : ℕ) (bytes : List ℕ) (refusal : CheckRefusal) : Type 0 where
   no_perm : (fault : ReadFault) → PermFault bytes fault → refusal ≡ refusal_of fault → LeafFault view k first bytes refusal
-  mixed : (perm : Perm) (rest : List ℕ) → bytes ≡ bits_of perm ∷ rest → ((other : Perm) → IsUniform view k first other → ⊥) → refusal ≡ LeafNotUniform → LeafFault view k first bytes refusal
+  mixed : (perm : Perm) (rest : List ℕ) → bytes ≡ bits_of perm ∷ rest → ((other : Perm) → IsUniform view k first other → ⊥) → refusal ≡ LeafNotUniform
+      → LeafFault view k first bytes refusal
   wrong :
       (perm other : Perm) (rest : List ℕ) → bytes ≡ bits_of perm ∷ rest → IsUniform view k first other → perm ≢ other → refusal ≡ WrongLeaf
       → LeafFault view k first bytes refusal
@@ -120,7 +126,8 @@ data LowerFault (view : View) (half first : ℕ) (bytes : List ℕ) (refusal : C
 -- after a branch's tag
 data SplitFault (view : View) (half first : ℕ) (bytes : List ℕ) (refusal : CheckRefusal) : Type 0 where
   no_costs : (fault : ReadFault) → ShortFault 24 bytes fault → refusal ≡ refusal_of fault → SplitFault view half first bytes refusal
-  in_halves : (costs : Perm → ℕ) (rest : List ℕ) → bytes ≡ costs_bytes costs ++ rest → LowerFault view half first rest refusal → SplitFault view half first bytes refusal
+  in_halves : (costs : Perm → ℕ) (rest : List ℕ) → bytes ≡ costs_bytes costs ++ rest → LowerFault view half first rest refusal
+      → SplitFault view half first bytes refusal
 
 -- in the tag, or after it
 data PartFault (view : View) (k first : ℕ) (bytes : List ℕ) (refusal : CheckRefusal) : Type 0 where
@@ -136,9 +143,11 @@ parts_of view k first bytes _ (not_uniform perm rest e none) = in_leaf (bits_of 
 parts_of view k first bytes _ (another perm other rest e uniform differ) = in_leaf (bits_of perm ∷ rest) e (wrong perm other rest refl uniform differ refl)
 parts_of view k first bytes _ (a_page rest e is) = of_page rest e is refl
 parts_of view k first bytes _ (in_costs half rest fault is e h) = in_split half rest is e (no_costs fault h refl)
-parts_of view k first bytes _ (in_lower half costs rest _ is e fault) = in_split half (costs_bytes costs ++ rest) is e (in_halves costs rest refl (at_lower fault))
+parts_of view k first bytes _ (in_lower half costs rest _ is e fault) = in_split half (costs_bytes costs ++ rest) is e
+    (in_halves costs rest refl (at_lower fault))
 parts_of view k first bytes _ (in_upper half costs lower rest _ is e low fault) =
-    in_split half (costs_bytes costs ++ (node_bytes lower ++ rest)) is e (in_halves costs (node_bytes lower ++ rest) refl (past_lower lower rest refl low (at_upper fault)))
+    in_split half (costs_bytes costs ++ (node_bytes lower ++ rest)) is e (in_halves costs (node_bytes lower ++ rest) refl
+    (past_lower lower rest refl low (at_upper fault)))
 parts_of view k first bytes _ (overflow half costs lower upper rest is e low up over) =
     in_split half (costs_bytes costs ++ (node_bytes lower ++ (node_bytes upper ++ rest))) is e
     (in_halves costs (node_bytes lower ++ (node_bytes upper ++ rest)) refl
@@ -181,14 +190,17 @@ upper_once :
     (view : View) (half first : ℕ) (lower : BoundTree) (bytes : List ℕ) (a b : CheckRefusal) → AreOnce view half → UpperFault view half first lower bytes a
     → UpperFault view half first lower bytes b → a ≡ b
 upper_once view half first lower bytes a b once (at_upper h) (at_upper w) = once (first + 2 ^ half) bytes a b h w
-upper_once view half first lower bytes a b once (at_upper h) (past_upper upper rest e right w) = absurd (node_stands view half (first + 2 ^ half) bytes rest upper a h right e)
-upper_once view half first lower bytes a b once (past_upper upper rest e right h) (at_upper w) = absurd (node_stands view half (first + 2 ^ half) bytes rest upper b w right e)
+upper_once view half first lower bytes a b once (at_upper h) (past_upper upper rest e right w) = absurd
+    (node_stands view half (first + 2 ^ half) bytes rest upper a h right e)
+upper_once view half first lower bytes a b once (past_upper upper rest e right h) (at_upper w) = absurd
+    (node_stands view half (first + 2 ^ half) bytes rest upper b w right e)
 upper_once view half first lower bytes a b once (past_upper upper rest e right h) (past_upper upper' rest' e' right' w) =
     let same = same_node view half (first + 2 ^ half) upper' upper rest' rest right' right (sym e' ∙ e) in
     sums_once (bound_of lower) (bound_of upper) a b h (subst (λ (x : BoundTree). SumsFault (bound_of lower) (bound_of x) b) same.0 w)
 
 lower_once :
-    (view : View) (half first : ℕ) (bytes : List ℕ) (a b : CheckRefusal) → AreOnce view half → LowerFault view half first bytes a → LowerFault view half first bytes b → a ≡ b
+    (view : View) (half first : ℕ) (bytes : List ℕ) (a b : CheckRefusal) → AreOnce view half → LowerFault view half first bytes a
+    → LowerFault view half first bytes b → a ≡ b
 lower_once view half first bytes a b once (at_lower h) (at_lower w) = once first bytes a b h w
 lower_once view half first bytes a b once (at_lower h) (past_lower lower rest e right w) = absurd (node_stands view half first bytes rest lower a h right e)
 lower_once view half first bytes a b once (past_lower lower rest e right h) (at_lower w) = absurd (node_stands view half first bytes rest lower b w right e)
@@ -200,7 +212,8 @@ lower_once view half first bytes a b once (past_lower lower rest e right h) (pas
     upper_once view half first lower rest a b once h here
 
 split_once :
-    (view : View) (half first : ℕ) (bytes : List ℕ) (a b : CheckRefusal) → AreOnce view half → SplitFault view half first bytes a → SplitFault view half first bytes b → a ≡ b
+    (view : View) (half first : ℕ) (bytes : List ℕ) (a b : CheckRefusal) → AreOnce view half → SplitFault view half first bytes a
+    → SplitFault view half first bytes b → a ≡ b
 split_once view half first bytes a b once (no_costs f h x) (no_costs g w y) = same_refusal a b f g x y (short_once 24 bytes f g h w)
 split_once view half first bytes a b once (no_costs f h x) (in_halves costs rest e w) = absurd (costs_stand bytes rest costs f e h)
 split_once view half first bytes a b once (in_halves costs rest e h) (no_costs g w y) = absurd (costs_stand bytes rest costs g e w)
@@ -235,10 +248,12 @@ part_once view k first bytes a b once (in_split half rest is e h) (in_split half
     split_once view half first rest a b (once half is) h here
 
 all_once : (view : View) (k : ℕ) → AreOnce view k
-all_once view zero = λ first bytes a b h w. part_once view zero first bytes a b (λ half is. absurd (omega (arith, is))) (parts_of view zero first bytes a h) (parts_of view zero first bytes b w)
+all_once view zero = λ first bytes a b h w. part_once view zero first bytes a b (λ half is. absurd (omega (arith, is))) (parts_of view zero first bytes a h)
+    (parts_of view zero first bytes b w)
 all_once view (suc k) =
     λ first bytes a b h w.
-    part_once view (suc k) first bytes a b (λ half is. subst (λ (n : ℕ). AreOnce view n) (omega (arith, is)) (all_once view k)) (parts_of view (suc k) first bytes a h)
+    part_once view (suc k) first bytes a b (λ half is. subst (λ (n : ℕ). AreOnce view n) (omega (arith, is)) (all_once view k))
+    (parts_of view (suc k) first bytes a h)
     (parts_of view (suc k) first bytes b w)
 
 -- two faults of the same node are one

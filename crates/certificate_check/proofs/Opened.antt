@@ -17,15 +17,18 @@ same_or_not a b = grind arith
 
 -- an entry takes the place of its size
 pub entry_begins :
-    (spans : ℕ → Span) (count below later page : ℕ) (slots : List Begun) (number : ℕ) (s : Span) → AreBlocks spans count → AreBegun spans count below page slots → number < count
+    (spans : ℕ → Span) (count below later page : ℕ) (slots : List Begun) (number : ℕ) (s : Span) → AreBlocks spans count → AreBegun spans count below page slots
+    → number < count
     → s ≡ spans number → s.first ≡ page → s.first < s.end → s.size < length slots
     → ((j : ℕ) → j < count → key_of spans j < later → (key_of spans j < below) ⊎ (j ≡ number))
     → (e : Begun) → ((get_or slots s.size e).span.end ≤ page) ⊎ ((page < (get_or slots s.size e).span.end) × (number < (get_or slots s.size e).number))
     → AreBegun spans count later page (set slots s.size (record { number = number; span = s }))
 entry_begins spans count below later page slots number s blocks are small is begins some inside between e free = record {
   entries = entries';
-  begun = λ j less early. ⊎_elim (λ before. are.begun j less before) (λ same. let f : (spans j).first ≡ s.first = ap (λ n. (spans n).first) same ∙ ap (λ (x : Span). x.first) (sym is) in omega arith) (between j less early);
-  kept = λ j d less early open'. ⊎_elim (λ before. older j d less before open') (λ same. subst (λ (n : ℕ). StandsFor spans (get_or (set slots s.size new) (spans n).size d) n) (sym same) (itself d)) (between j less early);
+  begun = λ j less early. ⊎_elim (λ before. are.begun j less before) (λ same. let f : (spans j).first ≡ s.first = ap (λ n. (spans n).first) same
+      ∙ ap (λ (x : Span). x.first) (sym is) in omega arith) (between j less early);
+  kept = λ j d less early open'. ⊎_elim (λ before. older j d less before open')
+      (λ same. subst (λ (n : ℕ). StandsFor spans (get_or (set slots s.size new) (spans n).size d) n) (sym same) (itself d)) (between j less early);
 }
   where
     new : Begun
@@ -38,7 +41,8 @@ entry_begins spans count below later page slots number s blocks are small is beg
     there k d differ = get_or-set_other slots s.size k new d differ
 
     entries' :
-        (k : ℕ) (d : Begun) → k < length (set slots s.size new) → 0 < (get_or (set slots s.size new) k d).span.end → IsEntryOf spans count k page (get_or (set slots s.size new) k d)
+        (k : ℕ) (d : Begun) → k < length (set slots s.size new) → 0 < (get_or (set slots s.size new) k d).span.end
+        → IsEntryOf spans count k page (get_or (set slots s.size new) k d)
     entries' k d less some' =
         ⊎_elim
         (λ same. subst (λ (n : ℕ). IsEntryOf spans count n page (get_or (set slots s.size new) n d)) (sym same)
@@ -63,7 +67,8 @@ entry_begins spans count below later page slots number s blocks are small is beg
         let covers : Covers (spans number) page = subst (λ (x : Span). Covers x page) is (omega arith, omega arith) in
         let one = blocks.same number j page small less sizes covers (are.begun j less before, open') in
         let was' : StandsFor spans (get_or slots s.size e) j = subst (λ (n : ℕ). StandsFor spans (get_or slots n e) j) same (are.kept j e less before open') in
-        let lesser : number ≤ j = ⊎_elim (λ ended. let last = was'.end in absurd (omega arith)) (λ under. let n = was'.number in let m = under.1 in omega arith) free in
+        let lesser : number ≤ j = ⊎_elim (λ ended. let last = was'.end in absurd (omega arith))
+        (λ under. let n = was'.number in let m = under.1 in omega arith) free in
         subst (λ (n : ℕ). StandsFor spans (get_or (set slots s.size new) n d) j) (sym same)
         (subst (λ (x : Begun). StandsFor spans x j) (sym (here d))
         (record { first = ap (λ (x : Span). x.first) is ∙ one.0; end = ap (λ (x : Span). x.end) is ∙ one.1; number = lesser })))
@@ -72,22 +77,26 @@ entry_begins spans count below later page slots number s blocks are small is beg
 
 -- an entry with the same pages stands before it in the list
 pub entry_hidden :
-    (spans : ℕ → Span) (count below later page : ℕ) (slots : List Begun) (number : ℕ) (s : Span) → AreBlocks spans count → AreBegun spans count below page slots → number < count
+    (spans : ℕ → Span) (count below later page : ℕ) (slots : List Begun) (number : ℕ) (s : Span) → AreBlocks spans count → AreBegun spans count below page slots
+    → number < count
     → s ≡ spans number → s.first ≡ page → s.first < s.end → s.size < length slots
     → ((j : ℕ) → j < count → key_of spans j < later → (key_of spans j < below) ⊎ (j ≡ number))
     → (e : Begun) → page < (get_or slots s.size e).span.end → (get_or slots s.size e).number ≤ number
     → AreBegun spans count later page slots
 entry_hidden spans count below later page slots number s blocks are small is begins some inside between e stays lesser = record {
   entries = are.entries;
-  begun = λ j less early. ⊎_elim (λ before. are.begun j less before) (λ same. let f : (spans j).first ≡ s.first = ap (λ n. (spans n).first) same ∙ ap (λ (x : Span). x.first) (sym is) in omega arith) (between j less early);
-  kept = λ j d less early open'. ⊎_elim (λ before. are.kept j d less before open') (λ same. subst (λ (n : ℕ). StandsFor spans (get_or slots (spans n).size d) n) (sym same) (itself d)) (between j less early);
+  begun = λ j less early. ⊎_elim (λ before. are.begun j less before) (λ same. let f : (spans j).first ≡ s.first = ap (λ n. (spans n).first) same
+      ∙ ap (λ (x : Span). x.first) (sym is) in omega arith) (between j less early);
+  kept = λ j d less early open'. ⊎_elim (λ before. are.kept j d less before open')
+      (λ same. subst (λ (n : ℕ). StandsFor spans (get_or slots (spans n).size d) n) (sym same) (itself d)) (between j less early);
 }
   where
     itself : (d : Begun) → StandsFor spans (get_or slots (spans number).size d) number
     itself d =
         let by : s.size ≡ (spans number).size = ap (λ (x : Span). x.size) is in
         let one_slot : get_or slots s.size d ≡ get_or slots s.size e = same_element slots s.size d e inside in
-        let now : (page < (get_or slots s.size d).span.end) × ((get_or slots s.size d).number ≤ number) = subst (λ (x : Begun). (page < x.span.end) × (x.number ≤ number)) (sym one_slot) (stays, lesser) in
+        let now : (page < (get_or slots s.size d).span.end) × ((get_or slots s.size d).number ≤ number) = subst
+        (λ (x : Begun). (page < x.span.end) × (x.number ≤ number)) (sym one_slot) (stays, lesser) in
         let other = are.entries s.size d inside (let n = now.0 in omega arith) in
         let sizes : (spans (get_or slots s.size d).number).size ≡ (spans number).size = ap (λ (x : Span). x.size) (sym other.span) ∙ other.sized ∙ by in
         let covers : Covers (spans number) page = subst (λ (x : Span). Covers x page) is (omega arith, omega arith) in
@@ -98,9 +107,16 @@ entry_hidden spans count below later page slots number s blocks are small is beg
 
 -- the pages go on
 pub begun_later :
-    (spans : ℕ → Span) (count below page later : ℕ) (slots : List Begun) → page ≤ later → AreBegun spans count below page slots → AreBegun spans count below later slots
+    (spans : ℕ → Span) (count below page later : ℕ) (slots : List Begun) → page ≤ later → AreBegun spans count below page slots
+    → AreBegun spans count below later slots
 begun_later spans count below page later slots h are = record {
-  entries = λ k d less some. let e = are.entries k d less some in record { number = e.number; span = e.span; first = (let f = e.first in omega arith); sized = e.sized };
+  entries = λ k d less some. let e = are.entries k d less some in record {
+    number = e.number;
+    span = e.span;
+    first =
+        (let f = e.first in omega arith);
+    sized = e.sized;
+  };
   begun = λ j less early. let f = are.begun j less early in omega arith;
   kept = λ j d less early open'. are.kept j d less early (omega arith);
 }
@@ -121,7 +137,8 @@ begun_among spans count below later page slots among are = record {
 -- before all entries
 pub begun_none : (spans : ℕ → Span) (count page n : ℕ) (p : Begun) → p.span.end ≡ 0 → AreBegun spans count 0 page (replicate n p)
 begun_none spans count page n p ended = record {
-  entries = λ k d less some. absurd (let is : get_or (replicate n p) k d ≡ p = grind (arith, common_steps) in let e : (get_or (replicate n p) k d).span.end ≡ 0 = ap (λ (x : Begun). x.span.end) is ∙ ended in omega arith);
+  entries = λ k d less some. absurd (let is : get_or (replicate n p) k d ≡ p = grind
+      (arith, common_steps) in let e : (get_or (replicate n p) k d).span.end ≡ 0 = ap (λ (x : Begun). x.span.end) is ∙ ended in omega arith);
   begun = λ j less early. absurd (omega arith);
   kept = λ j d less early open'. absurd (omega arith);
 }
@@ -130,11 +147,13 @@ read_none : (n k : ℕ) (p d : Begun) → k < n → get_or (replicate n p) k d �
 read_none n k p d less = grind (arith, common_steps)
 
 pub ended_none : (sizes : Sizes) (page : ℕ) (p : Begun) → p.span.end ≡ 0 → HaveEndedBut sizes page (replicate 45 p)
-ended_none sizes page p ended = λ k d less lacks. let e : (get_or (replicate 45 p) k d).span.end ≡ 0 = ap (λ (x : Begun). x.span.end) (read_none 45 k p d less) ∙ ended in omega (arith, e)
+ended_none sizes page p ended = λ k d less lacks. let e : (get_or (replicate 45 p) k d).span.end ≡ 0 = ap (λ (x : Begun). x.span.end) (read_none 45 k p d less)
+    ∙ ended in omega (arith, e)
 
 -- the first in the list of those that have begun decides, up to where it ends or another begins
 pub open_decides :
-    (spans : ℕ → Span) (count below page to k : ℕ) (slots : List Begun) (slot : Begun) → AreBegun spans count below page slots → NoneBegins spans count below to → k < length slots
+    (spans : ℕ → Span) (count below page to k : ℕ) (slots : List Begun) (slot : Begun) → AreBegun spans count below page slots → NoneBegins spans count below to
+    → k < length slots
     → ((d : Begun) → get_or slots k d ≡ slot) → page < slot.span.end
     → ((i : ℕ) (d : Begun) → i < length slots → page < (get_or slots i d).span.end → slot.number ≤ (get_or slots i d).number)
     → length slots ≡ 45 → AreBlocks spans count

@@ -14,7 +14,8 @@ pub start_next : (ends : List ℕ) (i : ℕ) → start_of ends (i + 1) ≡ slice
 start_next ends i = let e : i + 1 ≡ suc i = omega arith in ap (λ n. start_of ends n) e
 
 -- before the chains nothing was read
-pub places_begun : (spans : ℕ → Span) (ends : List ℕ) (page n : ℕ) (p : Place) → length ends ≤ n → p.next ≡ 0 → p.span.first ≡ 0 → p.span.end ≡ 0 → ArePlaces spans ends page (replicate n p)
+pub places_begun : (spans : ℕ → Span) (ends : List ℕ) (page n : ℕ) (p : Place) → length ends ≤ n → p.next ≡ 0 → p.span.first ≡ 0 → p.span.end ≡ 0
+    → ArePlaces spans ends page (replicate n p)
 places_begun spans ends page n p few first begin none k d less =
     let is : get_or (replicate n p) k d ≡ p = grind (arith, common_steps) in
     subst (λ (x : Place). IsPlace spans (start_of ends k) (slice_index ends k) page x) (sym is) (before (omega arith) begin none)
@@ -32,12 +33,14 @@ ended_before spans from to page p (stands i next low inside ended is some) past 
 
 -- the next span is read
 pub place_on :
-    (spans : ℕ → Span) (from to page : ℕ) (p : Place) (s : Span) → IsPlace spans from to page p → p.span.end ≤ page → from ≤ p.next → p.next < to → s ≡ spans p.next
+    (spans : ℕ → Span) (from to page : ℕ) (p : Place) (s : Span) → IsPlace spans from to page p → p.span.end ≤ page → from ≤ p.next → p.next < to
+    → s ≡ spans p.next
     → s.first < s.end → IsPlace spans from to page (record { next = p.next + 1; span = s })
 place_on spans from to page p s place past low inside is some = stands p.next (omega arith) low inside (ended_before spans from to page p place past) is some
 
 -- a place is in its chain
-pub place_from : (spans : ℕ → Span) (from to page : ℕ) (p : Place) (n : ℕ) → n ≡ max p.next from → IsPlace spans from to page p → IsPlace spans from to page (record { next = n; span = p.span })
+pub place_from : (spans : ℕ → Span) (from to page : ℕ) (p : Place) (n : ℕ) → n ≡ max p.next from → IsPlace spans from to page p
+    → IsPlace spans from to page (record { next = n; span = p.span })
 place_from spans from to page p n e (before low begin none) = before (omega arith) begin none
 place_from spans from to page p n e (stands i next low inside ended is some) = stands i (omega arith) low inside ended is some
 
@@ -48,11 +51,14 @@ place_later spans from to page later p h (stands i next low inside ended is some
     stands i next low inside (λ j low' less. let past : (spans j).end ≤ page = ended j low' less in omega arith) is some
 
 pub places_later :
-    (spans : ℕ → Span) (ends : List ℕ) (page later : ℕ) (places : List Place) → page ≤ later → ArePlaces spans ends page places → ArePlaces spans ends later places
-places_later spans ends page later places h are k d less = place_later spans (start_of ends k) (slice_index ends k) page later (get_or places k d) h (are k d less)
+    (spans : ℕ → Span) (ends : List ℕ) (page later : ℕ) (places : List Place) → page ≤ later → ArePlaces spans ends page places
+    → ArePlaces spans ends later places
+places_later spans ends page later places h are k d less = place_later spans (start_of ends k) (slice_index ends k) page later (get_or places k d) h
+    (are k d less)
 
 -- a span that ends after the page is the first of its chain that does
-pub place_open : (spans : ℕ → Span) (from to page : ℕ) (p : Place) → IsPlace spans from to page p → page < p.span.end → IsNextInChain spans from to page p.span × (p.span.first < p.span.end)
+pub place_open : (spans : ℕ → Span) (from to page : ℕ) (p : Place) → IsPlace spans from to page p → page < p.span.end
+    → IsNextInChain spans from to page p.span × (p.span.first < p.span.end)
 place_open spans from to page p (before low begin none) behind = absurd (omega arith)
 place_open spans from to page p (stands i next low inside ended is some) behind = ((i, low, inside, ended, is), some)
 
@@ -77,4 +83,5 @@ places_set spans ends page places i p inside are new k d less =
     (cases_lt k i)
   where
     other : k ≢ i → IsPlace spans (start_of ends k) (slice_index ends k) page (get_or (set places i p) k d)
-    other differ = subst (λ (x : Place). IsPlace spans (start_of ends k) (slice_index ends k) page x) (sym (get_or-set_other places i k p d differ)) (are k d less)
+    other differ = subst (λ (x : Place). IsPlace spans (start_of ends k) (slice_index ends k) page x) (sym (get_or-set_other places i k p d differ))
+        (are k d less)

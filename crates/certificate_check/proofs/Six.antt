@@ -17,7 +17,8 @@ six P a b c d e f ReadExecute = e
 six P a b c d e f ReadWriteExecute = f
 
 -- the lesser of two of the numbers is one of them
-pub lesser : (numbers : SixCosts) (x y m : ℕ) → m ≡ min x y → ((p : Perm) × (x ≡ cost_of numbers p)) → ((p : Perm) × (y ≡ cost_of numbers p)) → (p : Perm) × (m ≡ cost_of numbers p)
+pub lesser : (numbers : SixCosts) (x y m : ℕ) → m ≡ min x y → ((p : Perm) × (x ≡ cost_of numbers p)) → ((p : Perm) × (y ≡ cost_of numbers p))
+    → (p : Perm) × (m ≡ cost_of numbers p)
 lesser numbers x y m is a b =
     ⊎_elim (λ less. (a.0, (let e : m ≡ x = omega arith in e ∙ a.1))) (λ over. (b.0, (let e : m ≡ y = omega arith in e ∙ b.1))) (cases_lt x y)
 

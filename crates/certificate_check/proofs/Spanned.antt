@@ -1,5 +1,6 @@
 -- Entries and their spans of pages.
-use Rattle.std.proofs.Common.{◌≡◌, ℕ, zero, suc, ◌+◌, ◌-◌, ◌*◌, ◌/◌, ◌%◌, ◌^◌, ◌<◌, ◌≤◌, inl, inr, ⊎_elim, min, List, length, take, drop, slice_index, arith, refl, sym, ap, ap₂, ◌∙◌, pow_pos, pow-add, mul_assoc, suc-mul}
+use Rattle.std.proofs.Common.{◌≡◌, ℕ, zero, suc, ◌+◌, ◌-◌, ◌*◌, ◌/◌, ◌%◌, ◌^◌, ◌<◌, ◌≤◌, inl, inr, ⊎_elim, min, List, length, take, drop, slice_index, arith}
+use Rattle.std.proofs.Common.{refl, sym, ap, ap₂, ◌∙◌, pow_pos, pow-add, mul_assoc, suc-mul}
 use Rattle.std.proofs.Math.Nat.{pow-le-pow_right}
 use Rattle.std.proofs.lemmas.Bool.{cases_lt}
 use Rattle.std.proofs.lemmas.Grind.{common_steps}
@@ -25,8 +26,11 @@ rest_from i xs = grind (arith, common_steps)
 
 -- pages are whole in a block of at least a page
 pub page_multiple : (e : Entry) → 12 ≤ e.region.log2 → IsMultiple 4096 e.region.base × IsMultiple 4096 (2 ^ e.region.log2)
-page_multiple e h =
-    (multiple_trans 4096 (2 ^ e.region.log2) e.region.base (power_multiple 12 e.region.log2 h) (multiple_from_mod (2 ^ e.region.log2) e.region.base e.region.block.aligned), power_multiple 12 e.region.log2 h)
+page_multiple e h = (
+  multiple_trans 4096 (2 ^ e.region.log2) e.region.base (power_multiple 12 e.region.log2 h)
+      (multiple_from_mod (2 ^ e.region.log2) e.region.base e.region.block.aligned),
+  power_multiple 12 e.region.log2 h,
+)
 
 -- ---- the pages by the address alone
 
@@ -50,7 +54,8 @@ shared number ones above split =
     let double : 2 ^ (ones + 1) ≡ 2 ^ ones * 2 = pow-add 2 ones 1 in
     let some : 0 < 2 ^ ones = pow_pos ones in
     let low : number ≡ above * 2 ^ (ones + 1) + (2 ^ ones - 1) = omega (arith, split, some) in
-    let apart : bit_and (2 ^ ones - 1) (2 ^ ones) ≡ 0 = and_pow (2 ^ ones - 1) ones ∙ no_times (bit_at (2 ^ ones - 1) ones) (2 ^ ones) (bit_at_above (2 ^ ones - 1) ones ones (omega (arith, some)) (omega arith)) in
+    let apart : bit_and (2 ^ ones - 1) (2 ^ ones) ≡ 0 = and_pow (2 ^ ones - 1) ones
+    ∙ no_times (bit_at (2 ^ ones - 1) ones) (2 ^ ones) (bit_at_above (2 ^ ones - 1) ones ones (omega (arith, some)) (omega arith)) in
     let parts : bit_and (above * 2 ^ (ones + 1) + (2 ^ ones - 1)) (above * 2 ^ (ones + 1) + 2 ^ ones) ≡ bit_and above above * 2 ^ (ones + 1) + bit_and (2 ^ ones - 1) (2 ^ ones) =
     and_block (ones + 1) above above (2 ^ ones - 1) (2 ^ ones) (omega (arith, double, some)) (omega (arith, double, some)) in
     let itself : bit_and above above * 2 ^ (ones + 1) ≡ above * 2 ^ (ones + 1) = ap (λ n. n * 2 ^ (ones + 1)) (and_itself above) in
@@ -65,7 +70,8 @@ one_block base other byte p a b low high under over =
 
 -- the first page and the end by what the address and the next one have in common, and by what either has
 by_both : (cfg address : ℕ) (e : Entry) → MeansEntry cfg address e → 12 ≤ e.region.log2
-    → (bit_and address (address + 1) / 1024 * 4096 ≡ e.region.base) × (min (bit_or address (address + 1) / 1024 + 1) (2 ^ 44) * 4096 ≡ e.region.base + 2 ^ e.region.log2)
+    → (bit_and address (address + 1) / 1024 * 4096 ≡ e.region.base) × (min (bit_or address (address + 1) / 1024 + 1)
+    (2 ^ 44) * 4096 ≡ e.region.base + 2 ^ e.region.log2)
 by_both cfg address e (inl four) page = absurd (let two = four.size in omega (arith, two, page))
 by_both cfg address e (inr block) page =
     let ones : ℕ = block.ones in
@@ -84,7 +90,8 @@ by_both cfg address e (inr block) page =
     let whole : 2 ^ e.region.log2 ≡ 2 ^ (ones + 1) * 4 = ap (λ k. 2 ^ k) long ∙ pow-add 2 (ones + 1) 2 in
     let place : above * 2 ^ e.region.log2 ≡ above * 2 ^ (ones + 1) * 4 = ap (λ n. above * n) whole ∙ sym (mul_assoc above (2 ^ (ones + 1)) 4) in
     let base : e.region.base ≡ above * 2 ^ e.region.log2 =
-    one_block e.region.base (above * 2 ^ e.region.log2) (4 * address) (2 ^ e.region.log2) (multiple_from_mod (2 ^ e.region.log2) e.region.base e.region.block.aligned) (above, refl)
+    one_block e.region.base (above * 2 ^ e.region.log2) (4 * address) (2 ^ e.region.log2)
+    (multiple_from_mod (2 ^ e.region.log2) e.region.base e.region.block.aligned) (above, refl)
     block.place.0 block.place.1 (omega (arith, place, split, double)) (omega (arith, place, split, double, whole, some)) in
     let pages = power_multiple 10 (ones + 1) (omega (arith, page, long)) in
     let before = multiple_trans 1024 (2 ^ (ones + 1)) (above * 2 ^ (ones + 1)) pages (above, refl) in

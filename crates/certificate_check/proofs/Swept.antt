@@ -8,10 +8,12 @@ use Rattle.certificate_check.specs.Spans.{Covers, Decides, first, none, AreClear
 
 -- the span that covers the page decides up to its end, where none before it covers anything
 pub decided_by :
-    (spans : ℕ → Span) (count page end to i : ℕ) (s : Span) → s ≡ spans i → i < count → s.first ≤ page → page < s.end → to ≡ min end s.end → AreClear spans i page end
+    (spans : ℕ → Span) (count page end to i : ℕ) (s : Span) → s ≡ spans i → i < count → s.first ≤ page → page < s.end → to ≡ min end s.end
+    → AreClear spans i page end
     → (at : ℕ) → page ≤ at → at < to → Decides spans count at s.perm
 decided_by spans count page end to i s is below from over shorter clear at after before =
-    let here : Covers (spans i) at = (let f : (spans i).first ≡ s.first = ap (λ (x : Span). x.first) (sym is) in let l : (spans i).end ≡ s.end = ap (λ (x : Span). x.end) (sym is) in (omega arith, omega arith)) in
+    let here : Covers (spans i) at = (let f : (spans i).first ≡ s.first = ap (λ (x : Span). x.first) (sym is) in let l : (spans i).end ≡ s.end = ap
+    (λ (x : Span). x.end) (sym is) in (omega arith, omega arith)) in
     subst (λ (x : Span). Decides spans count at x.perm) (sym is) (first i below here (λ j less. clear j at less after (omega arith)))
 
 pub decided_none : (spans : ℕ → Span) (count page end : ℕ) → AreClear spans count page end → (at : ℕ) → page ≤ at → at < end → Decides spans count at NoAccess

@@ -24,7 +24,8 @@ before_all b p (run ∷ runs) at later h =
     let before : at < end_of run = omega arith in
     ap (λ t. cond t run.perm (view_of_runs runs at)) (outside_low run.first run.count at low) ∙ before_all (end_of run) run.perm runs at later.1 before
 
-pub before_first : (runs : List Run) (d : Run) (at : ℕ) → AreLaterRuns runs → 1 ≤ length runs → at < (slice_index_or runs 0 d).first → view_of_runs runs at ≡ NoAccess
+pub before_first : (runs : List Run) (d : Run) (at : ℕ) → AreLaterRuns runs → 1 ≤ length runs → at < (slice_index_or runs 0 d).first
+    → view_of_runs runs at ≡ NoAccess
 before_first [] d at later some h = absurd (omega arith)
 before_first (run ∷ runs) d at (b, p, later) some h =
     let low : at < run.first = h in

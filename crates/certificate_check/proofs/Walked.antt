@@ -1,5 +1,6 @@
 -- The parts of a right node.
-use Rattle.std.proofs.Common.{◌≡◌, ℕ, zero, suc, ◌+◌, ◌*◌, ◌^◌, ◌<◌, ◌≤◌, List, ◌∷◌, ◌++◌, pow_pos, ◌-◌, ◌≢◌, arith, sym, subst, ap, refl, ◌∙◌, Result, Ok, Err, pow-suc}
+use Rattle.std.proofs.Common.{◌≡◌, ℕ, zero, suc, ◌+◌, ◌*◌, ◌^◌, ◌<◌, ◌≤◌, List, ◌∷◌, ◌++◌, pow_pos, ◌-◌, ◌≢◌, arith, sym, subst, ap, refl, ◌∙◌, Result, Ok, Err}
+use Rattle.std.proofs.Common.{pow-suc}
 use Rattle.std.specs.Result.{IfErr, IfOk, OnOk}
 use Rattle.pmp_encoding.specs.declared.perm.Perm.{Perm}
 use Rattle.pmp_encoding.specs.Perms.{bits_of}
@@ -25,7 +26,8 @@ pub record AreRightHalves (view : View) (half first : ℕ) (costs : Perm → ℕ
   pub high : IsRightNode view half (first + 2 ^ half) upper
   pub allowed : IsAllowed costs (bound_of lower) (bound_of upper)
 
-parts_of : (view : View) (half first : ℕ) (costs : Perm → ℕ) (lower upper : BoundTree) → IsRightNode view (suc half) first (Branch costs lower upper) → AreRightHalves view half first costs lower upper
+parts_of : (view : View) (half first : ℕ) (costs : Perm → ℕ) (lower upper : BoundTree) → IsRightNode view (suc half) first (Branch costs lower upper)
+    → AreRightHalves view half first costs lower upper
 parts_of view half first costs lower upper right = record {
   small = right.fits.0;
   low = record { fits = right.fits.1; sound = right.sound.0; sums = right.sums.1 };
@@ -33,7 +35,8 @@ parts_of view half first costs lower upper right = record {
   allowed = record { sums = right.sums.0; same = right.sound.2; any = right.sound.3 };
 }
 
-whole_of : (view : View) (half first : ℕ) (costs : Perm → ℕ) (lower upper : BoundTree) → AreRightHalves view half first costs lower upper → IsRightNode view (suc half) first (Branch costs lower upper)
+whole_of : (view : View) (half first : ℕ) (costs : Perm → ℕ) (lower upper : BoundTree) → AreRightHalves view half first costs lower upper
+    → IsRightNode view (suc half) first (Branch costs lower upper)
 whole_of view half first costs lower upper h = record {
   fits = (h.small, h.low.fits, h.high.fits);
   sound = (h.low.sound, h.high.sound, h.allowed.same, h.allowed.any);
@@ -60,22 +63,28 @@ pub record IsBranchAt (view : View) (half first : ℕ) (tree : BoundTree) (rest 
   pub left_is : left ≡ costs_bytes costs ++ (node_bytes lower ++ (node_bytes upper ++ rest))
 
 pub branch_at :
-    (view : View) (k half first : ℕ) (tree : BoundTree) (rest bytes left : List ℕ) → k ≡ suc half → bytes ≡ 1 ∷ left → IsRightNode view k first tree → bytes ≡ node_bytes tree ++ rest
+    (view : View) (k half first : ℕ) (tree : BoundTree) (rest bytes left : List ℕ) → k ≡ suc half → bytes ≡ 1 ∷ left → IsRightNode view k first tree
+    → bytes ≡ node_bytes tree ++ rest
     → IsBranchAt view half first tree rest left
-branch_at view k half first (Leaf perm) rest bytes left is tag right spelled = absurd (let e : 1 ∷ left ≡ 0 ∷ bits_of perm ∷ rest = sym tag ∙ spelled in tags_differ _ _ (sym e))
+branch_at view k half first (Leaf perm) rest bytes left is tag right spelled = absurd
+    (let e : 1 ∷ left ≡ 0 ∷ bits_of perm ∷ rest = sym tag ∙ spelled in tags_differ _ _ (sym e))
 branch_at view k half first (Branch costs lower upper) rest bytes left is tag right spelled = record {
   costs = costs;
   lower = lower;
   upper = upper;
   tree_is = refl;
   halves = parts_of view half first costs lower upper (subst (λ (n : ℕ). IsRightNode view n first (Branch costs lower upper)) is right);
-  left_is = (let e : 1 ∷ left ≡ 1 ∷ (costs_bytes costs ++ (node_bytes lower ++ (node_bytes upper ++ rest))) = sym tag ∙ spelled ∙ joined_branch costs lower upper rest in cc);
+  left_is = (let e : 1 ∷ left ≡ 1 ∷ (costs_bytes costs ++ (node_bytes lower ++ (node_bytes upper ++ rest))) = sym tag ∙ spelled
+      ∙ joined_branch costs lower upper rest in cc);
 }
 
 pub no_branch_at :
-    (view : View) (k first : ℕ) (tree : BoundTree) (rest bytes left : List ℕ) → k ≡ 0 → bytes ≡ 1 ∷ left → IsRightNode view k first tree → bytes ≡ node_bytes tree ++ rest → ⊥
-no_branch_at view k first (Leaf perm) rest bytes left is tag right spelled = (let e : 1 ∷ left ≡ 0 ∷ bits_of perm ∷ rest = sym tag ∙ spelled in tags_differ _ _ (sym e))
-no_branch_at view k first (Branch costs lower upper) rest bytes left is tag right spelled = page_whole view first costs lower upper (subst (λ (n : ℕ). IsRightNode view n first (Branch costs lower upper)) is right)
+    (view : View) (k first : ℕ) (tree : BoundTree) (rest bytes left : List ℕ) → k ≡ 0 → bytes ≡ 1 ∷ left → IsRightNode view k first tree
+    → bytes ≡ node_bytes tree ++ rest → ⊥
+no_branch_at view k first (Leaf perm) rest bytes left is tag right spelled =
+    (let e : 1 ∷ left ≡ 0 ∷ bits_of perm ∷ rest = sym tag ∙ spelled in tags_differ _ _ (sym e))
+no_branch_at view k first (Branch costs lower upper) rest bytes left is tag right spelled = page_whole view first costs lower upper
+    (subst (λ (n : ℕ). IsRightNode view n first (Branch costs lower upper)) is right)
 
 -- a right node that stands after a leaf's tag
 pub record IsLeafAt (view : View) (k first : ℕ) (tree : BoundTree) (rest left : List ℕ) : Type 0 where
@@ -89,7 +98,8 @@ uniform_from view zero first perm sound = sound
 uniform_from view (suc k) first perm sound = sound
 
 pub leaf_at :
-    (view : View) (k first : ℕ) (tree : BoundTree) (rest bytes left : List ℕ) → bytes ≡ 0 ∷ left → IsRightNode view k first tree → bytes ≡ node_bytes tree ++ rest
+    (view : View) (k first : ℕ) (tree : BoundTree) (rest bytes left : List ℕ) → bytes ≡ 0 ∷ left → IsRightNode view k first tree
+    → bytes ≡ node_bytes tree ++ rest
     → IsLeafAt view k first tree rest left
 leaf_at view k first (Leaf perm) rest bytes left tag right spelled = record {
   perm = perm;
@@ -104,9 +114,11 @@ leaf_at view k first (Branch costs lower upper) rest bytes left tag right spelle
 pub branch_fault :
     (view : View) (k half first : ℕ) (bytes rest : List ℕ) (costs f g : Perm → ℕ) (lower upper : BoundTree) (refusal : CheckRefusal) → k ≡ suc half
     → bytes ≡ 1 ∷ (costs_bytes costs ++ (node_bytes lower ++ (node_bytes upper ++ rest))) → ((p : Perm) → costs p < 2 ^ 32) → IsRightNode view half first lower
-    → IsRightNode view half (first + 2 ^ half) upper → f ≡ bound_of lower → g ≡ bound_of upper → BranchFault costs f g refusal → NodeFault view k first bytes refusal
+    → IsRightNode view half (first + 2 ^ half) upper → f ≡ bound_of lower → g ≡ bound_of upper → BranchFault costs f g refusal
+    → NodeFault view k first bytes refusal
 branch_fault view k half first bytes rest costs f g lower upper CostOverflow is spelled small low high p q fault =
-    overflow half costs lower upper rest is spelled low high (subst (λ (x : Perm → ℕ). IsTooLarge (bound_of lower) x) q (subst (λ (x : Perm → ℕ). IsTooLarge x g) p fault))
+    overflow half costs lower upper rest is spelled low high (subst (λ (x : Perm → ℕ). IsTooLarge (bound_of lower) x) q
+    (subst (λ (x : Perm → ℕ). IsTooLarge x g) p fault))
 branch_fault view k half first bytes rest costs f g lower upper CostTooHigh is spelled small low high p q fault =
     let here : BranchFault costs (bound_of lower) (bound_of upper) CostTooHigh =
     subst (λ (x : Perm → ℕ). BranchFault costs (bound_of lower) x CostTooHigh) q (subst (λ (x : Perm → ℕ). BranchFault costs x g CostTooHigh) p fault) in
@@ -116,12 +128,14 @@ branch_fault view k half first bytes rest costs f g lower upper refusal is spell
 -- a branch and its halves, one after the other
 pub spelled_in_turn :
     (bytes first second third left : List ℕ) (costs : Perm → ℕ) (lower upper : BoundTree) → bytes ≡ 1 ∷ first → first ≡ costs_bytes costs ++ second
-    → second ≡ node_bytes lower ++ third → third ≡ node_bytes upper ++ left → bytes ≡ 1 ∷ (costs_bytes costs ++ (node_bytes lower ++ (node_bytes upper ++ left)))
+    → second ≡ node_bytes lower ++ third → third ≡ node_bytes upper ++ left
+    → bytes ≡ 1 ∷ (costs_bytes costs ++ (node_bytes lower ++ (node_bytes upper ++ left)))
 spelled_in_turn bytes first second third left costs lower upper a b c d = cc
 
 -- what was read, where the costs are allowed
 pub branch_read :
-    (view : View) (k half first : ℕ) (bytes inner second third left : List ℕ) (costs : Perm → ℕ) (lower upper : SixCosts) (result : Result SixCosts CheckRefusal) → k ≡ suc half
+    (view : View) (k half first : ℕ) (bytes inner second third left : List ℕ) (costs : Perm → ℕ) (lower upper : SixCosts)
+    (result : Result SixCosts CheckRefusal) → k ≡ suc half
     → bytes ≡ 1 ∷ inner → inner ≡ costs_bytes costs ++ second → ((p : Perm) → costs p < 2 ^ 32) → IsNodeRead view half first second third lower
     → IsNodeRead view half (first + 2 ^ half) third left upper → OnOk result (IsAllowed costs (cost_of lower) (cost_of upper))
     → IfOk result (λ numbers. (p : Perm) → cost_of numbers p ≡ costs p) → IfOk result (λ numbers. IsNodeRead view k first bytes left numbers)
@@ -141,14 +155,16 @@ branch_read view k half first bytes inner second third left costs lower upper (O
 
 -- the fault that stands in a branch whose halves were read
 pub branch_refused :
-    (view : View) (k half first : ℕ) (bytes inner second third left : List ℕ) (costs : Perm → ℕ) (lower upper : SixCosts) (result : Result SixCosts CheckRefusal) → k ≡ suc half
+    (view : View) (k half first : ℕ) (bytes inner second third left : List ℕ) (costs : Perm → ℕ) (lower upper : SixCosts)
+    (result : Result SixCosts CheckRefusal) → k ≡ suc half
     → bytes ≡ 1 ∷ inner → inner ≡ costs_bytes costs ++ second → ((p : Perm) → costs p < 2 ^ 32) → IsNodeRead view half first second third lower
     → IsNodeRead view half (first + 2 ^ half) third left upper → IfErr result (BranchFault costs (cost_of lower) (cost_of upper))
     → IfErr result (NodeFault view k first bytes)
 branch_refused view k half first bytes inner second third left costs lower upper (Ok numbers) is a b small low high fault = tt
 branch_refused view k half first bytes inner second third left costs lower upper (Err refusal) is a b small low high fault =
     branch_fault view k half first bytes left costs (cost_of lower) (cost_of upper) low.tree high.tree refusal is
-    (spelled_in_turn bytes inner second third left costs low.tree high.tree a b low.spelled high.spelled) small low.right high.right (same_function _ _ low.numbers_of)
+    (spelled_in_turn bytes inner second third left costs low.tree high.tree a b low.spelled high.spelled) small low.right high.right
+    (same_function _ _ low.numbers_of)
     (same_function _ _ high.numbers_of) fault
 
 -- a right node begins with one of the two tags
@@ -158,7 +174,8 @@ tag_at (Branch costs lower upper) rest bytes spelled = (Tags.Branch, (costs_byte
 
 -- halves of an aligned block
 pub half_inside : (first half k most : ℕ) → k ≡ suc half → first + 2 ^ k ≤ most → first + 2 ^ half + 2 ^ half ≤ most
-half_inside first half k most is inside = let double : 2 ^ suc half ≡ 2 ^ half * 2 = pow-suc 2 half in let e : 2 ^ k ≡ 2 ^ suc half = ap (λ n. 2 ^ n) is in omega arith
+half_inside first half k most is inside = let double : 2 ^ suc half ≡ 2 ^ half * 2 = pow-suc 2 half in let e : 2 ^ k ≡ 2 ^ suc half = ap
+    (λ n. 2 ^ n) is in omega arith
 
 -- where the runs from a middle on are left, the views agree from there
 pub agree_on :
@@ -180,12 +197,14 @@ on_ok (Err refusal) p = tt
 
 -- pages that have one permission where the views agree
 pub one_permission :
-    (old view : View) (k first end : ℕ) (perm : Perm) → AgreeFrom first old view → end ≡ first + 2 ^ k → ((at : ℕ) → first ≤ at → at < end → old at ≡ perm) → IsUniform view k first perm
+    (old view : View) (k first end : ℕ) (perm : Perm) → AgreeFrom first old view → end ≡ first + 2 ^ k → ((at : ℕ) → first ≤ at → at < end → old at ≡ perm)
+    → IsUniform view k first perm
 one_permission old view k first end perm same is all i less = sym (same (first + i) (omega arith)) ∙ all (first + i) (omega arith) (omega arith)
 
 -- pages of two permissions have not one
 pub two_permissions :
-    (old view : View) (k first at : ℕ) → AgreeFrom first old view → first ≤ at → at < first + 2 ^ k → old at ≢ old first → (other : Perm) → IsUniform view k first other → ⊥
+    (old view : View) (k first at : ℕ) → AgreeFrom first old view → first ≤ at → at < first + 2 ^ k → old at ≢ old first → (other : Perm)
+    → IsUniform view k first other → ⊥
 two_permissions old view k first at same low high differ other uniform =
     let there : first + (at - first) ≡ at = omega arith in
     let here : first + 0 ≡ first = omega arith in

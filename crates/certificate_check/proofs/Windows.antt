@@ -1,5 +1,6 @@
 -- What is left to be read through a window goes on from place to place.
-use Rattle.std.proofs.Common.{◌≡◌, ◌≢◌, ℕ, ◌+◌, ◌*◌, ◌-◌, ◌^◌, ◌<◌, ◌≤◌, ◌⊎◌, ◌↔◌, inl, inr, ⊎_elim, List, [], ◌∷◌, ◌++◌, length, append_assoc, length-append, arith, refl, sym, ap, subst, ◌∙◌, Option, Some, None, Result, Ok, Err}
+use Rattle.std.proofs.Common.{◌≡◌, ◌≢◌, ℕ, ◌+◌, ◌*◌, ◌-◌, ◌^◌, ◌<◌, ◌≤◌, ◌⊎◌, ◌↔◌, inl, inr, ⊎_elim, List, [], ◌∷◌, ◌++◌, length, append_assoc, length-append}
+use Rattle.std.proofs.Common.{arith, refl, sym, ap, subst, ◌∙◌, Option, Some, None, Result, Ok, Err}
 use Rattle.std.specs.Prelude.{Bool, IsTrue, eqb, MatchResult}
 use Rattle.std.specs.Result.{IfOk, IfErr, IsErrAnd}
 use Rattle.std.specs.Io.KnownBytes.{Consumes, IsAtEnd}
@@ -37,7 +38,8 @@ pub reads_none : (at : Place) → Reads at at Stays
 reads_none at = record { most = refl; sound = λ n h. h; left = λ after total rest are. (rest, are, refl) }
 
 pub reads_then :
-    (a b c : Place) (P Q R : List ℕ → List ℕ → Type 0) → Reads a b P → Reads b c Q → ((left mid rest : List ℕ) → P left mid → Q mid rest → R left rest) → Reads a c R
+    (a b c : Place) (P Q R : List ℕ → List ℕ → Type 0) → Reads a b P → Reads b c Q → ((left mid rest : List ℕ) → P left mid → Q mid rest → R left rest)
+    → Reads a c R
 reads_then a b c P Q R first second both = record {
   most = second.most ∙ first.most;
   sound = λ n h. second.sound n (first.sound n h);
@@ -64,14 +66,17 @@ all_here at = record { later = []; held = sym (append-nil at.window.buffer); con
 -- a window that was open and counts what came is sound: it is still open, or too much came
 pub counts_soundly :
     (old new : Place) → old.window.inflow ≡ Open → new.failures ≡ old.failures → (new.window.inflow ≡ Open → new.window.came ≤ new.window.most)
-    → (new.window.inflow ≢ Open → (new.window.inflow ≡ TooLarge) × (new.window.most < new.window.came)) → new.window.came < 2 ^ 64 → (failures : ℕ) → IsSound failures old → IsSound failures new
+    → (new.window.inflow ≢ Open → (new.window.inflow ≡ TooLarge) × (new.window.most < new.window.came)) → new.window.came < 2 ^ 64 → (failures : ℕ)
+    → IsSound failures old → IsSound failures new
 counts_soundly old new was_open same few many fits failures is =
     let before : IsSoundAs Open failures old = subst (λ i. IsSoundAs i failures old) was_open is in
-    ⊎_elim (λ e. subst (λ i. IsSoundAs i failures new) (sym e) (same ∙ before.0, few e)) (λ e. let m = many e in subst (λ i. IsSoundAs i failures new) (sym m.0) (same ∙ before.0, m.1, fits)) (open_or new.window.inflow)
+    ⊎_elim (λ e. subst (λ i. IsSoundAs i failures new) (sym e) (same ∙ before.0, few e))
+    (λ e. let m = many e in subst (λ i. IsSoundAs i failures new) (sym m.0) (same ∙ before.0, m.1, fits)) (open_or new.window.inflow)
 
 -- bytes that came to a window which was open stand behind those that it held, and what is left is the same
 pub came_behind :
-    (old new : Place) (bytes : List ℕ) → old.window.inflow ≡ Open → new.window.buffer ≡ old.window.buffer ++ bytes → Consumes old.remaining new.remaining bytes → new.window.came ≡ counted old.window.came (length bytes)
+    (old new : Place) (bytes : List ℕ) → old.window.inflow ≡ Open → new.window.buffer ≡ old.window.buffer ++ bytes → Consumes old.remaining new.remaining bytes
+    → new.window.came ≡ counted old.window.came (length bytes)
     → new.window.most ≡ old.window.most → ((failures : ℕ) → IsSound failures old → IsSound failures new) → Reads old new Stays
 came_behind old new bytes was_open held came counts most sound = record {
   most = most;
@@ -111,7 +116,8 @@ sound_passed TooLarge j n mid new rest e p h =
     subst (λ (x : Inflow). IsSoundAs x n new) e (p.failures ∙ h.0, (let a = h.1 in omega (arith, a, p.came, p.most)), (let a = h.2 in omega (arith, a, p.came)))
 sound_passed Failed j n mid new rest e p h = subst (λ (x : Inflow). IsSoundAs x n new) e (p.failures ∙ h)
 
-pub passed : (mid new : Place) (front rest : List ℕ) → mid.window.buffer ≡ front ++ rest → IsPassed mid new rest → Reads mid new (λ left later. left ≡ front ++ later)
+pub passed : (mid new : Place) (front rest : List ℕ) → mid.window.buffer ≡ front ++ rest → IsPassed mid new rest
+    → Reads mid new (λ left later. left ≡ front ++ later)
 passed mid new front behind held p = record {
   most = p.most;
   sound = λ n h. sound_passed mid.window.inflow new.window.inflow n mid new behind (sym p.inflow) p h;
@@ -124,7 +130,8 @@ passed mid new front behind held p = record {
       counted = ap (λ n. counted n (length are.later)) (sym p.came) ∙ are.counted;
       closed = λ shut. are.closed (λ e. shut (sym p.inflow ∙ e));
     },
-    ap (λ xs. xs ++ are.later) held ∙ append_assoc front behind are.later ∙ ap (λ xs. front ++ (xs ++ are.later)) (sym p.buffer) ∙ ap (λ xs. front ++ xs) (sym are.held),
+    ap (λ xs. xs ++ are.later) held ∙ append_assoc front behind are.later ∙ ap (λ xs. front ++ (xs ++ are.later)) (sym p.buffer)
+        ∙ ap (λ xs. front ++ xs) (sym are.held),
   );
 }
 
@@ -156,14 +163,16 @@ part_refused old mid need P held enough is = record {
 
 -- a reader's fault passed on
 pub refused_match :
-    {T : Type 0} (result : Result T CheckRefusal) (fault : ReadFault) (P : T → Type 0) (F : CheckRefusal → Type 0) → IsErrAnd result (λ r. r ≡ refusal_of fault) → F (refusal_of fault)
+    {T : Type 0} (result : Result T CheckRefusal) (fault : ReadFault) (P : T → Type 0) (F : CheckRefusal → Type 0) → IsErrAnd result (λ r. r ≡ refusal_of fault)
+    → F (refusal_of fault)
     → MatchResult result P F
 refused_match (Ok x) fault P F h f = absurd h
 refused_match (Err r) fault P F h f = subst F (sym h) f
 
 -- a refusal passed on as it is
 pub refused_again_match :
-    {T : Type 0} (result : Result T CheckRefusal) (refusal : CheckRefusal) (P : T → Type 0) (F : CheckRefusal → Type 0) → IsErrAnd result (λ r. r ≡ refusal) → F refusal
+    {T : Type 0} (result : Result T CheckRefusal) (refusal : CheckRefusal) (P : T → Type 0) (F : CheckRefusal → Type 0) → IsErrAnd result (λ r. r ≡ refusal)
+    → F refusal
     → MatchResult result P F
 refused_again_match (Ok x) refusal P F h f = absurd h
 refused_again_match (Err r) refusal P F h f = subst F (sym h) f
@@ -197,14 +206,16 @@ unfolding one_failure_more
 never_none e = omega (arith, e)
 
 -- what is left of a slice
-slice_closed : (i : Inflow) (at : Place) (rest : List ℕ) → at.remaining ≡ Some rest → at.window.most ≡ 2 ^ 64 - 1 → at.failures ≡ 0 → i ≢ Open → IsSoundAs i 0 at → rest ≡ []
+slice_closed : (i : Inflow) (at : Place) (rest : List ℕ) → at.remaining ≡ Some rest → at.window.most ≡ 2 ^ 64 - 1 → at.failures ≡ 0 → i ≢ Open
+    → IsSoundAs i 0 at → rest ≡ []
 slice_closed Open at rest is most none shut h = absurd (shut refl)
 slice_closed AtEnd at rest is most none shut h = subst IsAtEnd is h.2
 slice_closed TooLarge at rest is most none shut h = (let a = h.1 in let b = h.2 in absurd (omega (arith, a, b, most)))
 slice_closed Failed at rest is most none shut h = absurd (never_none (sym none ∙ h))
 
 pub of_slice :
-    (old new : Place) (P : List ℕ → List ℕ → Type 0) (bytes rest : List ℕ) → Reads old new P → old.window.buffer ≡ [] → old.window.came ≡ 0 → old.window.most ≡ 2 ^ 64 - 1
+    (old new : Place) (P : List ℕ → List ℕ → Type 0) (bytes rest : List ℕ) → Reads old new P → old.window.buffer ≡ [] → old.window.came ≡ 0
+    → old.window.most ≡ 2 ^ 64 - 1
     → old.window.inflow ≡ Open → old.failures ≡ 0 → new.failures ≡ 0 → old.remaining ≡ Some bytes → new.remaining ≡ Some rest → (left : List ℕ) × P bytes left
 of_slice old new P bytes rest read empty zero most is_open none none' before after =
     let sound_old : IsSound 0 old = sound_as old.window.inflow Open 0 old is_open (none, (omega (arith, zero))) in
@@ -242,13 +253,15 @@ many_came n came most e many small = grind (arith, nat_tests, common_steps)
 
 -- why no more came
 whole_as :
-    (i : Inflow) (n : ℕ) (at : Place) → IsSoundAs i n at → fault_of i ≡ None → i ≢ Open → (at.failures ≡ n) × (at.window.came ≤ at.window.most) × IsAtEnd at.remaining
+    (i : Inflow) (n : ℕ) (at : Place) → IsSoundAs i n at → fault_of i ≡ None → i ≢ Open
+    → (at.failures ≡ n) × (at.window.came ≤ at.window.most) × IsAtEnd at.remaining
 whole_as Open n at h none shut = absurd (shut refl)
 whole_as AtEnd n at h none shut = h
 whole_as TooLarge n at h none shut = absurd (cc)
 whole_as Failed n at h none shut = absurd (cc)
 
-large_as : (i : Inflow) (n : ℕ) (at : Place) → IsSoundAs i n at → fault_of i ≡ Some faults.TooLarge → (at.window.most < at.window.came) × (at.window.came < 2 ^ 64)
+large_as : (i : Inflow) (n : ℕ) (at : Place) → IsSoundAs i n at → fault_of i ≡ Some faults.TooLarge
+    → (at.window.most < at.window.came) × (at.window.came < 2 ^ 64)
 large_as Open n at h is = absurd (cc)
 large_as AtEnd n at h is = absurd (cc)
 large_as TooLarge n at h is = (h.1, h.2)
@@ -280,7 +293,8 @@ fresh_sound : (at : Place) (most : ℕ) → IsFresh at most → IsSound at.failu
 fresh_sound at most fresh = sound_as at.window.inflow Open at.failures at fresh.is_open (refl, (let z = fresh.zero in omega arith))
 
 pub whole_from :
-    (old new : Place) (most : ℕ) (P : List ℕ → List ℕ → Type 0) → Reads old new P → IsFresh old most → most < 2 ^ 32 → fault_of new.window.inflow ≡ None → new.window.inflow ≢ Open
+    (old new : Place) (most : ℕ) (P : List ℕ → List ℕ → Type 0) → Reads old new P → IsFresh old most → most < 2 ^ 32 → fault_of new.window.inflow ≡ None
+    → new.window.inflow ≢ Open
     → (bytes : List ℕ) × Consumes old.remaining new.remaining bytes × IsAtEnd new.remaining × (length bytes ≤ most) × P bytes new.window.buffer
 whole_from old new most P read fresh small none shut =
     let came = came_from old new P read fresh.empty fresh.zero in
@@ -320,7 +334,8 @@ empty_when (x ∷ xs) later said is which = (λ t. absurd (some_length (eqb-true
 
 -- a stop passed on
 pub stopped_match :
-    {T : Type 0} (result : Result T Stop) (stop : Stop) (P : T → Type 0) (F : CheckRefusal → Type 0) → IsErrAnd result (λ s. s ≡ stop) → StandsIn F stop → MatchResult result P (StandsIn F)
+    {T : Type 0} (result : Result T Stop) (stop : Stop) (P : T → Type 0) (F : CheckRefusal → Type 0) → IsErrAnd result (λ s. s ≡ stop) → StandsIn F stop
+    → MatchResult result P (StandsIn F)
 stopped_match (Ok x) stop P F h f = absurd h
 stopped_match (Err s) stop P F h f = subst (StandsIn F) (sym h) f
 
@@ -362,10 +377,12 @@ within_as TooLarge n at h is = absurd (cc)
 within_as Failed n at h is = absurd (cc)
 
 -- entries that are all listed have come
-few_listed : (count : ℕ) (bytes behind rest : List ℕ) (header : Header) → bytes ≡ header_bytes header ++ behind → AreListed count behind rest → 9 * count ≤ length bytes
+few_listed : (count : ℕ) (bytes behind rest : List ℕ) (header : Header) → bytes ≡ header_bytes header ++ behind → AreListed count behind rest
+    → 9 * count ≤ length bytes
 few_listed count bytes behind rest header headed (es, listed, all) =
     let whole : length bytes ≡ length (header_bytes header) + (length listed.listed + length rest) =
-    ap length headed ∙ length-append (header_bytes header) behind ∙ ap (λ n. length (header_bytes header) + n) (ap length listed.split ∙ length-append listed.listed rest)
+    ap length headed ∙ length-append (header_bytes header) behind ∙ ap (λ n. length (header_bytes header) + n)
+    (ap length listed.split ∙ length-append listed.listed rest)
     in
     let long = listed_long listed.listed es listed.spelled in
     omega (arith, whole, long, all)
@@ -375,7 +392,8 @@ few_told most bytes rest are short = record {
   header = are.header;
   rest = are.behind;
   headed = are.headed;
-  few = ⊎_elim (λ few. few) (λ listed. (let long = few_listed are.header.count bytes are.behind rest are.header are.headed listed in omega (arith, long, short))) are.why;
+  few = ⊎_elim (λ few. few) (λ listed. (let long = few_listed are.header.count bytes are.behind rest are.header are.headed listed in omega
+      (arith, long, short))) are.why;
 }
 
 pub memory_from :

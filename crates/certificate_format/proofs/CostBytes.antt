@@ -1,12 +1,14 @@
 -- The twenty-four bytes of six costs, and the nine of an entry.
-use Rattle.std.proofs.Common.{◌≡◌, ℕ, ◌+◌, ◌^◌, ◌<◌, ◌≤◌, List, [], ◌∷◌, ◌++◌, length, take, drop, slice_index, refl, sym, ap, ap₂, suc, ◌∙◌, append_assoc, length-append, arith}
+use Rattle.std.proofs.Common.{◌≡◌, ℕ, ◌+◌, ◌^◌, ◌<◌, ◌≤◌, List, [], ◌∷◌, ◌++◌, length, take, drop, slice_index, refl, sym, ap, ap₂, suc, ◌∙◌, append_assoc}
+use Rattle.std.proofs.Common.{length-append, arith}
 use Rattle.std.proofs.lemmas.List.{take-append-drop, length-drop, append-nil, drop-drop, drop_all}
 use Rattle.byteorder.specs.Endian.{little_number}
 use Rattle.pmp_encoding.specs.declared.perm.Perm.{Perm}
 use Rattle.pmp_encoding.specs.declared.perm.Perm.TheVariants.{NoAccess, Read, ReadWrite, Execute, ReadExecute, ReadWriteExecute}
 use Rattle.certificate_format.specs.Costs.{cost_of, costs_in, six_of}
 use Rattle.certificate_format.specs.Spelling.{u32_bytes, u64_bytes, pair_bytes, costs_bytes}
-use Rattle.certificate_format.proofs.Numbers.{AreBytes, bytes_drop, u32_bytes-number, u64_whole, length-u32_bytes, length-u64_bytes, number_lt32, same_u32, same_u64}
+use Rattle.certificate_format.proofs.Numbers.{AreBytes, bytes_drop, u32_bytes-number, u64_whole, length-u32_bytes, length-u64_bytes, number_lt32, same_u32}
+use Rattle.certificate_format.proofs.Numbers.{same_u64}
 
 -- four bytes further on
 four_more : (n : ℕ) (bytes : List ℕ) → AreBytes bytes → n + 4 ≤ length bytes → drop n bytes ≡ u32_bytes (little_number 4 (drop n bytes)) ++ drop (n + 4) bytes
@@ -42,7 +44,8 @@ pub length-costs_bytes : (costs : Perm → ℕ) → length (costs_bytes costs) �
 length-costs_bytes costs = simp (length-append, length-u32_bytes) refl
 
 -- the same bytes spell the same costs
-pub same_costs : (f g : Perm → ℕ) (a b : List ℕ) → ((perm : Perm) → f perm < 2 ^ 32) → ((perm : Perm) → g perm < 2 ^ 32) → costs_bytes f ++ a ≡ costs_bytes g ++ b → (six_of f ≡ six_of g) × (a ≡ b)
+pub same_costs : (f g : Perm → ℕ) (a b : List ℕ) → ((perm : Perm) → f perm < 2 ^ 32) → ((perm : Perm) → g perm < 2 ^ 32)
+    → costs_bytes f ++ a ≡ costs_bytes g ++ b → (six_of f ≡ six_of g) × (a ≡ b)
 same_costs f g a b hf hg e =
     let flat = simp append_assoc at e in
     let one = same_u32 (f NoAccess) (g NoAccess) _ _ (hf NoAccess) (hg NoAccess) flat in

@@ -1,5 +1,6 @@
 -- A header is spelled in one way, and at most one fault stands in its place.
-use Rattle.std.proofs.Common.{◌≡◌, ℕ, ◌^◌, ◌<◌, ◌↔◌, inl, inr, List, ◌∷◌, ◌++◌, length, take, drop, lit<, refl, sym, ap, ap₂, subst, ◌∙◌, append_assoc, length-append, Result, Err, arith}
+use Rattle.std.proofs.Common.{◌≡◌, ℕ, ◌^◌, ◌<◌, ◌↔◌, inl, inr, List, ◌∷◌, ◌++◌, length, take, drop, lit<, refl, sym, ap, ap₂, subst, ◌∙◌, append_assoc}
+use Rattle.std.proofs.Common.{length-append, Result, Err, arith}
 use Rattle.certificate_format.specs.declared.fault.ReadFault.{ReadFault}
 use Rattle.certificate_format.specs.declared.fault.ReadFault.TheVariants.{BadMagic, BadVersion, Truncated, BadTag, BadPerm, BadLimit}
 use Rattle.pmp_encoding.specs.declared.limit.Limit.TheVariants.{Sixteen, SixtyFour}
@@ -106,9 +107,12 @@ header_once bytes f g (in_magic h) (in_version rest e w) = absurd (magic_stands 
 header_once bytes f g (in_magic h) (in_count version rest e w) = absurd (magic_stands bytes (version_bytes version ++ rest) f e h)
 header_once bytes f g (in_version rest e h) (in_magic w) = absurd (magic_stands bytes rest g e w)
 header_once bytes f g (in_count version rest e h) (in_magic w) = absurd (magic_stands bytes (version_bytes version ++ rest) g e w)
-header_once bytes f g (in_version rest e h) (in_version rest' e' w) = let same = behind bytes rest' rest e' e in let w' = subst (λ (r : List ℕ). VersionFault r g) same w in version_once rest f g h w'
-header_once bytes f g (in_version rest e h) (in_count version rest' e' w) = absurd (version_stands rest rest' version f (behind bytes rest (version_bytes version ++ rest') e e') h)
-header_once bytes f g (in_count version rest e h) (in_version rest' e' w) = absurd (version_stands rest' rest version g (behind bytes rest' (version_bytes version ++ rest) e' e) w)
+header_once bytes f g (in_version rest e h) (in_version rest' e' w) = let same = behind bytes rest' rest e' e in let w' = subst
+    (λ (r : List ℕ). VersionFault r g) same w in version_once rest f g h w'
+header_once bytes f g (in_version rest e h) (in_count version rest' e' w) = absurd
+    (version_stands rest rest' version f (behind bytes rest (version_bytes version ++ rest') e e') h)
+header_once bytes f g (in_count version rest e h) (in_version rest' e' w) = absurd
+    (version_stands rest' rest version g (behind bytes rest' (version_bytes version ++ rest) e' e) w)
 header_once bytes f g (in_count version rest e h) (in_count version' rest' e' w) =
     let same = same_version version' version rest' rest (behind bytes (version_bytes version' ++ rest') (version_bytes version ++ rest) e' e) in
     short_once 4 rest f g h (subst (λ (r : List ℕ). ShortFault 4 r g) same.1 w)
@@ -126,11 +130,14 @@ short_count n bytes rest BadPerm e h = h
 short_count n bytes rest BadLimit e h = h
 
 pub header_stands : (bytes : List ℕ) (header : Header) (rest : List ℕ) (f : ReadFault) → bytes ≡ header_bytes header ++ rest → HeaderFault bytes f → ⊥
-header_stands bytes header rest f e (in_magic h) = magic_stands bytes (version_bytes header.version ++ (u32_bytes header.count ++ rest)) f (e ∙ spelled_as header rest) h
+header_stands bytes header rest f e (in_magic h) = magic_stands bytes (version_bytes header.version ++ (u32_bytes header.count ++ rest)) f
+    (e ∙ spelled_as header rest) h
 header_stands bytes header rest f e (in_version rest' e' h) =
-    version_stands rest' (u32_bytes header.count ++ rest) header.version f (behind bytes rest' (version_bytes header.version ++ (u32_bytes header.count ++ rest)) e' (e ∙ spelled_as header rest)) h
+    version_stands rest' (u32_bytes header.count ++ rest) header.version f
+    (behind bytes rest' (version_bytes header.version ++ (u32_bytes header.count ++ rest)) e' (e ∙ spelled_as header rest)) h
 header_stands bytes header rest f e (in_count version rest' e' h) =
-    let both = behind bytes (version_bytes version ++ rest') (version_bytes header.version ++ (u32_bytes header.count ++ rest)) e' (e ∙ spelled_as header rest) in
+    let both = behind bytes (version_bytes version ++ rest') (version_bytes header.version ++ (u32_bytes header.count ++ rest)) e'
+    (e ∙ spelled_as header rest) in
     short_count header.count rest' rest f (same_version version header.version rest' (u32_bytes header.count ++ rest) both).1 h
 
 header_of : Version → ℕ → Header
@@ -140,13 +147,15 @@ header_of version count = record { version = version; count = count }
 pub same_header : (h g : Header) (a b : List ℕ) → h.count < 2 ^ 32 → g.count < 2 ^ 32 → header_bytes h ++ a ≡ header_bytes g ++ b → (h ≡ g) × (a ≡ b)
 unfolding header_of
 same_header h g a b fits_h fits_g e =
-    let both = same_magic (version_bytes h.version ++ (u32_bytes h.count ++ a)) (version_bytes g.version ++ (u32_bytes g.count ++ b)) (sym (spelled_as h a) ∙ e ∙ spelled_as g b) in
+    let both = same_magic (version_bytes h.version ++ (u32_bytes h.count ++ a)) (version_bytes g.version ++ (u32_bytes g.count ++ b))
+    (sym (spelled_as h a) ∙ e ∙ spelled_as g b) in
     let version = same_version h.version g.version (u32_bytes h.count ++ a) (u32_bytes g.count ++ b) both in
     let count = same_u32 h.count g.count a b fits_h fits_g version.1 in
     (ap₂ (λ (v : Version) (n : ℕ). header_of v n) version.0 count.0, count.1)
 
 -- the same for the bytes of a cursor
-pub err_exactly : (bytes all : List ℕ) (e : ReadFault) → bytes ≡ all → HeaderFault bytes e → (f : ReadFault) → (◌≡◌ {A = Result Header ReadFault} (Err e) (Err f)) ↔ HeaderFault all f
+pub err_exactly : (bytes all : List ℕ) (e : ReadFault) → bytes ≡ all → HeaderFault bytes e → (f : ReadFault)
+    → (◌≡◌ {A = Result Header ReadFault} (Err e) (Err f)) ↔ HeaderFault all f
 err_exactly bytes all e same h f =
     let here = subst (λ (b : List ℕ). HeaderFault b e) same h in
     (λ q. let one : e ≡ f = cc in subst (λ (x : ReadFault). HeaderFault all x) one here, λ w. ap Err (header_once all e f here w))

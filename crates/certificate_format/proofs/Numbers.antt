@@ -1,5 +1,6 @@
 -- The bytes of a number, and the number in bytes.
-use Rattle.std.proofs.Common.{◌≡◌, ℕ, zero, suc, ◌+◌, ◌*◌, ◌/◌, ◌%◌, ◌^◌, ◌<◌, ◌≤◌, List, [], ◌∷◌, ◌++◌, length, take, drop, slice_index, refl, sym, ap, ◌∙◌, arith}
+use Rattle.std.proofs.Common.{◌≡◌, ℕ, zero, suc, ◌+◌, ◌*◌, ◌/◌, ◌%◌, ◌^◌, ◌<◌, ◌≤◌, List, [], ◌∷◌, ◌++◌, length, take, drop, slice_index, refl, sym, ap, ◌∙◌}
+use Rattle.std.proofs.Common.{arith}
 use Rattle.std.proofs.Math.Nat.{div-div-eq-div-mul, pow-succ'}
 use Rattle.std.proofs.lemmas.List.{take_all, take-append-drop, length-take-le}
 use Rattle.std.specs.Int.{byte_at, bytes_low_first}
@@ -76,12 +77,14 @@ pub u32_whole : (bytes : List ℕ) → AreBytes bytes → length bytes ≡ 4 →
 u32_whole bytes h e = sym (u32_bytes-number bytes h (omega arith) ∙ take_all 4 bytes (omega arith))
 
 -- the four bytes in front, and what is left
-pub u32_front : (bytes front rest : List ℕ) (n : ℕ) → AreBytes bytes → 4 ≤ length bytes → front ≡ take 4 bytes → rest ≡ drop 4 bytes → n ≡ little_number 4 front → bytes ≡ u32_bytes n ++ rest
+pub u32_front : (bytes front rest : List ℕ) (n : ℕ) → AreBytes bytes → 4 ≤ length bytes → front ≡ take 4 bytes → rest ≡ drop 4 bytes → n ≡ little_number 4 front
+    → bytes ≡ u32_bytes n ++ rest
 u32_front bytes front rest n h long is_front is_rest is_n =
     let long_enough : length (take 4 bytes) ≡ 4 = length-take-le 4 bytes long in
     let whole : take 4 bytes ≡ u32_bytes (little_number 4 (take 4 bytes)) = u32_whole (take 4 bytes) (bytes_take 4 bytes h) long_enough in
     let number : n ≡ little_number 4 (take 4 bytes) = is_n ∙ ap (little_number 4) is_front in
-    sym (take-append-drop 4 bytes) ∙ ap (λ (f : List ℕ). f ++ drop 4 bytes) (whole ∙ ap u32_bytes (sym number)) ∙ ap (λ (r : List ℕ). u32_bytes n ++ r) (sym is_rest)
+    sym (take-append-drop 4 bytes) ∙ ap (λ (f : List ℕ). f ++ drop 4 bytes) (whole ∙ ap u32_bytes (sym number))
+    ∙ ap (λ (r : List ℕ). u32_bytes n ++ r) (sym is_rest)
 
 pub u64_bytes-number : (bytes : List ℕ) → AreBytes bytes → 8 ≤ length bytes → u64_bytes (little_number 8 bytes) ≡ take 8 bytes
 unfolding u64_bytes

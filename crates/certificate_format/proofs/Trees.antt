@@ -47,7 +47,8 @@ pub joined_branch :
     → node_bytes (Branch costs lower upper) ++ rest ≡ 1 ∷ (costs_bytes costs ++ (node_bytes lower ++ (node_bytes upper ++ rest)))
 joined_branch costs lower upper rest =
     ap (λ xs. 1 ∷ xs)
-    (append_assoc (costs_bytes costs) (node_bytes lower ++ node_bytes upper) rest ∙ ap (λ xs. costs_bytes costs ++ xs) (append_assoc (node_bytes lower) (node_bytes upper) rest))
+    (append_assoc (costs_bytes costs) (node_bytes lower ++ node_bytes upper) rest
+    ∙ ap (λ xs. costs_bytes costs ++ xs) (append_assoc (node_bytes lower) (node_bytes upper) rest))
 
 -- two trees at the front of the same bytes are one, and so is what follows them
 pub same_tree : (k : ℕ) (s t : BoundTree) (a b : List ℕ) → FitsNode k s → FitsNode k t → node_bytes s ++ a ≡ node_bytes t ++ b → (s ≡ t) × (a ≡ b)
@@ -63,5 +64,8 @@ same_tree (suc k) (Branch costs lower upper) (Branch costs' lower' upper') a b f
     in
     let head = same_costs costs costs' _ _ fits.0 fits'.0 flat in
     let low = same_tree k lower lower' _ _ fits.1 fits'.1 head.1 in
-    let high = same_tree k upper upper' a b fits.2 fits'.2 low.1 in
-    (ap (λ x. Branch x lower upper) (one_function costs costs' head.0) ∙ ap (λ x. Branch costs' x upper) low.0 ∙ ap (λ x. Branch costs' lower' x) high.0, high.1)
+    let high = same_tree k upper upper' a b fits.2 fits'.2 low.1 in (
+      ap (λ x. Branch x lower upper) (one_function costs costs' head.0) ∙ ap (λ x. Branch costs' x upper) low.0
+          ∙ ap (λ x. Branch costs' lower' x) high.0,
+      high.1,
+    )

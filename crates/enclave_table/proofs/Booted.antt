@@ -1,5 +1,6 @@
 -- The table at boot.
-use Rattle.std.proofs.Common.{ℕ, zero, suc, ◌≡◌, ◌∙◌, ◌-◌, ⊎_elim, sym, ap, refl, Bool, true, false, ◌||◌, cond, List, length, get_or, replicate, Option, None, Some, arith}
+use Rattle.std.proofs.Common.{ℕ, zero, suc, ◌≡◌, ◌∙◌, ◌-◌, ⊎_elim, sym, ap, refl, Bool, true, false, ◌||◌, cond, List, length, get_or, replicate, Option, None}
+use Rattle.std.proofs.Common.{Some, arith}
 use Rattle.std.proofs.lemmas.Bool.{cases_lt}
 use Rattle.std.proofs.lemmas.List.{get_or-replicate, length-replicate, get_or_past}
 use Rattle.pmp_encoding.specs.declared.perm.Perm.TheVariants.{NoAccess}
@@ -39,14 +40,16 @@ or_none : (b : Bool) → (b || false) ≡ b
 or_none true = refl
 or_none false = refl
 
-pub opening_view : (layout : PlatformLayout) (view : View) → SameView view (λ page. cond (has_page layout.monitor page) NoAccess (platform_perm layout page)) → SameView view (host_view (opening_table layout))
+pub opening_view : (layout : PlatformLayout) (view : View) → SameView view (λ page. cond (has_page layout.monitor page) NoAccess (platform_perm layout page))
+    → SameView view (host_view (opening_table layout))
 opening_view layout view same page small =
     let hidden : (has_page layout.monitor page || any_private (replicate 64 None) page) ≡ has_page layout.monitor page =
     ap (λ t. has_page layout.monitor page || t) (none_private 64 page) ∙ or_none (has_page layout.monitor page) in
     same page small ∙ sym (ap (λ t. cond t NoAccess (platform_perm layout page)) hidden)
 
 pub opening_kept :
-    (layout : PlatformLayout) (list : List Entry) (lists : List (List Entry)) → IsLayout layout → IsListOf layout.limit (host_view (opening_table layout)) list → length lists ≡ 64
+    (layout : PlatformLayout) (list : List Entry) (lists : List (List Entry)) → IsLayout layout → IsListOf layout.limit (host_view (opening_table layout)) list
+    → length lists ≡ 64
     → IsKept (record { table = opening_table layout; host_list = list; lists = lists })
 opening_kept layout list lists is host places =
     record {

@@ -54,8 +54,10 @@ host_want digests old world asked parts id view refusal is passes next same want
     create_host_want digests old world asked id view refusal (subst P is passes) next (subst S is same) want
 
 pub enclave_want :
-    (digests : Create → List ℕ) (old : EnclaveTable) (world : World) (asked parts : Create) (limit : Limit) (refusal : Refusal) → parts ≡ parts_of asked → limit ≡ old.layout.limit
-    → AllPass (create_checks old world parts) → IsWant limit (enclave_view parts) refusal → RefusesBy (create_checks old world (parts_of asked)) (OutgrowsByCreate digests old asked) refusal
+    (digests : Create → List ℕ) (old : EnclaveTable) (world : World) (asked parts : Create) (limit : Limit) (refusal : Refusal) → parts ≡ parts_of asked
+    → limit ≡ old.layout.limit
+    → AllPass (create_checks old world parts) → IsWant limit (enclave_view parts) refusal
+    → RefusesBy (create_checks old world (parts_of asked)) (OutgrowsByCreate digests old asked) refusal
 enclave_want digests old world asked parts limit refusal is same passes want =
     let P : Create → Type 0 = λ p. AllPass (create_checks old world p) in
     let W : Create → Type 0 = λ p. IsWant old.layout.limit (enclave_view p) refusal in
@@ -81,6 +83,7 @@ creates digests old world asked parts id new is passes next added host enclave =
     }
 
 -- the pages of a range as they are written
-pub along : (view other : View) (range value : PageRange) (p : Perm) → range ≡ value → SameView (overwritten view value.first value.count p) other → SameView (overwritten view range.first range.count p) other
+pub along : (view other : View) (range value : PageRange) (p : Perm) → range ≡ value → SameView (overwritten view value.first value.count p) other
+    → SameView (overwritten view range.first range.count p) other
 along view other range value p is same =
     let P : PageRange → Type 0 = λ r. SameView (overwritten view r.first r.count p) other in subst P (sym is) same

@@ -1,5 +1,6 @@
 -- How many runs the host's view has at most.
-use Rattle.std.proofs.Common.{ℕ, suc, ◌≡◌, ◌∙◌, ◌+◌, ◌*◌, ◌/◌, ◌≤◌, sym, ap, refl, Bool, true, false, ◌||◌, cond, List, [], ◌∷◌, length, Option, None, Some, arith}
+use Rattle.std.proofs.Common.{ℕ, suc, ◌≡◌, ◌∙◌, ◌+◌, ◌*◌, ◌/◌, ◌≤◌, sym, ap, refl, Bool, true, false, ◌||◌, cond, List, [], ◌∷◌, length, Option, None, Some}
+use Rattle.std.proofs.Common.{arith}
 use Rattle.pmp_encoding.specs.declared.perm.Perm.{Perm}
 use Rattle.pmp_encoding.specs.declared.perm.Perm.TheVariants.{NoAccess, ReadWriteExecute}
 use Rattle.pmp_match.specs.Meaning.{View}
@@ -25,7 +26,8 @@ abbrev pub HasFewRuns : View → ℕ → Type 0
 HasFewRuns view n = (runs : List Run) → AreRunsOf view runs → length runs ≤ n
 
 -- a range adds two
-pub two_runs_more : (view new : View) (first count : ℕ) (perm : Perm) (n : ℕ) → SameView new (overwritten view first count perm) → HasFewRuns view n → HasFewRuns new (n + 2)
+pub two_runs_more : (view new : View) (first count : ℕ) (perm : Perm) (n : ℕ) → SameView new (overwritten view first count perm) → HasFewRuns view n
+    → HasFewRuns new (n + 2)
 two_runs_more view new first count perm n same few = λ runs are.
     let old = runs_exist view in
     let both : SameView (view_of_runs runs) (overwritten (view_of_runs old.0) first count perm) = λ page small.
@@ -49,11 +51,13 @@ memory_perm : (a b : Bool) (q : Perm) → cond (a || b) ReadWriteExecute q ≡ c
 memory_perm true b q = refl
 memory_perm false b q = refl
 
-memory_few : (ram : List (ℕ × ℕ)) (view : View) (n : ℕ) → HasFewRuns view n → HasFewRuns (λ page. cond (is_among ram page) ReadWriteExecute (view page)) (2 * length ram + n)
+memory_few : (ram : List (ℕ × ℕ)) (view : View) (n : ℕ) → HasFewRuns view n
+    → HasFewRuns (λ page. cond (is_among ram page) ReadWriteExecute (view page)) (2 * length ram + n)
 memory_few [] view n few = more view n (2 * 0 + n) (omega arith) few
 memory_few (r ∷ rs) view n few =
     more (λ page. cond (is_among (r ∷ rs) page) ReadWriteExecute (view page)) (2 * length rs + n + 2) (2 * length (r ∷ rs) + n) (omega arith)
-    (two_runs_more (λ page. cond (is_among rs page) ReadWriteExecute (view page)) (λ page. cond (is_among (r ∷ rs) page) ReadWriteExecute (view page)) (r.0 / 4096) (r.1 / 4096)
+    (two_runs_more (λ page. cond (is_among rs page) ReadWriteExecute (view page)) (λ page. cond (is_among (r ∷ rs) page) ReadWriteExecute (view page))
+    (r.0 / 4096) (r.1 / 4096)
     ReadWriteExecute (2 * length rs + n) (λ page small. memory_perm (has_page r page) (is_among rs page) (view page)) (memory_few rs view n few))
 
 hidden_perm : (p m a : Bool) (q : Perm) → cond (m || (p || a)) NoAccess q ≡ cond p NoAccess (cond (m || a) NoAccess q)
@@ -69,12 +73,22 @@ enclaves_few :
     (es : List (Option Enclave)) (monitor : ℕ → Bool) (allowed : View) (n : ℕ) → HasFewRuns (λ page. cond (monitor page) NoAccess (allowed page)) n
     → HasFewRuns (λ page. cond (monitor page || any_private es page) NoAccess (allowed page)) (2 * length es + n)
 enclaves_few [] monitor allowed n few = λ runs are.
-    omega (arith, few runs (record { are_runs = are.are_runs; view_is = λ page small. are.view_is page small ∙ ap (λ t. cond t NoAccess (allowed page)) (or_none (monitor page)) }))
+    omega (
+      arith,
+      few runs (record {
+        are_runs = are.are_runs;
+        view_is = λ page small. are.view_is page small
+            ∙ ap (λ t. cond t NoAccess (allowed page)) (or_none (monitor page));
+      }),
+    )
 enclaves_few (None ∷ es) monitor allowed n few =
-    more (λ page. cond (monitor page || any_private es page) NoAccess (allowed page)) (2 * length es + n) (2 * suc (length es) + n) (omega arith) (enclaves_few es monitor allowed n few)
+    more (λ page. cond (monitor page || any_private es page) NoAccess (allowed page)) (2 * length es + n) (2 * suc (length es) + n) (omega arith)
+    (enclaves_few es monitor allowed n few)
 enclaves_few (Some e ∷ es) monitor allowed n few =
-    more (λ page. cond (monitor page || any_private (Some e ∷ es) page) NoAccess (allowed page)) (2 * length es + n + 2) (2 * length (Some e ∷ es) + n) (omega arith)
-    (two_runs_more (λ page. cond (monitor page || any_private es page) NoAccess (allowed page)) (λ page. cond (monitor page || any_private (Some e ∷ es) page) NoAccess (allowed page))
+    more (λ page. cond (monitor page || any_private (Some e ∷ es) page) NoAccess (allowed page)) (2 * length es + n + 2) (2 * length (Some e ∷ es) + n)
+    (omega arith)
+    (two_runs_more (λ page. cond (monitor page || any_private es page) NoAccess (allowed page))
+    (λ page. cond (monitor page || any_private (Some e ∷ es) page) NoAccess (allowed page))
     (e.parts.base / 4096) (e.parts.text_pages + e.parts.data_pages) NoAccess (2 * length es + n)
     (λ page small. hidden_perm (is_private e.parts page) (monitor page) (any_private es page) (allowed page)) (enclaves_few es monitor allowed n few))
 
@@ -85,13 +99,15 @@ host_few table is =
     let platform : HasFewRuns (platform_perm table.layout) (2 * length table.layout.ram + 2 * length table.layout.devices) =
     memory_few table.layout.ram (device_perm table.layout.devices) (2 * length table.layout.devices) devices in
     let monitor : HasFewRuns (λ page. cond (has_page table.layout.monitor page) NoAccess (platform_perm table.layout page)) (2 * length table.layout.ram + 2 * length table.layout.devices + 2) =
-    two_runs_more (platform_perm table.layout) (λ page. cond (has_page table.layout.monitor page) NoAccess (platform_perm table.layout page)) (table.layout.monitor.0 / 4096)
+    two_runs_more (platform_perm table.layout) (λ page. cond (has_page table.layout.monitor page) NoAccess (platform_perm table.layout page))
+    (table.layout.monitor.0 / 4096)
     (table.layout.monitor.1 / 4096) NoAccess (2 * length table.layout.ram + 2 * length table.layout.devices) (λ page small. refl) platform in
     let few_ram : length table.layout.ram ≤ 32 = is.layout.rules.1.1.1.0.1 in
     let few_devices : length table.layout.devices ≤ 32 = is.layout.rules.1.1.1.0.2 in
     more (host_view table) (2 * length table.enclaves + (2 * length table.layout.ram + 2 * length table.layout.devices + 2)) 258
     (omega (arith, is.places, few_ram, few_devices))
-    (enclaves_few table.enclaves (has_page table.layout.monitor) (platform_perm table.layout) (2 * length table.layout.ram + 2 * length table.layout.devices + 2) monitor)
+    (enclaves_few table.enclaves (has_page table.layout.monitor) (platform_perm table.layout)
+    (2 * length table.layout.ram + 2 * length table.layout.devices + 2) monitor)
 
 -- with one range more it is still far from too many
 pub host_with_few :

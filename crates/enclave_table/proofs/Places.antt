@@ -1,5 +1,6 @@
 -- The places of a table.
-use Rattle.std.proofs.Common.{ℕ, zero, suc, ◌≡◌, ◌≢◌, ◌-◌, ◌<◌, ◌≤◌, ◌∙◌, ⊎_elim, refl, sym, ap, ◌||◌, cond, List, [], ◌∷◌, length, get_or, set, Option, None, Some, arith}
+use Rattle.std.proofs.Common.{ℕ, zero, suc, ◌≡◌, ◌≢◌, ◌-◌, ◌<◌, ◌≤◌, ◌∙◌, ⊎_elim, refl, sym, ap, ◌||◌, cond, List, [], ◌∷◌, length, get_or, set, Option, None}
+use Rattle.std.proofs.Common.{Some, arith}
 use Rattle.std.proofs.lemmas.Bool.{cases_eq, cases_lt, ne_eqb}
 use Rattle.std.proofs.lemmas.List.{get_or-set_same, get_or-set_other, get_or_past}
 use Rattle.enclave_table.specs.Enclaves.{enclave_at}
@@ -30,7 +31,8 @@ live_place es id e live = sym (at_place es id (live_above es id e live)) ∙ liv
 pub set_same : (es : List (Option Enclave)) (id : ℕ) (slot : Option Enclave) → 1 ≤ id → id - 1 < length es → enclave_at (set es (id - 1) slot) id ≡ slot
 set_same es id slot above inside = at_place (set es (id - 1) slot) id above ∙ get_or-set_same es (id - 1) slot None inside
 
-pub set_other : (es : List (Option Enclave)) (id other : ℕ) (slot : Option Enclave) → 1 ≤ id → other ≢ id → enclave_at (set es (id - 1) slot) other ≡ enclave_at es other
+pub set_other : (es : List (Option Enclave)) (id other : ℕ) (slot : Option Enclave) → 1 ≤ id → other ≢ id
+    → enclave_at (set es (id - 1) slot) other ≡ enclave_at es other
 set_other es id other slot above differ =
     ⊎_elim
     (λ z. ap (enclave_at (set es (id - 1) slot)) z ∙ sym (ap (enclave_at es) z))
@@ -43,7 +45,8 @@ set_other es id other slot above differ =
 
 -- the private pages of all when one place is written by one that has the same
 pub private_set :
-    (es : List (Option Enclave)) (place : ℕ) (slot : Option Enclave) (page : ℕ) → has_private slot page ≡ has_private (get_or es place None) page → place < length es
+    (es : List (Option Enclave)) (place : ℕ) (slot : Option Enclave) (page : ℕ) → has_private slot page ≡ has_private (get_or es place None) page
+    → place < length es
     → any_private (set es place slot) page ≡ any_private es page
 private_set [] place slot page same inside = refl
 private_set (x ∷ xs) zero slot page same inside = ap (λ t. t || any_private xs page) same

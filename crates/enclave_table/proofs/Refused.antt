@@ -14,7 +14,8 @@ use Rattle.enclave_table.specs.Fewest.{IsWant, NeedsMore}
 use Rattle.enclave_table.specs.Create.{fresh, OutgrowsByCreate}
 use Rattle.measurement.specs.declared.request.Create.{Create}
 use Rattle.enclave_table.specs.declared.refusal.Refusal.{Refusal}
-use Rattle.enclave_table.specs.declared.refusal.Refusal.TheVariants.{NotHost, NotEnclave, BadCount, BadAddress, BadEntry, NotRam, Overlap, TableFull, NoEntries, NoMemory, BadId, BadState, BadWord}
+use Rattle.enclave_table.specs.declared.refusal.Refusal.TheVariants.{NotHost, NotEnclave, BadCount, BadAddress, BadEntry, NotRam, Overlap, TableFull, NoEntries}
+use Rattle.enclave_table.specs.declared.refusal.Refusal.TheVariants.{NoMemory, BadId, BadState, BadWord}
 use Rattle.sbi_decode.specs.declared.world.World.{World}
 use Rattle.enclave_table.proofs.SameViews.{more_same}
 
@@ -33,11 +34,14 @@ unwanted [] refusal none fails = absurd fails
 unwanted (c ∷ cs) refusal none fails = ⊎_elim (λ here. ap is_want here.0 ∙ none.0) (λ later. unwanted cs refusal none.1 later.1) fails
 
 pub create_fails :
-    (digests : Create → List ℕ) (old : EnclaveTable) (world : World) (asked : Create) (refusal : Refusal) → FailsFirst (create_checks old world (parts_of asked)) refusal
+    (digests : Create → List ℕ) (old : EnclaveTable) (world : World) (asked : Create) (refusal : Refusal)
+    → FailsFirst (create_checks old world (parts_of asked)) refusal
     → RefusesBy (create_checks old world (parts_of asked)) (OutgrowsByCreate digests old asked) refusal
 unfolding is_want none_want
-create_fails digests old world asked NoEntries fails = absurd (true≢false (unwanted (create_checks old world (parts_of asked)) NoEntries (refl, (refl, (refl, (refl, (refl, (refl, (refl, tt))))))) fails))
-create_fails digests old world asked NoMemory fails = absurd (true≢false (unwanted (create_checks old world (parts_of asked)) NoMemory (refl, (refl, (refl, (refl, (refl, (refl, (refl, tt))))))) fails))
+create_fails digests old world asked NoEntries fails = absurd (true≢false
+    (unwanted (create_checks old world (parts_of asked)) NoEntries (refl, (refl, (refl, (refl, (refl, (refl, (refl, tt))))))) fails))
+create_fails digests old world asked NoMemory fails = absurd (true≢false (unwanted (create_checks old world (parts_of asked)) NoMemory
+    (refl, (refl, (refl, (refl, (refl, (refl, (refl, tt))))))) fails))
 create_fails digests old world asked NotHost fails = fails
 create_fails digests old world asked NotEnclave fails = fails
 create_fails digests old world asked BadCount fails = fails
@@ -51,8 +55,10 @@ create_fails digests old world asked BadState fails = fails
 create_fails digests old world asked BadWord fails = fails
 
 pub create_host_want :
-    (digests : Create → List ℕ) (old : EnclaveTable) (world : World) (asked : Create) (id : ℕ) (view : View) (refusal : Refusal) → AllPass (create_checks old world (parts_of asked)) → IsNextId old id
-    → SameView view (host_view (with_enclave old id (Some (fresh digests (parts_of asked))))) → IsWant old.layout.limit view refusal → RefusesBy (create_checks old world (parts_of asked)) (OutgrowsByCreate digests old asked) refusal
+    (digests : Create → List ℕ) (old : EnclaveTable) (world : World) (asked : Create) (id : ℕ) (view : View) (refusal : Refusal)
+    → AllPass (create_checks old world (parts_of asked)) → IsNextId old id
+    → SameView view (host_view (with_enclave old id (Some (fresh digests (parts_of asked))))) → IsWant old.layout.limit view refusal
+    → RefusesBy (create_checks old world (parts_of asked)) (OutgrowsByCreate digests old asked) refusal
 create_host_want digests old world asked id view NoEntries passes next same want =
     (passes, inl (id, next, more_same old.layout.limit view (host_view (with_enclave old id (Some (fresh digests (parts_of asked))))) same want))
 create_host_want digests old world asked id view NoMemory passes next same want = passes
@@ -70,7 +76,8 @@ create_host_want digests old world asked id view BadWord passes next same want =
 
 pub create_enclave_want :
     (digests : Create → List ℕ) (old : EnclaveTable) (world : World) (asked : Create) (refusal : Refusal) → AllPass (create_checks old world (parts_of asked))
-    → IsWant old.layout.limit (enclave_view (parts_of asked)) refusal → RefusesBy (create_checks old world (parts_of asked)) (OutgrowsByCreate digests old asked) refusal
+    → IsWant old.layout.limit (enclave_view (parts_of asked)) refusal → RefusesBy (create_checks old world (parts_of asked))
+    (OutgrowsByCreate digests old asked) refusal
 create_enclave_want digests old world asked NoEntries passes want = (passes, inr want)
 create_enclave_want digests old world asked NoMemory passes want = passes
 create_enclave_want digests old world asked NotHost passes want = absurd want
@@ -87,7 +94,8 @@ create_enclave_want digests old world asked BadWord passes want = absurd want
 
 pub destroy_want :
     (old : EnclaveTable) (world : World) (id : ℕ) (view : View) (refusal : Refusal) → AllPass (host_checks MayDestroy old world id)
-    → SameView view (host_view (with_enclave old id None)) → IsWant old.layout.limit view refusal → RefusesBy (host_checks MayDestroy old world id) (NeedsMore old.layout.limit (host_view (with_enclave old id None))) refusal
+    → SameView view (host_view (with_enclave old id None)) → IsWant old.layout.limit view refusal
+    → RefusesBy (host_checks MayDestroy old world id) (NeedsMore old.layout.limit (host_view (with_enclave old id None))) refusal
 destroy_want old world id view NoEntries passes same want = (passes, more_same old.layout.limit view (host_view (with_enclave old id None)) same want)
 destroy_want old world id view NoMemory passes same want = passes
 destroy_want old world id view NotHost passes same want = absurd want
@@ -103,6 +111,7 @@ destroy_want old world id view BadState passes same want = absurd want
 destroy_want old world id view BadWord passes same want = absurd want
 
 -- a refusal that is passed on
-pub handed_on : {T : Type 0} (result : Result T Refusal) (refusal : Refusal) (P : Refusal → Type 0) → IsErrAnd result (λ r. r ≡ refusal) → P refusal → IfErr result P
+pub handed_on : {T : Type 0} (result : Result T Refusal) (refusal : Refusal) (P : Refusal → Type 0) → IsErrAnd result (λ r. r ≡ refusal) → P refusal
+    → IfErr result P
 handed_on (Ok x) refusal P h p = tt
 handed_on (Err r) refusal P h p = subst P (sym h) p

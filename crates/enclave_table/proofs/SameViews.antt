@@ -59,7 +59,8 @@ tree_view view tree means page inside =
     let e : 0 + page ≡ page = omega arith in
     perm_in-means view 44 0 tree means page inside ∙ ap view e
 
-pub overwritten_same : (view other : View) (first count : ℕ) (perm : Perm) → SameView view other → SameView (overwritten view first count perm) (overwritten other first count perm)
+pub overwritten_same : (view other : View) (first count : ℕ) (perm : Perm) → SameView view other
+    → SameView (overwritten view first count perm) (overwritten other first count perm)
 overwritten_same view other first count perm same = λ page inside. ap (λ p. cond (in_range first count page) perm p) (same page inside)
 
 -- the tree of a tree's view overwritten is one of the view overwritten
@@ -67,4 +68,5 @@ pub tree_overwritten :
     (view : View) (tree new : PermTree) (first count : ℕ) (perm : Perm) → TreeMeans view tree → TreeMeans (overwritten (view_of_tree tree) first count perm) new
     → TreeMeans (overwritten view first count perm) new
 tree_overwritten view tree new first count perm means overwrites =
-    tree_same (overwritten (view_of_tree tree) first count perm) (overwritten view first count perm) new (overwritten_same (view_of_tree tree) view first count perm (tree_view view tree means)) overwrites
+    tree_same (overwritten (view_of_tree tree) first count perm) (overwritten view first count perm) new
+    (overwritten_same (view_of_tree tree) view first count perm (tree_view view tree means)) overwrites

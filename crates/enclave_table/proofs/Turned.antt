@@ -25,30 +25,37 @@ in_state e state = record e { state = state }
 
 -- who is live then was live before, with the same parts
 pub was_live :
-    (table : EnclaveTable) (id : ℕ) (e : Enclave) (state : Stage) (other : ℕ) (f : Enclave) → Live table id e → Live (with_enclave table id (Some (in_state e state))) other f
+    (table : EnclaveTable) (id : ℕ) (e : Enclave) (state : Stage) (other : ℕ) (f : Enclave) → Live table id e
+    → Live (with_enclave table id (Some (in_state e state))) other f
     → (g : Enclave) × Live table other g × (f.parts ≡ g.parts)
 was_live table id e state other f live after =
     let above : 1 ≤ id = live_above table.enclaves id e live in
     let inside : id - 1 < length table.enclaves = live_inside table.enclaves id e live in
     ⊎_elim
     (λ same.
-    let at : enclave_at (set table.enclaves (id - 1) (Some (in_state e state))) id ≡ Some (in_state e state) = set_same table.enclaves id (Some (in_state e state)) above inside in
-    let is : f ≡ in_state e state = same_Some f (in_state e state) (sym after ∙ ap (enclave_at (set table.enclaves (id - 1) (Some (in_state e state)))) same ∙ at) in
+    let at : enclave_at (set table.enclaves (id - 1) (Some (in_state e state))) id ≡ Some (in_state e state) = set_same table.enclaves id
+    (Some (in_state e state)) above inside in
+    let is : f ≡ in_state e state = same_Some f (in_state e state) (sym after ∙ ap (enclave_at (set table.enclaves (id - 1) (Some (in_state e state)))) same
+    ∙ at) in
     (e, ap (enclave_at table.enclaves) same ∙ live, ap (λ (d : Enclave). d.parts) is))
     (λ differ. (f, sym (set_other table.enclaves id other (Some (in_state e state)) above differ) ∙ after, refl))
     (cases_eq other id)
 
 pub same_host_view :
-    (table : EnclaveTable) (id : ℕ) (e : Enclave) (state : Stage) → Live table id e → SameView (host_view table) (host_view (with_enclave table id (Some (in_state e state))))
+    (table : EnclaveTable) (id : ℕ) (e : Enclave) (state : Stage) → Live table id e
+    → SameView (host_view table) (host_view (with_enclave table id (Some (in_state e state))))
 same_host_view table id e state live page small =
     let same : any_private (set table.enclaves (id - 1) (Some (in_state e state))) page ≡ any_private table.enclaves page
-    = private_set table.enclaves (id - 1) (Some (in_state e state)) page (sym (ap (λ slot. has_private slot page) (live_place table.enclaves id e live))) (live_inside table.enclaves id e live) in
+    = private_set table.enclaves (id - 1) (Some (in_state e state)) page (sym (ap (λ slot. has_private slot page) (live_place table.enclaves id e live)))
+    (live_inside table.enclaves id e live) in
     sym (ap (λ t. cond (has_page table.layout.monitor page || t) NoAccess (platform_perm table.layout page)) same)
 
 sound_along : (table new : EnclaveTable) (p q : Create) → new.layout ≡ table.layout → p ≡ q → IsSound table q → IsSound new p
-sound_along table new p q layout parts sound = rw (parts, layout) (record { counts = sound.counts; places = sound.places; entry = sound.entry; in_ram = sound.in_ram; not_monitor = sound.not_monitor; apart = sound.apart })
+sound_along table new p q layout parts sound = rw (parts, layout) (record
+    { counts = sound.counts; places = sound.places; entry = sound.entry; in_ram = sound.in_ram; not_monitor = sound.not_monitor; apart = sound.apart })
 
-pub turned_table : (table : EnclaveTable) (id : ℕ) (e : Enclave) (state : Stage) → Live table id e → IsTable table → IsTable (with_enclave table id (Some (in_state e state)))
+pub turned_table : (table : EnclaveTable) (id : ℕ) (e : Enclave) (state : Stage) → Live table id e → IsTable table
+    → IsTable (with_enclave table id (Some (in_state e state)))
 turned_table table id e state live is =
     record {
       layout = is.layout;
@@ -68,7 +75,8 @@ pub turned_kept :
 turned_kept kept id e state live is =
     record {
       table = turned_table kept.table id e state live is.table;
-      host = list_same kept.table.layout.limit (host_view kept.table) (host_view (with_enclave kept.table id (Some (in_state e state)))) kept.host_list (same_host_view kept.table id e state live) is.host;
+      host = list_same kept.table.layout.limit (host_view kept.table) (host_view (with_enclave kept.table id (Some (in_state e state)))) kept.host_list
+          (same_host_view kept.table id e state live) is.host;
       places = is.places;
       each = λ other f after.
           let g : (g : Enclave) × Live kept.table other g × (f.parts ≡ g.parts) = was_live kept.table id e state other f live after in

@@ -1,5 +1,6 @@
 -- The number and the set of a split block, from those of its halves.
-use Rattle.std.proofs.Common.{◌≡◌, ℕ, ◌+◌, ◌^◌, ◌<◌, ◌≤◌, List, [], ◌∷◌, ◌++◌, Bool, true, false, not, ◌==◌, ◌&&◌, ◌||◌, if◌then◌else◌, refl, sym, ap, ◌∙◌, arith, bit_and, bit_or, append_assoc, reverse}
+use Rattle.std.proofs.Common.{◌≡◌, ℕ, ◌+◌, ◌^◌, ◌<◌, ◌≤◌, List, [], ◌∷◌, ◌++◌, Bool, true, false, not, ◌==◌, ◌&&◌, ◌||◌, if◌then◌else◌, refl, sym, ap, ◌∙◌}
+use Rattle.std.proofs.Common.{arith, bit_and, bit_or, append_assoc, reverse}
 use Rattle.std.proofs.Math.Bool.{and_comm, or_comm}
 use Rattle.std.proofs.Math.Path.{ap₂, fun_ext}
 use Rattle.std.proofs.lemmas.List.{append-nil, reverse-append}
@@ -96,7 +97,8 @@ added_both old low high x =
 
 -- so for the costs of a split block
 pub costs_added :
-    (tree low high : PermTree) (old mid items all : List SplitCost) → tree ≡ Split low high → mid ≡ old ++ reverse (costs_in high) → items ≡ mid ++ reverse (costs_in low)
+    (tree low high : PermTree) (old mid items all : List SplitCost) → tree ≡ Split low high → mid ≡ old ++ reverse (costs_in high)
+    → items ≡ mid ++ reverse (costs_in low)
     → all ≡ items ++ split_cost low high ∷ [] → all ≡ old ++ reverse (costs_in tree)
 costs_added tree low high old mid items all split m i a =
     a
@@ -112,7 +114,8 @@ least_small tree c few is =
 
 -- that of a chain's smallest block, with one more for each larger one
 pub chain_small :
-    (shape tree : PermTree) (chain : Chain) (c : BlockCost) → shape ≡ chained chain tree → splits shape < 2 ^ 20 → c ≡ block_cost tree → c.least + chain.levels < 2 ^ 20
+    (shape tree : PermTree) (chain : Chain) (c : BlockCost) → shape ≡ chained chain tree → splits shape < 2 ^ 20 → c ≡ block_cost tree
+    → c.least + chain.levels < 2 ^ 20
 chain_small shape tree chain c is few own =
     omega (arith, ap (λ x. x.least) own, least_le_branches tree, splits-chained shape tree chain is)
 
@@ -127,11 +130,13 @@ turned_cost low high =
     } in
     let sum : least_cost low + least_cost high ≡ least_cost high + least_cost low = omega arith in
     ap (λ n. make n (λ p. is_best low p && is_best high p) (λ p. is_best low p || is_best high p)) sum
-    ∙ ap₂ (make (least_cost high + least_cost low)) (fun_ext (λ p. and_comm (is_best low p) (is_best high p))) (fun_ext (λ p. or_comm (is_best low p) (is_best high p)))
+    ∙ ap₂ (make (least_cost high + least_cost low)) (fun_ext (λ p. and_comm (is_best low p) (is_best high p)))
+    (fun_ext (λ p. or_comm (is_best low p) (is_best high p)))
 
 pub turned_split : (low high : PermTree) → split_cost low high ≡ split_cost high low
 turned_split low high =
     let make : ℕ → (Perm → Bool) → (Perm → Bool) → SplitCost =
     λ n both either. record { least = n; both = record { bits = set_of both }; either = record { bits = set_of either } } in
     ap (λ c. make c.least (λ p. is_best low p && is_best high p) (λ p. is_best low p || is_best high p)) (turned_cost low high)
-    ∙ ap₂ (make (least_cost (Split high low))) (fun_ext (λ p. and_comm (is_best low p) (is_best high p))) (fun_ext (λ p. or_comm (is_best low p) (is_best high p)))
+    ∙ ap₂ (make (least_cost (Split high low))) (fun_ext (λ p. and_comm (is_best low p) (is_best high p)))
+    (fun_ext (λ p. or_comm (is_best low p) (is_best high p)))

@@ -16,7 +16,8 @@ pub record IsRaised (chain : Chain) (rest level : ℕ) (smallest cost : BlockCos
   pub place : chain.place ≡ rest * 2 ^ level + low
   pub few : cost.least ≤ smallest.least + level
   pub own : (tree : PermTree) → smallest ≡ block_cost tree → cost ≡ block_cost (nested level low chain.before chain.behind tree)
-  pub costs_are : (tree : PermTree) (first : List SplitCost) → smallest ≡ block_cost tree → costs0 ≡ first ++ reverse (costs_in tree) → costs ≡ first ++ reverse (costs_in (nested level low chain.before chain.behind tree))
+  pub costs_are : (tree : PermTree) (first : List SplitCost) → smallest ≡ block_cost tree → costs0 ≡ first ++ reverse (costs_in tree)
+      → costs ≡ first ++ reverse (costs_in (nested level low chain.before chain.behind tree))
 
 pub begun : (chain : Chain) (smallest : BlockCost) (costs : List SplitCost) → IsRaised chain chain.place 0 smallest smallest costs costs
 begun chain smallest costs = record {
@@ -47,7 +48,8 @@ raised_upper chain rest q level before smallest cost next costs0 costs new odd i
     let half : PermTree → PermTree = nested level r.low chain.before chain.behind in
     let back : r.low + 2 ^ level - 2 ^ level ≡ r.low = omega arith in
     let split : (t : PermTree) → nested (suc level) (r.low + 2 ^ level) chain.before chain.behind t ≡ Split (Uniform chain.before) (half t) =
-    λ t. nested_upper level (r.low + 2 ^ level) chain.before chain.behind t (omega arith) ∙ ap (λ n. Split (Uniform chain.before) (nested level n chain.before chain.behind t)) back in
+    λ t. nested_upper level (r.low + 2 ^ level) chain.before chain.behind t (omega arith)
+    ∙ ap (λ n. Split (Uniform chain.before) (nested level n chain.before chain.behind t)) back in
     let up : suc level ≡ level + 1 = omega arith in
     let R : ℕ → Type 0 = λ n. IsRaised chain q n smallest next costs0 new in
     subst R up

@@ -1,5 +1,6 @@
 -- A chain whose pages before and after the smallest block have the inherited permission: no larger block of it takes an entry, nor do those pages.
-use Rattle.std.proofs.Common.{◌≡◌, ℕ, zero, suc, ◌+◌, ◌-◌, ◌*◌, ◌^◌, ◌<◌, ◌≤◌, ⊎_elim, List, [], ◌∷◌, ◌++◌, length, take, Bool, ◌||◌, if◌then◌else◌, inl, reverse, refl, sym, ap, subst, ◌∙◌, arith, append_assoc, length-append, pow-add}
+use Rattle.std.proofs.Common.{◌≡◌, ℕ, zero, suc, ◌+◌, ◌-◌, ◌*◌, ◌^◌, ◌<◌, ◌≤◌, ⊎_elim, List, [], ◌∷◌, ◌++◌, length, take, Bool, ◌||◌, if◌then◌else◌, inl}
+use Rattle.std.proofs.Common.{reverse, refl, sym, ap, subst, ◌∙◌, arith, append_assoc, length-append, pow-add}
 use Rattle.std.proofs.Math.Bool.{or-true}
 use Rattle.std.proofs.Math.Seq.{take-append_seam}
 use Rattle.std.proofs.lemmas.Bool.{cases_lt}
@@ -58,8 +59,10 @@ kept (suc n) j first place p tree es inside chosen =
     (⊎_elim
     (λ low.
     let half : PermTree = nested n place p p tree in
-    let own : (k f : ℕ) → IsOwn k f (handed_on half (Uniform p) p) p [] = λ k f. (let P : Perm → Type 0 = λ q. IsOwn k f q p [] in subst P (kept_low half p) (none_owned k f p)) in
-    let its_own : IsOwn (suc (n + j)) first p (handed_on half (Uniform p) p) [] = (let P : Perm → Type 0 = λ q. IsOwn (suc (n + j)) first p q [] in subst P (kept_low half p) (none_owned (suc (n + j)) first p)) in
+    let own : (k f : ℕ) → IsOwn k f (handed_on half (Uniform p) p) p [] = λ k f.
+    (let P : Perm → Type 0 = λ q. IsOwn k f q p [] in subst P (kept_low half p) (none_owned k f p)) in
+    let its_own : IsOwn (suc (n + j)) first p (handed_on half (Uniform p) p) [] =
+    (let P : Perm → Type 0 = λ q. IsOwn (suc (n + j)) first p q [] in subst P (kept_low half p) (none_owned (suc (n + j)) first p)) in
     let in_half : IsChosenAt (n + j) first (handed_on half (Uniform p) p) half es =
     (let P : Perm → Type 0 = λ q. IsChosenAt (n + j) first q half es in subst P (kept_low half p) (kept n j first place p tree es low chosen)) in
     let whole : T (Split half (Uniform p)) = (es, [], [], sym (append-nil es), in_half, own (n + j) (first + 2 ^ (n + j)), its_own) in
@@ -68,8 +71,10 @@ kept (suc n) j first place p tree es inside chosen =
     let half : PermTree = nested n (place - 2 ^ n) p p tree in
     let middle : ℕ = first + 2 ^ (n + j) in
     let A : ℕ → Type 0 = λ f. IsChosenAt j f p tree es in
-    let own : (k f : ℕ) → IsOwn k f (handed_on (Uniform p) half p) p [] = λ k f. (let P : Perm → Type 0 = λ q. IsOwn k f q p [] in subst P (kept_high half p) (none_owned k f p)) in
-    let its_own : IsOwn (suc (n + j)) first p (handed_on (Uniform p) half p) [] = (let P : Perm → Type 0 = λ q. IsOwn (suc (n + j)) first p q [] in subst P (kept_high half p) (none_owned (suc (n + j)) first p)) in
+    let own : (k f : ℕ) → IsOwn k f (handed_on (Uniform p) half p) p [] = λ k f.
+    (let P : Perm → Type 0 = λ q. IsOwn k f q p [] in subst P (kept_high half p) (none_owned k f p)) in
+    let its_own : IsOwn (suc (n + j)) first p (handed_on (Uniform p) half p) [] =
+    (let P : Perm → Type 0 = λ q. IsOwn (suc (n + j)) first p q [] in subst P (kept_high half p) (none_owned (suc (n + j)) first p)) in
     let in_half : IsChosenAt (n + j) middle (handed_on (Uniform p) half p) half es =
     (let P : Perm → Type 0 = λ q. IsChosenAt (n + j) middle q half es in
     subst P (kept_high half p)
@@ -79,8 +84,10 @@ kept (suc n) j first place p tree es inside chosen =
     (cases_lt place (2 ^ n)))
 
 pub kept_chosen :
-    (shape tree : PermTree) (chain : Chain) (k j first start : ℕ) (p : Perm) (old new : List Entry) → shape ≡ chained chain tree → chain.before ≡ p → chain.behind ≡ p
-    → chain.place < 2 ^ chain.levels → j + chain.levels ≡ k → start ≡ first + chain.place * 2 ^ j → AddsChosen j start p tree old new → AddsChosen k first p shape old new
+    (shape tree : PermTree) (chain : Chain) (k j first start : ℕ) (p : Perm) (old new : List Entry) → shape ≡ chained chain tree → chain.before ≡ p
+    → chain.behind ≡ p
+    → chain.place < 2 ^ chain.levels → j + chain.levels ≡ k → start ≡ first + chain.place * 2 ^ j → AddsChosen j start p tree old new
+    → AddsChosen k first p shape old new
 kept_chosen shape tree chain k j first start p old new is before behind inside height at adds =
     let same : shape ≡ nested chain.levels chain.place p p tree =
     is ∙ ap (λ q. nested chain.levels chain.place q chain.behind tree) before ∙ ap (λ q. nested chain.levels chain.place p q tree) behind in
@@ -103,18 +110,21 @@ smallest_fits_in zero k place before behind tree fits =
 smallest_fits_in (suc n) zero place before behind tree fits =
     let F : PermTree → Type 0 = Fits zero in
     absurd
-    (⊎_elim (λ low. subst F (nested_lower n place before behind tree low) fits) (λ high. subst F (nested_upper n place before behind tree high) fits) (cases_lt place (2 ^ n)))
+    (⊎_elim (λ low. subst F (nested_lower n place before behind tree low) fits) (λ high. subst F (nested_upper n place before behind tree high) fits)
+    (cases_lt place (2 ^ n)))
 smallest_fits_in (suc n) (suc k) place before behind tree fits =
     let F : PermTree → Type 0 = Fits (suc k) in
     let r : (n ≤ k) × Fits (k - n) tree =
     ⊎_elim
     (λ low. smallest_fits_in n k place before behind tree (subst F (nested_lower n place before behind tree low) fits).0)
-    (λ high. smallest_fits_in n k (place - 2 ^ n) before behind tree (subst F (nested_upper n place before behind tree high) fits).1) (cases_lt place (2 ^ n)) in
+    (λ high. smallest_fits_in n k (place - 2 ^ n) before behind tree (subst F (nested_upper n place before behind tree high) fits).1)
+    (cases_lt place (2 ^ n)) in
     let same : k - n ≡ suc k - suc n = omega arith in
     let G : ℕ → Type 0 = λ m. Fits m tree in
     (omega (arith, r.0), subst G same r.1)
 
-pub smallest_fits : (shape tree : PermTree) (chain : Chain) (k : ℕ) → shape ≡ chained chain tree → Fits k shape → (chain.levels ≤ k) × Fits (k - chain.levels) tree
+pub smallest_fits : (shape tree : PermTree) (chain : Chain) (k : ℕ) → shape ≡ chained chain tree → Fits k shape
+    → (chain.levels ≤ k) × Fits (k - chain.levels) tree
 smallest_fits shape tree chain k is fits =
     let F : PermTree → Type 0 = Fits k in smallest_fits_in chain.levels k chain.place chain.before chain.behind tree (subst F is fits)
 
@@ -161,7 +171,8 @@ pub record AreSmallest (costs : List SplitCost) (n : ℕ) (shape tree : PermTree
   pub ends : EndsWith (take (length costs - n) costs) tree
   pub back : (rest : List SplitCost) → take (length costs - n) costs ≡ rest ++ reverse (costs_in tree) → costs ≡ rest ++ reverse (costs_in shape)
 
-pub smallest_costs : (costs : List SplitCost) (chain : Chain) (shape tree : PermTree) → shape ≡ chained chain tree → EndsWith costs shape → AreSmallest costs chain.levels shape tree
+pub smallest_costs : (costs : List SplitCost) (chain : Chain) (shape tree : PermTree) → shape ≡ chained chain tree → EndsWith costs shape
+    → AreSmallest costs chain.levels shape tree
 smallest_costs costs chain shape tree is ends =
     let larger = larger_costs chain.levels chain.place chain.before chain.behind tree in
     let front : List SplitCost = ends.0 ++ reverse (costs_in tree) in
@@ -171,7 +182,8 @@ smallest_costs costs chain shape tree is ends =
     ap (λ l. rest ++ reverse l) (ap costs_in is ∙ larger.1) ∙ ap (λ l. rest ++ l) (reverse-append larger.0 (costs_in tree))
     ∙ sym (append_assoc rest (reverse (costs_in tree)) last) in
     let parts : costs ≡ front ++ last = ends.1 ∙ apart ends.0 in
-    let count : length costs ≡ length front + chain.levels = ap length parts ∙ length-append front last ∙ ap (λ n. length front + n) (length-reverse larger.0 ∙ larger.2) in
+    let count : length costs ≡ length front + chain.levels = ap length parts ∙ length-append front last
+    ∙ ap (λ n. length front + n) (length-reverse larger.0 ∙ larger.2) in
     let cut : length costs - chain.levels ≡ length front = omega (arith, count) in
     let taken : take (length costs - chain.levels) costs ≡ front = ap (λ n. take n costs) cut ∙ ap (take (length front)) parts ∙ take-append_seam front last in
     record {

@@ -48,7 +48,8 @@ went_up top root t whole tree next before k i j first lower upper p q old a b c 
       both_added old b c (added ++ own.0) leaf.0 (both_added old a b added own.0 so.1 own.2) leaf.2,
       λ low chosen.
           let g = so.2 (leaf.0 ++ (low ++ own.0))
-          (split_is tree (Uniform before) next k i j first lower upper p q leaf.0 low own.0 split low_height height at_lower at_upper handed leaf.1 chosen own.1) in
+          (split_is tree (Uniform before) next k i j first lower upper p q leaf.0 low own.0 split low_height height at_lower at_upper handed leaf.1 chosen
+          own.1) in
           (g.0, g.1, IsPermutation-trans _ _ _ g.2 (moved_up added own.0 leaf.0 low)),
     )
 
@@ -64,7 +65,8 @@ went_down top root t whole tree next behind k i j first lower upper p q old a b 
       both_added old b c (added ++ own.0) leaf.0 (both_added old a b added own.0 so.1 own.2) leaf.2,
       λ low chosen.
           let g = so.2 (low ++ (leaf.0 ++ own.0))
-          (split_is tree next (Uniform behind) k i j first lower upper p q low leaf.0 own.0 split low_height height at_lower at_upper handed chosen leaf.1 own.1) in
+          (split_is tree next (Uniform behind) k i j first lower upper p q low leaf.0 own.0 split low_height height at_lower at_upper handed chosen leaf.1
+          own.1) in
           (g.0, g.1, IsPermutation-trans _ _ _ g.2 (moved_down added own.0 leaf.0 low)),
     )
 

@@ -1,5 +1,6 @@
 -- A walk down a chain: the blocks that are reached, and what is added before them.
-use Rattle.std.proofs.Common.{◌≡◌, ℕ, suc, ◌+◌, ◌-◌, ◌*◌, ◌/◌, ◌%◌, ◌^◌, ◌<◌, ◌≤◌, List, eq-zero-or-pos, ⊎_elim, ◌++◌, refl, sym, ap, subst, ◌∙◌, arith, pow_pos, pow-add, pow-suc, length, reverse}
+use Rattle.std.proofs.Common.{◌≡◌, ℕ, suc, ◌+◌, ◌-◌, ◌*◌, ◌/◌, ◌%◌, ◌^◌, ◌<◌, ◌≤◌, List, eq-zero-or-pos, ⊎_elim, ◌++◌, refl, sym, ap, subst, ◌∙◌, arith}
+use Rattle.std.proofs.Common.{pow_pos, pow-add, pow-suc, length, reverse}
 use Rattle.std.proofs.Math.Nat.{div-add-mod, div-div-eq-div-mul, div-lt_iff_lt-mul, div-one, mod-eq_of_lt, mod-lt}
 use Rattle.std.proofs.lemmas.Nat.{mod-pow-add}
 use Rattle.pmp_encoding.specs.declared.perm.Perm.{Perm}
@@ -28,10 +29,12 @@ left_at chain depth tree = chained (below (chain.levels - depth) chain) tree
 whole : (chain : Chain) (tree : PermTree) → chain.place < 2 ^ chain.levels → left_at chain 0 tree ≡ chained chain tree
 whole chain tree small =
     let all : chain.levels - 0 ≡ chain.levels = omega arith in
-    ap (λ n. nested n (chain.place % 2 ^ n) chain.before chain.behind tree) all ∙ ap (λ p. nested chain.levels p chain.before chain.behind tree) (mod-eq_of_lt small)
+    ap (λ n. nested n (chain.place % 2 ^ n) chain.before chain.behind tree) all
+    ∙ ap (λ p. nested chain.levels p chain.before chain.behind tree) (mod-eq_of_lt small)
 
 none_left : (chain : Chain) (depth : ℕ) (tree : PermTree) → chain.levels ≤ depth → left_at chain depth tree ≡ tree
-none_left chain depth tree end = let none : chain.levels - depth ≡ 0 = omega arith in ap (λ n. nested n (chain.place % 2 ^ n) chain.before chain.behind tree) none
+none_left chain depth tree end = let none : chain.levels - depth ≡ 0 = omega arith in ap
+    (λ n. nested n (chain.place % 2 ^ n) chain.before chain.behind tree) none
 
 -- the last digit but n of a place says which half is the next
 digit : (place n : ℕ) → place % 2 ^ suc n ≡ (place / 2 ^ n % 2) * 2 ^ n + place % 2 ^ n
@@ -99,7 +102,8 @@ place_small chain depth few small =
 
 -- the other half is a part, too
 pub beside_small :
-    (chain : Chain) (depth beside : ℕ) → depth < chain.levels → chain.place < 2 ^ chain.levels → (place_at chain (depth + 1) % 2 ≡ 1 → beside + 1 ≡ place_at chain (depth + 1))
+    (chain : Chain) (depth beside : ℕ) → depth < chain.levels → chain.place < 2 ^ chain.levels
+    → (place_at chain (depth + 1) % 2 ≡ 1 → beside + 1 ≡ place_at chain (depth + 1))
     → (place_at chain (depth + 1) % 2 ≡ 0 → beside ≡ place_at chain (depth + 1) + 1) → beside < 2 ^ (depth + 1)
 beside_small chain depth beside some small upper lower =
     let own = place_small chain (depth + 1) (omega (arith, some)) small in
@@ -178,7 +182,8 @@ same_start k j root place size = ap (λ n. root + place * 2 ^ n) size
 
 pub stepped_upper :
     (top root : ℕ) (t : Perm) (chain : Chain) (tree : PermTree) (depth : ℕ) (p q side : Perm) (old a b c : List Entry) → depth < chain.levels
-    → place_at chain (depth + 1) % 2 ≡ 1 → WalkedTo top root t chain tree depth p old a → (step : IsStep top root chain depth p q side a b c) → side ≡ chain.before
+    → place_at chain (depth + 1) % 2 ≡ 1 → WalkedTo top root t chain tree depth p old a → (step : IsStep top root chain depth p q side a b c)
+    → side ≡ chain.before
     → step.place + 1 ≡ place_at chain (depth + 1) → q ≡ handed_on (Uniform chain.before) (left_at chain (depth + 1) tree) p
     → WalkedTo top root t chain tree (depth + 1) q old c
 stepped_upper top root t chain tree depth p q side old a b c some odd so step is other handed =
@@ -196,7 +201,8 @@ stepped_upper top root t chain tree depth p q side old a b c some odd so step is
     in
     let down : j ≡ k - 1 = omega (arith, up) in
     let high : root + place_at chain (depth + 1) * 2 ^ j ≡ so.first + 2 ^ (k - 1) =
-    middle root (place_at chain depth) (place_at chain (depth + 1)) (2 ^ k) (2 ^ j) double place ∙ ap (λ n. n + 2 ^ j) (sym so.starts) ∙ ap (λ n. so.first + 2 ^ n) down
+    middle root (place_at chain depth) (place_at chain (depth + 1)) (2 ^ k) (2 ^ j) double place ∙ ap (λ n. n + 2 ^ j) (sym so.starts)
+    ∙ ap (λ n. so.first + 2 ^ n) down
     in
     record {
       k = j;
@@ -210,7 +216,8 @@ stepped_upper top root t chain tree depth p q side old a b c some odd so step is
 
 pub stepped_lower :
     (top root : ℕ) (t : Perm) (chain : Chain) (tree : PermTree) (depth : ℕ) (p q side : Perm) (old a b c : List Entry) → depth < chain.levels
-    → place_at chain (depth + 1) % 2 ≡ 0 → WalkedTo top root t chain tree depth p old a → (step : IsStep top root chain depth p q side a b c) → side ≡ chain.behind
+    → place_at chain (depth + 1) % 2 ≡ 0 → WalkedTo top root t chain tree depth p old a → (step : IsStep top root chain depth p q side a b c)
+    → side ≡ chain.behind
     → step.place ≡ place_at chain (depth + 1) + 1 → q ≡ handed_on (left_at chain (depth + 1) tree) (Uniform chain.behind) p
     → WalkedTo top root t chain tree (depth + 1) q old c
 stepped_lower top root t chain tree depth p q side old a b c some even so step is other handed =
@@ -228,7 +235,8 @@ stepped_lower top root t chain tree depth p q side old a b c some even so step i
     in
     let down : j ≡ k - 1 = omega (arith, up) in
     let high : step.beside ≡ so.first + 2 ^ (k - 1) =
-    step.stands ∙ middle root (place_at chain depth) step.place (2 ^ k) (2 ^ j) double (omega (arith, other, place)) ∙ ap (λ n. n + 2 ^ j) (sym so.starts) ∙ ap (λ n. so.first + 2 ^ n) down
+    step.stands ∙ middle root (place_at chain depth) step.place (2 ^ k) (2 ^ j) double (omega (arith, other, place)) ∙ ap (λ n. n + 2 ^ j) (sym so.starts)
+    ∙ ap (λ n. so.first + 2 ^ n) down
     in
     record {
       k = j;
@@ -247,7 +255,8 @@ pub ended :
     → AddsChosen top root t (chained chain tree) old b
 ended top root t chain tree depth q old a b k first end so height starts small =
     let size : k ≡ so.k = omega (arith, height, so.height, end) in
-    let one : place_at chain depth ≡ chain.place = (let none : chain.levels - depth ≡ 0 = omega (arith, end) in ap (λ n. chain.place / 2 ^ n) none ∙ div-one chain.place) in
+    let one : place_at chain depth ≡ chain.place = (let none : chain.levels - depth ≡ 0 = omega (arith, end) in ap (λ n. chain.place / 2 ^ n) none
+    ∙ div-one chain.place) in
     let at : first ≡ so.first = starts ∙ same_start k so.k root chain.place size ∙ ap (λ n. root + n * 2 ^ so.k) (sym one) ∙ sym so.starts in
     let K : ℕ → Type 0 = λ n. AddsChosen n first q tree a b in
     let F : ℕ → Type 0 = λ n. AddsChosen so.k n q tree a b in

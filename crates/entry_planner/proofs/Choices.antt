@@ -1,5 +1,6 @@
 -- The permission that is passed on to the halves of a split block, and that it is the cheapest.
-use Rattle.std.proofs.Common.{◌≡◌, ℕ, zero, suc, ◌+◌, ◌^◌, ◌<◌, ◌≤◌, min, List, Bool, true, false, ◌==◌, nat_le, ◌&&◌, ◌||◌, if◌then◌else◌, refl, sym, ap, ◌∙◌, arith}
+use Rattle.std.proofs.Common.{◌≡◌, ℕ, zero, suc, ◌+◌, ◌^◌, ◌<◌, ◌≤◌, min, List, Bool, true, false, ◌==◌, nat_le, ◌&&◌, ◌||◌, if◌then◌else◌, refl, sym, ap, ◌∙◌}
+use Rattle.std.proofs.Common.{arith}
 use Rattle.std.proofs.lemmas.Bool.{le-leb, lt-leb, leb-true, leb-false, eq-eqb, ne_eqb, eqb-true, eqb-false}
 use Rattle.pmp_encoding.specs.declared.perm.Perm.{Perm}
 use Rattle.pmp_encoding.specs.declared.perm.Perm.TheVariants.{NoAccess, Read, ReadWrite, Execute, ReadExecute, ReadWriteExecute}
@@ -24,7 +25,8 @@ abbrev pick : Bool → Bool → Bool → Bool → Bool → Perm
 pick a b c d e = if a then NoAccess else (if b then Read else (if c then ReadWrite else (if d then Execute else (if e then ReadExecute else ReadWriteExecute))))
 
 first_least_is : (f : Perm → ℕ) → f (first_least f) ≡ least_of f
-first_least_is f = go (f NoAccess == least_of f) (f Read == least_of f) (f ReadWrite == least_of f) (f Execute == least_of f) (f ReadExecute == least_of f) refl refl refl refl refl
+first_least_is f = go (f NoAccess == least_of f) (f Read == least_of f) (f ReadWrite == least_of f) (f Execute == least_of f)
+    (f ReadExecute == least_of f) refl refl refl refl refl
   where
     go :
         (a b c d e : Bool) → (f NoAccess == least_of f) ≡ a → (f Read == least_of f) ≡ b → (f ReadWrite == least_of f) ≡ c → (f Execute == least_of f) ≡ d
@@ -91,7 +93,8 @@ cheapest f p true is = kept (if perm_eq p p then 0 else 1) (f p) (least_of f) (a
 cheapest f p false is =
     let dear : 1 + least_of f < f p = leb-false _ _ is in
     let differ : first_least f ≡ p → ⊥ = λ same. below (ap f (sym same) ∙ first_least_is f) dear in
-    paid (if perm_eq (first_least f) p then 0 else 1) (f p) (f (first_least f)) (least_of f) (ap unless (perm_eq-false (first_least f) p differ)) (first_least_is f) dear
+    paid (if perm_eq (first_least f) p then 0 else 1) (f p) (f (first_least f)) (least_of f) (ap unless (perm_eq-false (first_least f) p differ))
+    (first_least_is f) dear
   where
     unless : Bool → ℕ
     unless t = if t then 0 else 1
@@ -147,7 +150,8 @@ least_together low high =
     let r = least_is (halves_cost low high) in
     omega (arith, r.1, cost_is low r.0, cost_is high r.0)
 
-least_apart : (low high : PermTree) → ((q : Perm) → (is_best low q && is_best high q) ≡ false) → least_cost low + least_cost high + 1 ≤ least_of (halves_cost low high)
+least_apart : (low high : PermTree) → ((q : Perm) → (is_best low q && is_best high q) ≡ false)
+    → least_cost low + least_cost high + 1 ≤ least_of (halves_cost low high)
 least_apart low high apart =
     let r = least_is (halves_cost low high) in
     omega (arith, r.1, sum_apart _ _ _ _ _ _ (cost_is low r.0) (cost_is high r.0) (apart r.0))
@@ -158,7 +162,8 @@ stays low high p h = ap (λ t. if t then p else first_least (halves_cost low hig
 both_is : (low high : PermTree) (c : SplitCost) (q : Perm) (t : Bool) → c ≡ split_cost low high → has c.both.bits q ≡ t → (is_best low q && is_best high q) ≡ t
 both_is low high c q t are is = sym (has-set_of (λ r. is_best low r && is_best high r) q) ∙ ap (λ h. has h.both.bits q) (sym are) ∙ is
 
-either_is : (low high : PermTree) (c : SplitCost) (q : Perm) (t : Bool) → c ≡ split_cost low high → has c.either.bits q ≡ t → (is_best low q || is_best high q) ≡ t
+either_is : (low high : PermTree) (c : SplitCost) (q : Perm) (t : Bool) → c ≡ split_cost low high → has c.either.bits q ≡ t
+    → (is_best low q || is_best high q) ≡ t
 either_is low high c q t are is = sym (has-set_of (λ r. is_best low r || is_best high r) q) ∙ ap (λ h. has h.either.bits q) (sym are) ∙ is
 
 -- the inherited permission is best for a half
@@ -169,7 +174,8 @@ kept_handed low high c p are inside =
     sym (stays low high p (omega (arith, least_together low high)))
 
 -- no permission is best for both
-pub none_handed : (low high : PermTree) (c : SplitCost) (p : Perm) → c ≡ split_cost low high → ((q : Perm) → has c.both.bits q ≡ false) → p ≡ handed_on low high p
+pub none_handed : (low high : PermTree) (c : SplitCost) (p : Perm) → c ≡ split_cost low high → ((q : Perm) → has c.both.bits q ≡ false)
+    → p ≡ handed_on low high p
 none_handed low high c p are none =
     let two : cost low p + cost high p ≤ least_cost low + least_cost high + 2 = sum_two _ _ _ _ _ _ (cost_is low p) (cost_is high p) in
     sym (stays low high p (omega (arith, least_apart low high (λ q. both_is low high c q false are (none q)))))
@@ -181,7 +187,8 @@ pub first_handed :
 first_handed low high c p q are out inside before =
     let both = both_is low high c q true are inside in
     let sum : cost low q + cost high q ≡ least_cost low + least_cost high = sum_at _ _ _ _ _ _ (cost_is low q) (cost_is high q) both in
-    let least : least_of (halves_cost low high) ≡ least_cost low + least_cost high = omega (arith, least_together low high, least_le (halves_cost low high) q) in
+    let least : least_of (halves_cost low high) ≡ least_cost low + least_cost high = omega
+    (arith, least_together low high, least_le (halves_cost low high) q) in
     let dear : least_cost low + least_cost high + 2 ≤ cost low p + cost high p =
     sum_none _ _ _ _ _ _ (cost_is low p) (cost_is high p) (either_is low high c p false are out) in
     let not_before : (r : Perm) → index_of r < index_of q → halves_cost low high r ≡ least_of (halves_cost low high) → ⊥ =

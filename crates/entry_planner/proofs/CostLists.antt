@@ -12,7 +12,8 @@ pub cost_in-is :
 cost_in-is kept costs i m n c p same count h is under =
     let all : m ≡ length kept = omega (arith, ap length same, length-reverse kept) in
     let inside : i < length kept = omega (arith, ap length same, length-reverse kept) in
-    under ∙ ap (λ d. cost_of (as_block d) p) (is ∙ ap (λ k. get_or kept (k - 1 - i) c) all ∙ sym (get_or-reverse kept i c inside) ∙ ap (λ l. get_or l i c) same) ∙ sym (at costs i h)
+    under ∙ ap (λ d. cost_of (as_block d) p) (is ∙ ap (λ k. get_or kept (k - 1 - i) c) all ∙ sym (get_or-reverse kept i c inside) ∙ ap (λ l. get_or l i c) same)
+    ∙ sym (at costs i h)
   where
     at : (costs : List SplitCost) (i : ℕ) → i < length costs → cost_in costs i p ≡ cost_of (as_block (get_or costs i c)) p
     at [] i h = absurd (omega arith)

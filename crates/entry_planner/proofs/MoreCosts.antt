@@ -1,5 +1,6 @@
 -- How many more entries a block costs under each permission, by the table.
-use Rattle.std.proofs.Common.{◌≡◌, ◌∙◌, ℕ, zero, suc, ◌-◌, ◌/◌, ◌%◌, ◌<◌, ◌≤◌, Bool, true, false, ◌&&◌, ◌==◌, T, eqb, eqb→eq, [], get_or, if◌then◌else◌, eq-zero-or-pos, inl, inr, ap, arith}
+use Rattle.std.proofs.Common.{◌≡◌, ◌∙◌, ℕ, zero, suc, ◌-◌, ◌/◌, ◌%◌, ◌<◌, ◌≤◌, Bool, true, false, ◌&&◌, ◌==◌, T, eqb, eqb→eq, [], get_or, if◌then◌else◌}
+use Rattle.std.proofs.Common.{eq-zero-or-pos, inl, inr, ap, arith}
 use lib.Ieee.Fits.{and_l, and_r}
 use Rattle.pmp_encoding.specs.declared.perm.Perm.{Perm}
 use Rattle.pmp_encoding.specs.declared.perm.Perm.TheVariants.{NoAccess, Read, ReadWrite, Execute, ReadExecute, ReadWriteExecute}
@@ -34,8 +35,10 @@ in_row b NoAccess t = and_l (is_at b NoAccess) _ t
 in_row b Read t = and_l (is_at b Read) _ (and_r (is_at b NoAccess) _ t)
 in_row b ReadWrite t = and_l (is_at b ReadWrite) _ (and_r (is_at b Read) _ (and_r (is_at b NoAccess) _ t))
 in_row b Execute t = and_l (is_at b Execute) _ (and_r (is_at b ReadWrite) _ (and_r (is_at b Read) _ (and_r (is_at b NoAccess) _ t)))
-in_row b ReadExecute t = and_l (is_at b ReadExecute) _ (and_r (is_at b Execute) _ (and_r (is_at b ReadWrite) _ (and_r (is_at b Read) _ (and_r (is_at b NoAccess) _ t))))
-in_row b ReadWriteExecute t = and_r (is_at b ReadExecute) _ (and_r (is_at b Execute) _ (and_r (is_at b ReadWrite) _ (and_r (is_at b Read) _ (and_r (is_at b NoAccess) _ t))))
+in_row b ReadExecute t = and_l (is_at b ReadExecute) _ (and_r (is_at b Execute) _
+    (and_r (is_at b ReadWrite) _ (and_r (is_at b Read) _ (and_r (is_at b NoAccess) _ t))))
+in_row b ReadWriteExecute t = and_r (is_at b ReadExecute) _ (and_r (is_at b Execute) _
+    (and_r (is_at b ReadWrite) _ (and_r (is_at b Read) _ (and_r (is_at b NoAccess) _ t))))
 
 -- six bits of a set say all
 six_bits : (n : ℕ) (p : Perm) → has (n % 64) p ≡ has n p

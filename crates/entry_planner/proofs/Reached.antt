@@ -1,5 +1,6 @@
 -- The entries that are chosen for a view lie where its pages with a permission do.
-use Rattle.std.proofs.Common.{◌≡◌, ℕ, zero, suc, ◌+◌, ◌*◌, ◌^◌, ◌<◌, ◌≤◌, ◌⊎◌, inl, ⊎_elim, List, [], ◌∷◌, ◌++◌, Bool, true, false, cond, nat_le, length, All, if◌then◌else◌, refl, sym, ap, subst, ◌∙◌, arith, pow-suc}
+use Rattle.std.proofs.Common.{◌≡◌, ℕ, zero, suc, ◌+◌, ◌*◌, ◌^◌, ◌<◌, ◌≤◌, ◌⊎◌, inl, ⊎_elim, List, [], ◌∷◌, ◌++◌, Bool, true, false, cond, nat_le, length, All}
+use Rattle.std.proofs.Common.{if◌then◌else◌, refl, sym, ap, subst, ◌∙◌, arith, pow-suc}
 use Rattle.std.specs.List.{AllByRecursion}
 use Rattle.std.proofs.Math.Path.{ap₂}
 use Rattle.std.proofs.Math.Pow.{pow_mono}
@@ -58,7 +59,8 @@ split_low k lower es chosen =
     let same : es ≡ chosen.0 = chosen.3 ∙ ap₂ (λ (a b : List Entry). chosen.0 ++ (a ++ b)) high own ∙ append-nil chosen.0 in
     subst (λ (xs : List Entry). IsChosenAt k 0 NoAccess lower xs) (sym same) low
 
-joined_low : (k : ℕ) (lower : PermTree) (es : List Entry) → IsChosenAt (suc k) 0 NoAccess (joined lower (Uniform NoAccess)) es → IsChosenAt k 0 NoAccess lower es
+joined_low : (k : ℕ) (lower : PermTree) (es : List Entry) → IsChosenAt (suc k) 0 NoAccess (joined lower (Uniform NoAccess)) es
+    → IsChosenAt k 0 NoAccess lower es
 joined_low k (Uniform NoAccess) es chosen = rw (no_own (suc k) 0 es chosen) (inl (refl, refl), refl)
 joined_low k (Uniform Read) es chosen = split_low k (Uniform Read) es chosen
 joined_low k (Uniform ReadWrite) es chosen = split_low k (Uniform ReadWrite) es chosen
@@ -84,7 +86,8 @@ chosen_low view j (suc k) es order none chosen = ⊎_elim at (below (λ low leas
     at : k < j → AreParts 0 j es
     at high =
         let same : suc k ≡ j = omega arith in
-        subst (λ (n : ℕ). AreParts 0 n es) same (placed_within (tree_at view (suc k) 0) (suc k) 0 NoAccess es (chosen_placed (tree_at view (suc k) 0) (suc k) 0 NoAccess es chosen))
+        subst (λ (n : ℕ). AreParts 0 n es) same (placed_within (tree_at view (suc k) 0) (suc k) 0 NoAccess es
+        (chosen_placed (tree_at view (suc k) 0) (suc k) 0 NoAccess es chosen))
 
     below :
         (j ≤ k → ((page : ℕ) → 2 ^ j ≤ page → page < 2 ^ k → view page ≡ NoAccess) → IsChosenAt k 0 NoAccess (tree_at view k 0) es → AreParts 0 j es) → j ≤ k
@@ -92,8 +95,10 @@ chosen_low view j (suc k) es order none chosen = ⊎_elim at (below (λ low leas
     below again low =
         let double : 2 ^ suc k ≡ 2 ^ k * 2 = pow-suc 2 k in
         let wide : 2 ^ j ≤ 2 ^ k = pow_mono low in
-        let upper : tree_at view k (0 + 2 ^ k) ≡ Uniform NoAccess = tree_at-is view k (0 + 2 ^ k) (Uniform NoAccess) tt (λ i inside. none (0 + 2 ^ k + i) (omega arith) (omega arith)) in
-        let half : IsChosenAt k 0 NoAccess (tree_at view k 0) es = joined_low k (tree_at view k 0) es (subst (λ (t : PermTree). IsChosenAt (suc k) 0 NoAccess t es) (tree_low view k upper) chosen) in
+        let upper : tree_at view k (0 + 2 ^ k) ≡ Uniform NoAccess = tree_at-is view k (0 + 2 ^ k) (Uniform NoAccess) tt
+        (λ i inside. none (0 + 2 ^ k + i) (omega arith) (omega arith)) in
+        let half : IsChosenAt k 0 NoAccess (tree_at view k 0) es = joined_low k (tree_at view k 0) es
+        (subst (λ (t : PermTree). IsChosenAt (suc k) 0 NoAccess t es) (tree_low view k upper) chosen) in
         again low (λ page from to. none page from (omega arith)) half
 
 -- ---- both ways

@@ -1,5 +1,6 @@
 -- Sets of permissions as numbers, and as tests.
-use Rattle.std.proofs.Common.{◌≡◌, ℕ, zero, suc, ◌+◌, ◌*◌, ◌/◌, ◌%◌, ◌<◌, ◌≤◌, min, max, Bool, true, false, not, ◌==◌, ◌&&◌, ◌||◌, refl, sym, ap, ◌∙◌, arith, bit_and, bit_or}
+use Rattle.std.proofs.Common.{◌≡◌, ℕ, zero, suc, ◌+◌, ◌*◌, ◌/◌, ◌%◌, ◌<◌, ◌≤◌, min, max, Bool, true, false, not, ◌==◌, ◌&&◌, ◌||◌, refl, sym, ap, ◌∙◌, arith}
+use Rattle.std.proofs.Common.{bit_and, bit_or}
 use Rattle.std.specs.Int.{bit_at}
 use Rattle.std.proofs.lemmas.Bool.Decides.{nat_tests}
 use Rattle.std.proofs.Math.Path.{ap₂}
@@ -55,7 +56,16 @@ bit_at-set_of f ReadWriteExecute =
 
 pub set_of-most : (f : Perm → Bool) → set_of f < 64
 set_of-most f =
-    omega (arith, bit_of-most (f NoAccess), bit_of-most (f Read), bit_of-most (f ReadWrite), bit_of-most (f Execute), bit_of-most (f ReadExecute), bit_of-most (f ReadWriteExecute))
+    omega (
+      arith,
+      bit_of-most (f NoAccess),
+      bit_of-most (f Read),
+      bit_of-most (f ReadWrite),
+      bit_of-most (f Execute),
+      bit_of-most (f ReadExecute),
+      bit_of-most
+          (f ReadWriteExecute),
+    )
 
 -- the set has just the permissions that it was made of
 pub has-set_of : (f : Perm → Bool) (p : Perm) → has (set_of f) p ≡ f p

@@ -1,5 +1,6 @@
 -- What a walk down a split block adds, from what it adds in the halves.
-use Rattle.std.proofs.Common.{◌≡◌, ℕ, suc, ◌+◌, ◌-◌, ◌^◌, ◌≤◌, List, [], ◌∷◌, ◌++◌, length, take, get_or, Some, IsPermutation, reverse, refl, sym, ap, subst, ◌∙◌, arith, length-append}
+use Rattle.std.proofs.Common.{◌≡◌, ℕ, suc, ◌+◌, ◌-◌, ◌^◌, ◌≤◌, List, [], ◌∷◌, ◌++◌, length, take, get_or, Some, IsPermutation, reverse, refl, sym, ap, subst}
+use Rattle.std.proofs.Common.{◌∙◌, arith, length-append}
 use Rattle.std.proofs.lemmas.Grind.{common_steps}
 use Rattle.std.proofs.lemmas.List.{append_cancel_right}
 use Rattle.std.proofs.lemmas.List.Sorted.{IsPermutation-trans}
@@ -67,13 +68,15 @@ pub last_is :
     (costs : List SplitCost) (tree low high : PermTree) (d : SplitCost) → tree ≡ Split low high → EndsWith costs tree
     → get_or costs (length costs - 1) d ≡ split_cost low high
 last_is costs tree low high d split ends =
-    (last_apart costs ((ends.0 ++ reverse (costs_in high)) ++ reverse (costs_in low)) (split_cost low high) d (ends.1 ∙ halves_apart tree low high ends.0 split)).0
+    (last_apart costs ((ends.0 ++ reverse (costs_in high)) ++ reverse (costs_in low)) (split_cost low high) d
+    (ends.1 ∙ halves_apart tree low high ends.0 split)).0
 
 others_are :
     (costs : List SplitCost) (tree low high : PermTree) → tree ≡ Split low high → (ends : EndsWith costs tree)
     → take (length costs - 1) costs ≡ (ends.0 ++ reverse (costs_in high)) ++ reverse (costs_in low)
 others_are costs tree low high split ends =
-    (last_apart costs ((ends.0 ++ reverse (costs_in high)) ++ reverse (costs_in low)) (split_cost low high) (split_cost low high) (ends.1 ∙ halves_apart tree low high ends.0 split)).1
+    (last_apart costs ((ends.0 ++ reverse (costs_in high)) ++ reverse (costs_in low)) (split_cost low high) (split_cost low high)
+    (ends.1 ∙ halves_apart tree low high ends.0 split)).1
 
 pub lower_ends :
     (costs : List SplitCost) (tree low high : PermTree) → tree ≡ Split low high → EndsWith costs tree → EndsWith (take (length costs - 1) costs) low
@@ -149,7 +152,8 @@ uniform_chosen tree k first p q a b one own =
 
 -- what is added to no entries, in another order, is what is chosen for the whole space
 pub all_chosen :
-    (tree : PermTree) (old placed entries : List Entry) → old ≡ [] → AddsChosen 44 0 NoAccess tree old placed → IsPermutation placed entries → AreChosen tree entries
+    (tree : PermTree) (old placed entries : List Entry) → old ≡ [] → AddsChosen 44 0 NoAccess tree old placed → IsPermutation placed entries
+    → AreChosen tree entries
 all_chosen tree old placed entries none adds same =
     let P : List Entry → Type 0 = λ l. IsPermutation (l ++ adds.0) placed in
     (adds.0, adds.1, IsPermutation-trans adds.0 placed entries (subst P none adds.2) same)

@@ -1,5 +1,6 @@
 -- The entries that are placed in the whole space, in order, are fewest, and the costs are the bound that shows it.
-use Rattle.std.proofs.Common.{◌≡◌, ℕ, zero, suc, ◌+◌, ◌^◌, ◌<◌, ◌≤◌, List, [], ◌∷◌, ◌++◌, length, All, Bool, true, false, if◌then◌else◌, IsPermutation, reverse, refl, sym, ap, subst, ◌∙◌, arith, append_assoc, length-append}
+use Rattle.std.proofs.Common.{◌≡◌, ℕ, zero, suc, ◌+◌, ◌^◌, ◌<◌, ◌≤◌, List, [], ◌∷◌, ◌++◌, length, All, Bool, true, false, if◌then◌else◌, IsPermutation, reverse}
+use Rattle.std.proofs.Common.{refl, sym, ap, subst, ◌∙◌, arith, append_assoc, length-append}
 use Rattle.std.specs.List.{AllByRecursion}
 use Rattle.std.proofs.Math.Path.{ap₂}
 use Rattle.std.proofs.lemmas.List.{append-nil, reverse-reverse}
@@ -131,7 +132,8 @@ upper_stands costs i lower upper s =
       place = length-append low.before (costs_in lower) ∙ ap₂ (λ m n. m + n) low.place (length-costs_in lower);
     }
 
-cost_in-stands : (costs : List SplitCost) (i : ℕ) (lower upper : PermTree) (p : Perm) → StandsAt costs i (Split lower upper) → cost_in costs i p ≡ cost (Split lower upper) p
+cost_in-stands : (costs : List SplitCost) (i : ℕ) (lower upper : PermTree) (p : Perm) → StandsAt costs i (Split lower upper)
+    → cost_in costs i p ≡ cost (Split lower upper) p
 cost_in-stands costs i lower upper p s =
     ap₂ (λ l n. cost_in l n p) s.split (sym s.place)
     ∙ at s.before (split_cost lower upper) (costs_in lower ++ costs_in upper ++ s.after)
@@ -157,9 +159,22 @@ costed_sound view costs i (Split lower upper) (suc k) first s means =
       costed_sound view costs (i + 1) lower k first low means.0,
       costed_sound view costs (i + 1 + splits lower) upper k (first + 2 ^ k) high means.1,
       (λ p.
-          omega (arith, cost_in-stands costs i lower upper p s, bound_of-costed costs (i + 1) lower p low, bound_of-costed costs (i + 1 + splits lower) upper p high)),
+          omega (
+            arith,
+            cost_in-stands costs i lower upper p s,
+            bound_of-costed costs (i + 1) lower p low,
+            bound_of-costed costs
+                (i + 1 + splits lower) upper p high,
+          )),
       (λ p q.
-          omega (arith, cost_in-stands costs i lower upper p s, bound_of-costed costs (i + 1) lower q low, bound_of-costed costs (i + 1 + splits lower) upper q high, least_le (λ r. cost lower r + cost upper r) q)),
+          omega (
+            arith,
+            cost_in-stands costs i lower upper p s,
+            bound_of-costed costs (i + 1) lower q low,
+            bound_of-costed costs
+                (i + 1 + splits lower) upper q high,
+            least_le (λ r. cost lower r + cost upper r) q,
+          )),
     )
 
 costs_stand : (costs : List SplitCost) (i : ℕ) (tree : PermTree) → StandsAt costs i tree → CostsAre costs i tree
@@ -176,7 +191,8 @@ whole_stands tree costs are = record { before = []; after = []; split = are ∙ 
 pub whole_costs : (tree : PermTree) (costs : List SplitCost) → costs ≡ costs_in tree → CostsAre costs 0 tree
 whole_costs tree costs are = costs_stand costs 0 tree (whole_stands tree costs are)
 
-pub whole_sound : (view : View) (tree : PermTree) (costs : List SplitCost) → TreeMeans view tree → costs ≡ costs_in tree → IsSoundAt view 44 0 (costed costs 0 tree)
+pub whole_sound : (view : View) (tree : PermTree) (costs : List SplitCost) → TreeMeans view tree → costs ≡ costs_in tree
+    → IsSoundAt view 44 0 (costed costs 0 tree)
 whole_sound view tree costs means are = costed_sound view costs 0 tree 44 0 (whole_stands tree costs are) means
 
 pub whole_root :
@@ -188,9 +204,15 @@ whole_root tree entries costs are listed =
 -- ---- the plan
 
 pub made :
-    (tree : PermTree) (entries : List Entry) (none costs : List SplitCost) → AreChosen tree entries → AreInOrder entries → none ≡ [] → costs ≡ none ++ reverse (costs_in tree)
+    (tree : PermTree) (entries : List Entry) (none costs : List SplitCost) → AreChosen tree entries → AreInOrder entries → none ≡ []
+    → costs ≡ none ++ reverse (costs_in tree)
     → IsMade tree (record { entries = entries; costs = reverse costs })
-made tree entries none costs chosen order empty are = record { chosen = chosen; order = order; costs = ap reverse (are ∙ ap (λ l. l ++ reverse (costs_in tree)) empty) ∙ reverse-reverse (costs_in tree) }
+made tree entries none costs chosen order empty are = record {
+  chosen = chosen;
+  order = order;
+  costs = ap reverse
+      (are ∙ ap (λ l. l ++ reverse (costs_in tree)) empty) ∙ reverse-reverse (costs_in tree);
+}
 
 pub made_is : (tree : PermTree) (made plan : Planned) → plan ≡ made → IsMade tree made → IsMade tree plan
 made_is tree made plan is own = let M : Planned → Type 0 = IsMade tree in subst M (sym is) own

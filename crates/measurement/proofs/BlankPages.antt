@@ -19,20 +19,24 @@ all_zero (b ∷ xs) h =
     ap (λ c. c ∷ xs) here ∙ ap (λ ys. 0 ∷ ys) (all_zero xs both.1)
 
 -- two ranges of pages with the same bytes
-pub same_pages : (f g : ℕ → List ℕ) (first second count : ℕ) → ((i : ℕ) → i < count → f (first + i) ≡ g (second + i)) → pages_from f first count ≡ pages_from g second count
+pub same_pages : (f g : ℕ → List ℕ) (first second count : ℕ) → ((i : ℕ) → i < count → f (first + i) ≡ g (second + i))
+    → pages_from f first count ≡ pages_from g second count
 same_pages f g first second zero same = refl
 same_pages f g first second (suc count) same =
     ap (λ ps. ps ++ (f (first + count) ∷ [])) (same_pages f g first second count (λ i l. same i (omega (arith, l))))
     ∙ ap (λ p. pages_from g second count ++ (p ∷ [])) (same count (omega arith))
 
 -- what is measured of pages that are all alike does not depend on where they lie
-pub measured_alike : (page : List ℕ) (pages : ℕ → List ℕ) (parts : Create) (layout : Layout) → layout ≡ layout_of parts → ((i : ℕ) → i < parts.text_pages + parts.data_pages → pages (parts.base / 4096 + i) ≡ page) → digest_of layout (pages_from (λ i. page) 0 (layout.text_pages + layout.data_pages)) ≡ measured pages parts
+pub measured_alike : (page : List ℕ) (pages : ℕ → List ℕ) (parts : Create) (layout : Layout) → layout ≡ layout_of parts
+    → ((i : ℕ) → i < parts.text_pages + parts.data_pages → pages (parts.base / 4096 + i) ≡ page)
+    → digest_of layout (pages_from (λ i. page) 0 (layout.text_pages + layout.data_pages)) ≡ measured pages parts
 measured_alike page pages parts layout is alike =
     ap (λ (l : Layout). digest_of l (pages_from (λ i. page) 0 (l.text_pages + l.data_pages))) is
     ∙ ap (λ ps. digest_of (layout_of parts) ps) (sym (same_pages pages (λ i. page) (parts.base / 4096) 0 (parts.text_pages + parts.data_pages) alike))
 
 -- layouts are the same where their four numbers are
-pub same_layout : (a b : Layout) → ((a.text_pages == b.text_pages) && ((a.data_pages == b.data_pages) && ((a.shared_count == b.shared_count) && (a.entry_offset == b.entry_offset)))) ≡ true → a ≡ b
+pub same_layout : (a b : Layout) → ((a.text_pages == b.text_pages) && ((a.data_pages == b.data_pages) &&
+    ((a.shared_count == b.shared_count) && (a.entry_offset == b.entry_offset)))) ≡ true → a ≡ b
 same_layout a b h =
     let p = and_parts (a.text_pages == b.text_pages) _ h in
     let q = and_parts (a.data_pages == b.data_pages) _ p.1 in

@@ -1,5 +1,6 @@
 -- What a range that was set, or refused, says of the runs that were wanted.
-use Rattle.std.proofs.Common.{◌≡◌, ℕ, ◌+◌, ◌-◌, ◌^◌, ◌<◌, ◌≤◌, ◌↔◌, ⊎_elim, List, ◌++◌, length, take, drop, get_or, All, Result, Ok, Err, Option, option_to_list, refl, sym, ap, ◌∙◌, arith}
+use Rattle.std.proofs.Common.{◌≡◌, ℕ, ◌+◌, ◌-◌, ◌^◌, ◌<◌, ◌≤◌, ◌↔◌, ⊎_elim, List, ◌++◌, length, take, drop, get_or, All, Result, Ok, Err, Option}
+use Rattle.std.proofs.Common.{option_to_list, refl, sym, ap, ◌∙◌, arith}
 use Rattle.std.proofs.lemmas.Bool.{cases_lt, cond-false}
 use Rattle.std.proofs.lemmas.List.{append_assoc, get_or-drop, length-drop}
 use Rattle.std.proofs.lemmas.List.Elements.{All-get_or}
@@ -16,7 +17,8 @@ use Rattle.permission_map.proofs.Overwritten.{put_together}
 
 -- the runs that are wanted are one list
 pub one_wanted :
-    (old : List Run) (first count : ℕ) (perm : Perm) (xs ys : List Run) → AreOverwritten old first count perm xs → AreOverwritten old first count perm ys → xs ≡ ys
+    (old : List Run) (first count : ℕ) (perm : Perm) (xs ys : List Run) → AreOverwritten old first count perm xs → AreOverwritten old first count perm ys
+    → xs ≡ ys
 one_wanted old first count perm xs ys h k = determined xs ys h.are_runs k.are_runs (λ page small. h.view_is page small ∙ sym (k.view_is page small))
 
 -- no pages change nothing
@@ -34,11 +36,13 @@ none_wanted old first count perm are none =
 pub stays :
     (old new wanted : List Run) (first count : ℕ) (perm : Perm) (result : Result (Unit {0}) MapFault) → AreRuns old → AreOverwritten old first count perm wanted
     → Becomes old new wanted result → count ≡ 0 → new ≡ old
-stays old new wanted first count perm (Ok done) are is becomes none = becomes.0 ∙ one_wanted old first count perm wanted old is (none_wanted old first count perm are none)
+stays old new wanted first count perm (Ok done) are is becomes none = becomes.0
+    ∙ one_wanted old first count perm wanted old is (none_wanted old first count perm are none)
 stays old new wanted first count perm (Err fault) are is becomes none = becomes.0
 
 pub too_many :
-    (old new wanted : List Run) (first count : ℕ) (perm : Perm) (result : Result (Unit {0}) MapFault) → first + count ≤ 2 ^ 44 → AreOverwritten old first count perm wanted
+    (old new wanted : List Run) (first count : ℕ) (perm : Perm) (result : Result (Unit {0}) MapFault) → first + count ≤ 2 ^ 44
+    → AreOverwritten old first count perm wanted
     → Becomes old new wanted result
     → (result ≡ Err TooManyRanges) ↔ ((first + count ≤ 2 ^ 44) × ((runs : List Run) × AreOverwritten old first count perm runs × (4096 < length runs)))
 too_many old new wanted first count perm (Ok done) inside is becomes = (
@@ -54,7 +58,8 @@ too_many old new wanted first count perm (Err Memory) inside is becomes = (
 
 -- the runs that end before a range are before those that begin after it
 pub in_order :
-    (runs : List Run) (from to first end : ℕ) (d : Run) → from ≤ length runs → All (λ run. end_of run < first) (take from runs) → All (λ run. end < run.first) (drop to runs)
+    (runs : List Run) (from to first end : ℕ) (d : Run) → from ≤ length runs → All (λ run. end_of run < first) (take from runs)
+    → All (λ run. end < run.first) (drop to runs)
     → first ≤ end → from ≤ to
 in_order runs from to first end d inside low high order =
     ⊎_elim
@@ -62,14 +67,16 @@ in_order runs from to first end d inside low high order =
     let below : end_of (get_or runs (from - 1) d) < first = at_back (λ run. end_of run < first) runs from d (omega arith) inside low in
     let place : to + (from - 1 - to) ≡ from - 1 = omega arith in
     let above : end < (get_or runs (from - 1) d).first =
-    rw place at (rw (get_or-drop to runs (from - 1 - to) d) at (All-get_or (λ run. end < run.first) (drop to runs) (from - 1 - to) d (omega (arith, length-drop to runs)) high)) in
+    rw place at (rw (get_or-drop to runs (from - 1 - to) d) at (All-get_or (λ run. end < run.first) (drop to runs) (from - 1 - to) d
+    (omega (arith, length-drop to runs)) high)) in
     absurd (omega arith))
     (λ fine. fine)
     (cases_lt to from)
 
 pub wanted_is :
     (old : List Run) (first count from to : ℕ) (perm : Perm) (start stop : ℕ) (below new above : Option Run) → 0 < count
-    → IsBelow old first perm (take from old ++ option_to_list below) start → IsAbove old (first + count) perm (option_to_list above ++ drop to old) stop → IsNew start stop perm new
+    → IsBelow old first perm (take from old ++ option_to_list below) start → IsAbove old (first + count) perm (option_to_list above ++ drop to old) stop
+    → IsNew start stop perm new
     → AreOverwritten old first count perm (take from old ++ (option_to_list below ++ (option_to_list new ++ (option_to_list above ++ drop to old))))
 wanted_is old first count from to perm start stop below new above some low high is =
     rw append_assoc at

@@ -1,7 +1,9 @@
 -- Points with a range set: at most two in the place of others, or the range over those that stand in it.
-use Rattle.std.proofs.Common.{◌≡◌, ℕ, ◌+◌, ◌-◌, ◌*◌, ◌/◌, ◌%◌, ◌^◌, ◌<◌, ◌≤◌, inr, ⊎_elim, List, [], ◌∷◌, ◌++◌, length, take, drop, get_or, set, map, Option, None, Some, option_to_list, refl, sym, ap, subst, ◌∙◌, arith, append_assoc, length-append, length-take, length-take-le}
+use Rattle.std.proofs.Common.{◌≡◌, ℕ, ◌+◌, ◌-◌, ◌*◌, ◌/◌, ◌%◌, ◌^◌, ◌<◌, ◌≤◌, inr, ⊎_elim, List, [], ◌∷◌, ◌++◌, length, take, drop, get_or, set, map, Option}
+use Rattle.std.proofs.Common.{None, Some, option_to_list, refl, sym, ap, subst, ◌∙◌, arith, append_assoc, length-append, length-take, length-take-le}
 use Rattle.std.specs.List.{AllByRecursion}
-use Rattle.std.proofs.lemmas.List.{take-append-drop, drop-drop, drop_more, take_more, get_or-take, get_or-drop, map-append, set_at, get_or_at, length-map, length-drop}
+use Rattle.std.proofs.lemmas.List.{take-append-drop, drop-drop, drop_more, take_more, get_or-take, get_or-drop, map-append, set_at, get_or_at, length-map}
+use Rattle.std.proofs.lemmas.List.{length-drop}
 use Rattle.std.proofs.lemmas.List.Elements.{recursion_from_All}
 use Rattle.pmp_encoding.specs.declared.perm.Perm.{Perm}
 use Rattle.pmp_encoding.specs.declared.perm.Perm.TheVariants.{NoAccess, Read, ReadWrite, Execute, ReadExecute, ReadWriteExecute}
@@ -32,7 +34,8 @@ pub rise_earlier : (at from : ℕ) (ps : List Point) → RiseAfter at ps → fro
 rise_earlier at from [] rise low = tt
 rise_earlier at from (q ∷ ps) rise low = ((let here : at ≤ page_of q = rise.0 in omega (arith, here, low)), rise.1, rise.2)
 
-rise_turn : (at page : ℕ) (before perm : Perm) (t : Option Point) (ps : List Point) → at ≤ page → page < 2 ^ 44 → IsTurn before page perm t → RiseAfter (page + 1) ps → RiseAfter at (option_to_list t ++ ps)
+rise_turn : (at page : ℕ) (before perm : Perm) (t : Option Point) (ps : List Point) → at ≤ page → page < 2 ^ 44 → IsTurn before page perm t
+    → RiseAfter (page + 1) ps → RiseAfter at (option_to_list t ++ ps)
 rise_turn at page before perm None ps low small turn rise = rise_earlier (page + 1) at ps rise (omega (arith, low))
 rise_turn at page before perm (Some q) ps low small turn rise =
     let there : page_of q ≡ page = turn.1 in
@@ -71,7 +74,8 @@ rise_stop ps first end from to perm stop rise some cut is =
     let C : ℕ → Type 0 = λ n. IsCut ps first n from to in
     let none : drop to ps ≡ [] = none_behind ps first from to rise (subst C edge.0 cut) in
     rw (edge.1, none) tt)
-    (λ turn. rise_turn (first + 1) end perm (standing NoAccess (take to ps)) stop (drop to ps) (omega (arith, some)) turn.0 turn.1 (rise_behind ps first end from to rise cut))
+    (λ turn. rise_turn (first + 1) end perm (standing NoAccess (take to ps)) stop (drop to ps) (omega (arith, some)) turn.0 turn.1
+    (rise_behind ps first end from to rise cut))
     is
 
 pub replaced_rise :
@@ -79,11 +83,13 @@ pub replaced_rise :
     → IsTurn (standing NoAccess (take from ps)) first perm start → IsStop perm end (standing NoAccess (take to ps)) stop → Rise (replaced ps from to start stop)
 replaced_rise ps first end from to perm start stop rise some small cut turn is =
     rise_append 0 (take from ps) (option_to_list start ++ (option_to_list stop ++ drop to ps)) (rise_first 0 (take from ps) (drop from ps) (whole ps from rise))
-    (rise_turn (last_at 0 (take from ps)) first (standing NoAccess (take from ps)) perm start (option_to_list stop ++ drop to ps) (rise_before ps first end from to rise cut)
+    (rise_turn (last_at 0 (take from ps)) first (standing NoAccess (take from ps)) perm start (option_to_list stop ++ drop to ps)
+    (rise_before ps first end from to rise cut)
     (omega (arith, some, small)) turn (rise_stop ps first end from to perm stop rise some cut is))
 
 stop_turns :
-    (ps : List Point) (first end from to : ℕ) (perm : Perm) (stop : Option Point) → Rise ps → IsCut ps first end from to → IsStop perm end (standing NoAccess (take to ps)) stop
+    (ps : List Point) (first end from to : ℕ) (perm : Perm) (stop : Option Point) → Rise ps → IsCut ps first end from to
+    → IsStop perm end (standing NoAccess (take to ps)) stop
     → turns_after perm (option_to_list stop ++ drop to ps) ≡ option_to_list stop ++ turns_after (standing NoAccess (take to ps)) (drop to ps)
 stop_turns ps first end from to perm stop rise cut is =
     ⊎_elim
@@ -96,7 +102,8 @@ stop_turns ps first end from to perm stop rise cut is =
 
 pub replaced_changed :
     (old new : List Point) (first end from to : ℕ) (perm : Perm) (start stop : Option Point) → Rise old → IsCut old first end from to
-    → IsTurn (standing NoAccess (take from old)) first perm start → IsStop perm end (standing NoAccess (take to old)) stop → new ≡ replaced old from to start stop
+    → IsTurn (standing NoAccess (take from old)) first perm start → IsStop perm end (standing NoAccess (take to old)) stop
+    → new ≡ replaced old from to start stop
     → IsChanged old new from to first end perm
 replaced_changed old new first end from to perm start stop rise cut turn is same =
     let s = standing NoAccess (take from old) in
@@ -116,7 +123,8 @@ replaced_changed old new first end from to perm start stop rise cut turn is same
 -- those that are idle do not become more
 pub replaced_idle :
     (old new : List Point) (first end from to : ℕ) (perm : Perm) (start stop : Option Point) → from ≤ to → Rise old → IsCut old first end from to
-    → IsTurn (standing NoAccess (take from old)) first perm start → IsStop perm end (standing NoAccess (take to old)) stop → new ≡ replaced old from to start stop
+    → IsTurn (standing NoAccess (take from old)) first perm start → IsStop perm end (standing NoAccess (take to old)) stop
+    → new ≡ replaced old from to start stop
     → length old ≤ length (turns old) + 4096 → length new ≤ length (turns new) + 4096
 unfolding replaced_changed
 replaced_idle old new first end from to perm start stop order rise cut turn is same few =
@@ -173,7 +181,8 @@ idle_turns perm (x ∷ xs) ys =
     ∙ idle_turns perm xs ys
 
 rise_over :
-    (at : ℕ) (perm : Perm) (xs : List Point) (last stop : Point) (ys : List Point) → RiseAfter at (xs ++ last ∷ ys) → page_of last ≤ page_of stop → page_of stop < 2 ^ 44
+    (at : ℕ) (perm : Perm) (xs : List Point) (last stop : Point) (ys : List Point) → RiseAfter at (xs ++ last ∷ ys) → page_of last ≤ page_of stop
+    → page_of stop < 2 ^ 44
     → RiseAfter (page_of stop + 1) ys → RiseAfter at (map (with_perm perm) xs ++ stop ∷ ys)
 rise_over at perm [] last stop ys rise low small more = ((let here : at ≤ page_of last = rise.0 in omega (arith, here, low)), small, more)
 rise_over at perm (x ∷ xs) last stop ys rise low small more =
@@ -184,14 +193,16 @@ rise_over at perm (x ∷ xs) last stop ys rise low small more =
 -- a point as a turn, or none where nothing changes
 as_turn : (s : Perm) (q : Point) → (t : Option Point) × (option_to_list t ≡ turn_at s q) × IsTurn s (page_of q) (perm_of q) t
 as_turn s q =
-    ⊎_elim (λ same. (None, sym (turn_same s q same), sym same)) (λ other. (Some q, sym (turn_other s q other), ((λ e. other (sym e)), refl, refl))) (same_or_not s (perm_of q))
+    ⊎_elim (λ same. (None, sym (turn_same s q same), sym same)) (λ other. (Some q, sym (turn_other s q other), ((λ e. other (sym e)), refl, refl)))
+    (same_or_not s (perm_of q))
 
 abbrev pub over : List Point → ℕ → ℕ → Perm → Point → Point → List Point
 over ps from to perm start stop =
     take from ps ++ (start ∷ (map (with_perm perm) (take (to - 1 - (from + 1)) (drop (from + 1) ps)) ++ stop ∷ drop to ps))
 
 pub over_changed :
-    (old new : List Point) (first end from to : ℕ) (perm after : Perm) (start stop : Point) → end < 2 ^ 44 → after ≡ standing NoAccess (take to old) → page_of start ≡ first → perm_of start ≡ perm
+    (old new : List Point) (first end from to : ℕ) (perm after : Perm) (start stop : Point) → end < 2 ^ 44 → after ≡ standing NoAccess (take to old)
+    → page_of start ≡ first → perm_of start ≡ perm
     → page_of stop ≡ end → perm_of stop ≡ after → new ≡ over old from to perm start stop → IsChanged old new from to first end perm
 over_changed old new first end from to perm after start stop small stands start_page start_perm stop_page stop_perm same =
     let s = standing NoAccess (take from old) in
@@ -228,10 +239,12 @@ inner_parts ps from to d order inside =
     let next : to - 1 + 1 ≡ to = omega (arith, order) in
     sym (take-append-drop n (drop (from + 1) ps))
     ∙ ap (λ l. take n (drop (from + 1) ps) ++ l)
-    (drop-drop n (from + 1) ps ∙ ap (λ m. drop m ps) one ∙ drop_more ps (to - 1) d (omega (arith, order, inside)) ∙ ap (λ m. get_or ps (to - 1) d ∷ drop m ps) next)
+    (drop-drop n (from + 1) ps ∙ ap (λ m. drop m ps) one ∙ drop_more ps (to - 1) d (omega (arith, order, inside))
+    ∙ ap (λ m. get_or ps (to - 1) d ∷ drop m ps) next)
 
 pub over_rise :
-    (ps new : List Point) (first end from to : ℕ) (perm : Perm) (start stop : Point) → Rise ps → first < end → end < 2 ^ 44 → IsCut ps first end from to → from + 2 ≤ to → to ≤ length ps
+    (ps new : List Point) (first end from to : ℕ) (perm : Perm) (start stop : Point) → Rise ps → first < end → end < 2 ^ 44 → IsCut ps first end from to
+    → from + 2 ≤ to → to ≤ length ps
     → page_of start ≡ first → page_of stop ≡ end → new ≡ over ps from to perm start stop → Rise new
 over_rise ps new first end from to perm start stop rise some small cut order inside start_page stop_page same =
     let d : Point = record { number = 0 } in
@@ -268,14 +281,25 @@ abbrev pub repeated : List Point → ℕ → ℕ → Perm → List Point
 repeated ps from at perm = take from ps ++ (map (with_perm perm) (take (at - from) (drop from ps)) ++ drop at ps)
 
 pub repeated_more :
-    (ps now : List Point) (from at : ℕ) (perm : Perm) (x z : Point) → from ≤ at → at < length ps → now ≡ repeated ps from at perm → z ≡ get_or now at z → x ≡ with_perm perm z
+    (ps now : List Point) (from at : ℕ) (perm : Perm) (x z : Point) → from ≤ at → at < length ps → now ≡ repeated ps from at perm → z ≡ get_or now at z
+    → x ≡ with_perm perm z
     → set now at x ≡ repeated ps from (at + 1) perm
 repeated_more ps now from at perm x z order inside same read made =
     let d = z in
     let done = map (with_perm perm) (take (at - from) (drop from ps)) in
     let y = get_or ps at d in
     let count : length (take from ps ++ map (with_perm perm) (take (at - from) (drop from ps))) ≡ at =
-    omega (arith, length-append (take from ps) (map (with_perm perm) (take (at - from) (drop from ps))), length-map (take (at - from) (drop from ps)) (with_perm perm), length-take (at - from) (drop from ps), length-take from ps, length-drop from ps, order, inside) in
+    omega (
+      arith,
+      length-append (take from ps) (map (with_perm perm) (take (at - from) (drop from ps))),
+      length-map (take (at - from) (drop from ps))
+          (with_perm perm),
+      length-take (at - from) (drop from ps),
+      length-take from ps,
+      length-drop from ps,
+      order,
+      inside,
+    ) in
     let back : from + (at - from) ≡ at = omega (arith, order) in
     let up : at - from + 1 ≡ at + 1 - from = omega (arith, order) in
     let more : take (at + 1 - from) (drop from ps) ≡ take (at - from) (drop from ps) ++ get_or ps at d ∷ [] =
@@ -291,7 +315,8 @@ repeated_more ps now from at perm x z order inside same read made =
     ∙ append_assoc (take from ps) done (x ∷ drop (at + 1) ps)
     ∙ ap (λ z. take from ps ++ (done ++ z ∷ drop (at + 1) ps)) is
     ∙ ap (λ l. take from ps ++ l) (sym (append_assoc done (with_perm perm y ∷ []) (drop (at + 1) ps)))
-    ∙ ap (λ l. take from ps ++ (l ++ drop (at + 1) ps)) (sym (map-append (with_perm perm) (take (at - from) (drop from ps)) (y ∷ [])) ∙ ap (map (with_perm perm)) (sym more))
+    ∙ ap (λ l. take from ps ++ (l ++ drop (at + 1) ps)) (sym (map-append (with_perm perm) (take (at - from) (drop from ps)) (y ∷ []))
+    ∙ ap (map (with_perm perm)) (sym more))
 
 pub written :
     (ps now : List Point) (from to : ℕ) (perm : Perm) (start stop : Point) → from + 2 ≤ to → to ≤ length ps → now ≡ repeated ps (from + 1) (to - 1) perm
@@ -305,7 +330,18 @@ written ps now from to perm start stop order inside same =
     let next : to - 1 + 1 ≡ to = omega (arith, order) in
     let first : length (take from ps) ≡ from = length-take-le from ps (omega (arith, order, inside)) in
     let count : length (take from ps ++ start ∷ map (with_perm perm) (take (to - 1 - (from + 1)) (drop (from + 1) ps))) ≡ to - 1 =
-    omega (arith, length-append (take from ps) (start ∷ map (with_perm perm) (take (to - 1 - (from + 1)) (drop (from + 1) ps))), length-map (take (to - 1 - (from + 1)) (drop (from + 1) ps)) (with_perm perm), length-take (to - 1 - (from + 1)) (drop (from + 1) ps), length-drop (from + 1) ps, first, order, inside) in
+    omega (
+      arith,
+      length-append (take from ps) (start ∷ map (with_perm perm) (take (to - 1 - (from + 1)) (drop (from + 1) ps))),
+      length-map
+          (take (to - 1 - (from + 1)) (drop (from + 1) ps)) (with_perm perm),
+      length-take (to - 1 - (from + 1)) (drop (from + 1) ps),
+      length-drop
+          (from + 1) ps,
+      first,
+      order,
+      inside,
+    ) in
     ap (λ l. set (set l from start) (to - 1) stop)
     (same
     ∙ ap (λ l. take (from + 1) ps ++ (xs ++ l)) (drop_more ps (to - 1) d (omega (arith, order, inside)) ∙ ap (λ n. last ∷ drop n ps) next)

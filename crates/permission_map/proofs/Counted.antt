@@ -1,5 +1,6 @@
 -- A view with one range overwritten has at most two runs more.
-use Rattle.std.proofs.Common.{◌≡◌, ℕ, suc, ◌+◌, ◌-◌, ◌^◌, ◌<◌, ◌≤◌, ◌⊎◌, inl, inr, ⊎_elim, min, List, [], ◌∷◌, ◌++◌, length, take, drop, get_or, All, Option, None, Some, option_to_list, refl, sym, ap, ◌∙◌, arith, rules, length-append, length-take, length-drop}
+use Rattle.std.proofs.Common.{◌≡◌, ℕ, suc, ◌+◌, ◌-◌, ◌^◌, ◌<◌, ◌≤◌, ◌⊎◌, inl, inr, ⊎_elim, min, List, [], ◌∷◌, ◌++◌, length, take, drop, get_or, All, Option}
+use Rattle.std.proofs.Common.{None, Some, option_to_list, refl, sym, ap, ◌∙◌, arith, rules, length-append, length-take, length-drop}
 use Rattle.std.specs.List.{AllByRecursion}
 use Rattle.std.proofs.lemmas.Bool.{cases_lt, cases_Bool}
 use Rattle.std.proofs.lemmas.List.{append-nil}
@@ -12,7 +13,8 @@ use Rattle.permission_map.specs.declared.runs.Run.{Run}
 use Rattle.permission_map.specs.Runs.{end_of, AreRunsAfter, AreRuns, view_of_runs}
 use Rattle.permission_map.specs.Views.{overwritten, SameView}
 use Rattle.permission_map.specs.Overwrite.{AreOverwritten, IsBelow, IsAbove, IsNew}
-use Rattle.permission_map.proofs.Parted.{at_front, at_back, below_end, below_clear, below_cut_at, below_joined_at, above_all, above_clear, above_cut_at, above_joined_at}
+use Rattle.permission_map.proofs.Parted.{at_front, at_back, below_end, below_clear, below_cut_at, below_joined_at, above_all, above_clear, above_cut_at}
+use Rattle.permission_map.proofs.Parted.{above_joined_at}
 use Rattle.permission_map.proofs.Answered.{none_wanted, one_wanted, in_order, wanted_is}
 use Rattle.permission_map.proofs.Overwritten.{changed_below, changed_past, changed_in}
 
@@ -41,7 +43,8 @@ firsts_behind end at p (run ∷ runs) are low =
     let begin : at ≤ run.first = are.0.rising in
     (omega arith, firsts_behind end (end_of run) run.perm runs are.1 (omega arith))
 
-clear_cut : (first at : ℕ) (p : Perm) (runs : List Run) → AreRunsAfter at p runs → (i : ℕ) × IsCutAt (λ run. end_of run < first) (λ run. first ≤ end_of run) runs i
+clear_cut : (first at : ℕ) (p : Perm) (runs : List Run) → AreRunsAfter at p runs
+    → (i : ℕ) × IsCutAt (λ run. end_of run < first) (λ run. first ≤ end_of run) runs i
 clear_cut first at p [] are = (0, record { inside = omega arith; front = All-nil (λ run. end_of run < first); rest = All-nil (λ run. first ≤ end_of run) })
 clear_cut first at p (run ∷ runs) are =
     ⊎_elim
@@ -93,7 +96,8 @@ record Above (runs : List Run) (end : ℕ) (perm : Perm) (j : ℕ) : Type 0 wher
   is : IsAbove runs end perm (option_to_list rest ++ drop j runs) stop
   few : (length (option_to_list rest) ≡ 0) ⊎ ((length (option_to_list rest) ≡ 1) × (0 < j) × (end < end_of (get_or runs (j - 1) no_run)))
 
-below_at : (runs : List Run) (first : ℕ) (perm : Perm) (i : ℕ) → AreRuns runs → IsCutAt (λ run. end_of run < first) (λ run. first ≤ end_of run) runs i → Below runs first perm i
+below_at : (runs : List Run) (first : ℕ) (perm : Perm) (i : ℕ) → AreRuns runs → IsCutAt (λ run. end_of run < first) (λ run. first ≤ end_of run) runs i
+    → Below runs first perm i
 below_at runs first perm i are cut =
     let most : i ≤ length runs = cut.inside in
     ⊎_elim
@@ -121,7 +125,8 @@ below_at runs first perm i are cut =
     (λ end. record { rest = None; start = first; is = rw append-nil (below_end runs i first perm are cut.front (omega arith)); few = inl refl })
     (cases_lt i (length runs))
 
-above_at : (runs : List Run) (end : ℕ) (perm : Perm) (j : ℕ) → AreRuns runs → end ≤ 2 ^ 44 → IsCutAt (λ run. run.first ≤ end) (λ run. end < run.first) runs j → Above runs end perm j
+above_at : (runs : List Run) (end : ℕ) (perm : Perm) (j : ℕ) → AreRuns runs → end ≤ 2 ^ 44 → IsCutAt (λ run. run.first ≤ end) (λ run. end < run.first) runs j
+    → Above runs end perm j
 above_at runs end perm j are small cut =
     let most : j ≤ length runs = cut.inside in
     ⊎_elim
@@ -185,14 +190,16 @@ few_wanted runs first count perm are some small =
     (λ a.
     absurd
     (let same : low.0 ≡ high.0 = omega arith in
-    let begin : end_of (get_or runs (low.0 - 1) no_run) < first = at_back (λ run. end_of run < first) runs low.0 no_run (omega (arith, a)) low.1.inside low.1.front in
+    let begin : end_of (get_or runs (low.0 - 1) no_run) < first = at_back (λ run. end_of run < first) runs low.0 no_run
+    (omega (arith, a)) low.1.inside low.1.front in
     let over : first + count < end_of (get_or runs (low.0 - 1) no_run) = rw (sym same) at a.2 in
     omega arith))
     above.few)
     (λ b.
     absurd
     (let same : low.0 ≡ high.0 = omega arith in
-    let behind : first + count < (get_or runs high.0 no_run).first = at_front (λ run. first + count < run.first) runs high.0 no_run (omega (arith, b)) high.1.rest in
+    let behind : first + count < (get_or runs high.0 no_run).first = at_front (λ run. first + count < run.first) runs high.0 no_run
+    (omega (arith, b)) high.1.rest in
     let under : (get_or runs high.0 no_run).first < first = rw same at b.2 in
     omega arith))
     below.few)
@@ -204,7 +211,8 @@ few_wanted runs first count perm are some small =
 
 -- the part of a range within the space
 clipped :
-    (view : ℕ → Perm) (first count : ℕ) (perm : Perm) → SameView (overwritten view first count perm) (overwritten view (min first (2 ^ 44)) (min count (2 ^ 44 - first)) perm)
+    (view : ℕ → Perm) (first count : ℕ) (perm : Perm) → SameView (overwritten view first count perm)
+    (overwritten view (min first (2 ^ 44)) (min count (2 ^ 44 - first)) perm)
 clipped view first count perm page small =
     ⊎_elim
     (λ less.
@@ -222,7 +230,8 @@ clipped view first count perm page small =
     (cases_lt page first)
 
 pub two_more :
-    (runs after : List Run) (first count : ℕ) (perm : Perm) → AreRuns runs → AreRuns after → SameView (view_of_runs after) (overwritten (view_of_runs runs) first count perm)
+    (runs after : List Run) (first count : ℕ) (perm : Perm) → AreRuns runs → AreRuns after
+    → SameView (view_of_runs after) (overwritten (view_of_runs runs) first count perm)
     → length after ≤ length runs + 2
 two_more runs after first count perm are afters same =
     let begin = min first (2 ^ 44) in

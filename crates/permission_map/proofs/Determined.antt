@@ -15,12 +15,14 @@ SameFrom at xs ys = (page : ℕ) → at ≤ page → page < 2 ^ 44 → view_of_r
 same_run : (x y : Run) → x.first ≡ y.first → x.count ≡ y.count → x.perm ≡ y.perm → x ≡ y
 same_run x y first count perm =
     let begin : x ≡ record { first = y.first; count = x.count; perm = x.perm } = ap (λ n. record { first = n; count = x.count; perm = x.perm }) first in
-    let long : record { first = y.first; count = x.count; perm = x.perm } ≡ record { first = y.first; count = y.count; perm = x.perm } = ap (λ n. record { first = y.first; count = n; perm = x.perm }) count in
+    let long : record { first = y.first; count = x.count; perm = x.perm } ≡ record { first = y.first; count = y.count; perm = x.perm } = ap
+    (λ n. record { first = y.first; count = n; perm = x.perm }) count in
     begin ∙ long ∙ ap (λ p. record { first = y.first; count = y.count; perm = p }) perm
 
 -- the first run of a list does not begin after that of another
 begins_le :
-    (at : ℕ) (p q : Perm) (x y : Run) (xs ys : List Run) → AreRunsAfter at p (x ∷ xs) → AreRunsAfter at q (y ∷ ys) → SameFrom at (x ∷ xs) (y ∷ ys) → y.first ≤ x.first
+    (at : ℕ) (p q : Perm) (x y : Run) (xs ys : List Run) → AreRunsAfter at p (x ∷ xs) → AreRunsAfter at q (y ∷ ys) → SameFrom at (x ∷ xs) (y ∷ ys)
+    → y.first ≤ x.first
 begins_le at p q x y xs ys h k same =
     ⊎_elim
     (λ low.

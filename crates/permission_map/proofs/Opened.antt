@@ -1,5 +1,6 @@
 -- A list in which two places are opened, and filled.
-use Rattle.std.proofs.Common.{◌≡◌, ◌∙◌, ℕ, ◌+◌, ◌-◌, ◌≤◌, List, [], ◌∷◌, ◌++◌, length, take, drop, slice_set, refl, sym, ap, arith, append_assoc, length-append, length-take-le}
+use Rattle.std.proofs.Common.{◌≡◌, ◌∙◌, ℕ, ◌+◌, ◌-◌, ◌≤◌, List, [], ◌∷◌, ◌++◌, length, take, drop, slice_set, refl, sym, ap, arith, append_assoc, length-append}
+use Rattle.std.proofs.Common.{length-take-le}
 use Rattle.std.specs.List.{copy_within}
 use Rattle.std.proofs.Math.Seq.{set-append_seam, take-append-add, take-append_seam, drop-append_seam}
 use Rattle.std.proofs.lemmas.List.{append-nil, drop_all, take-append-drop}
@@ -10,15 +11,18 @@ pair [] a b = (a, b, refl)
 pair (p ∷ []) a b = (p, a, refl)
 pair (p ∷ q ∷ r) a b = (p, q, refl)
 
-apart : {X : Type 0} (l r : List X) (a b : X) → slice_set (slice_set (copy_within (l ++ (r ++ a ∷ b ∷ [])) (length l) (length l + length r) (length l + 2)) (length l) a) (length l + 1) b ≡ l ++ a ∷ b ∷ r
+apart : {X : Type 0} (l r : List X) (a b : X) → slice_set (slice_set (copy_within (l ++ (r ++ a ∷ b ∷ [])) (length l) (length l + length r) (length l + 2))
+    (length l) a) (length l + 1) b ≡ l ++ a ∷ b ∷ r
 apart l r a b =
     let ys = l ++ (r ++ a ∷ b ∷ []) in
     let two = pair r a b in
     let count : length l + length r - length l ≡ length r = omega arith in
     let front : take (length l + 2) (l ++ (r ++ a ∷ b ∷ [])) ≡ l ++ two.0 ∷ two.1 ∷ [] = take-append-add l (r ++ a ∷ b ∷ []) 2 ∙ ap (λ xs. l ++ xs) two.2 in
-    let moved : take (length l + length r - length l) (drop (length l) (l ++ (r ++ a ∷ b ∷ []))) ≡ r = ap (λ n. take n (drop (length l) ys)) count ∙ ap (take (length r)) (drop-append_seam l (r ++ a ∷ b ∷ [])) ∙ take-append_seam r (a ∷ b ∷ []) in
+    let moved : take (length l + length r - length l) (drop (length l) (l ++ (r ++ a ∷ b ∷ []))) ≡ r = ap (λ n. take n (drop (length l) ys)) count
+    ∙ ap (take (length r)) (drop-append_seam l (r ++ a ∷ b ∷ [])) ∙ take-append_seam r (a ∷ b ∷ []) in
     let whole : length (l ++ (r ++ a ∷ b ∷ [])) ≡ length l + length r + 2 = omega (arith, length-append l (r ++ a ∷ b ∷ []), length-append r (a ∷ b ∷ [])) in
-    let rest : drop (length l + 2 + (length l + length r - length l)) (l ++ (r ++ a ∷ b ∷ [])) ≡ [] = drop_all (length l + 2 + (length l + length r - length l)) ys (omega (arith, whole, count)) in
+    let rest : drop (length l + 2 + (length l + length r - length l)) (l ++ (r ++ a ∷ b ∷ [])) ≡ [] = drop_all
+    (length l + 2 + (length l + length r - length l)) ys (omega (arith, whole, count)) in
     let next : length l + 1 ≡ length (l ++ a ∷ []) = omega (arith, length-append l (a ∷ [])) in
     let all : copy_within (l ++ (r ++ a ∷ b ∷ [])) (length l) (length l + length r) (length l + 2) ≡ l ++ two.0 ∷ two.1 ∷ r =
     ap (λ xs. (xs ++ take (length l + length r - length l) (drop (length l) ys)) ++ drop (length l + 2 + (length l + length r - length l)) ys) front

@@ -7,7 +7,8 @@ use Rattle.permission_map.specs.declared.runs.Run.{Run}
 use Rattle.permission_map.specs.Runs.{end_of, IsRunAfter, AreRunsAfter, in_range, view_of_runs}
 use Rattle.permission_map.specs.Views.{overwritten}
 use Rattle.permission_map.specs.Overwrite.{AreOverwritten, last_end, last_perm, IsBelow, IsAbove, IsNew}
-use Rattle.permission_map.proofs.Rising.{range_above, range_past, range_has, view_above, view_past, view_in, view_before, view_second, runs_append, runs_earlier}
+use Rattle.permission_map.proofs.Rising.{range_above, range_past, range_has, view_above, view_past, view_in, view_before, view_second, runs_append}
+use Rattle.permission_map.proofs.Rising.{runs_earlier}
 use Rattle.permission_map.proofs.Seams.{view_only}
 
 -- the view with the range overwritten, below, in and after it
@@ -17,12 +18,14 @@ changed_below view first count perm page h = cond-false (in_range first count pa
 pub changed_past : (view : ℕ → Perm) (first count : ℕ) (perm : Perm) (page : ℕ) → first + count ≤ page → overwritten view first count perm page ≡ view page
 changed_past view first count perm page h = cond-false (in_range first count page) perm (view page) (range_past first count page h)
 
-pub changed_in : (view : ℕ → Perm) (first count : ℕ) (perm : Perm) (page : ℕ) → first ≤ page → page < first + count → overwritten view first count perm page ≡ perm
+pub changed_in : (view : ℕ → Perm) (first count : ℕ) (perm : Perm) (page : ℕ) → first ≤ page → page < first + count
+    → overwritten view first count perm page ≡ perm
 changed_in view first count perm page h k = cond-true (in_range first count page) perm (view page) (range_has first count page h k)
 
 -- wherever the new run takes in the old view, the overwritten view has its permission
 covered :
-    (old : List Run) (first count : ℕ) (perm : Perm) (below above : List Run) (start stop : ℕ) → IsBelow old first perm below start → IsAbove old (first + count) perm above stop
+    (old : List Run) (first count : ℕ) (perm : Perm) (below above : List Run) (start stop : ℕ) → IsBelow old first perm below start
+    → IsAbove old (first + count) perm above stop
     → (page : ℕ) → start ≤ page → page < stop → overwritten (view_of_runs old) first count perm page ≡ perm
 covered old first count perm below above start stop low high page over under =
     ⊎_elim (λ less. changed_below (view_of_runs old) first count perm page less ∙ low.taken_in page over less)
@@ -83,7 +86,8 @@ with_none old first count perm below above start stop some low high none =
     let starts : start ≤ first = low.reaches in
     let stops : first + count ≤ stop = high.reaches in
     let rising : last_end 0 below ≤ start = low.rising in
-    let tail : AreRunsAfter (last_end 0 below) (last_perm NoAccess below) above = runs_earlier stop (last_end 0 below) perm (last_perm NoAccess below) above high.are_runs (omega arith) in
+    let tail : AreRunsAfter (last_end 0 below) (last_perm NoAccess below) above = runs_earlier stop (last_end 0 below) perm
+    (last_perm NoAccess below) above high.are_runs (omega arith) in
     record {
       are_runs = runs_append 0 NoAccess below above low.are_runs tail;
       view_is =
@@ -106,7 +110,8 @@ with_none old first count perm below above start stop some low high none =
     }
 
 pub put_together :
-    (old : List Run) (first count : ℕ) (perm : Perm) (below above : List Run) (start stop : ℕ) (new : Option Run) → 0 < count → IsBelow old first perm below start
+    (old : List Run) (first count : ℕ) (perm : Perm) (below above : List Run) (start stop : ℕ) (new : Option Run) → 0 < count
+    → IsBelow old first perm below start
     → IsAbove old (first + count) perm above stop → IsNew start stop perm new → AreOverwritten old first count perm (below ++ (option_to_list new ++ above))
 put_together old first count perm below above start stop None some low high new = with_none old first count perm below above start stop some low high new
 put_together old first count perm below above start stop (Some run) some low high new =

@@ -60,7 +60,12 @@ below_clear runs kept first perm d are low inside begin =
 pub below_cut_at :
     (runs : List Run) (kept first : ℕ) (perm : Perm) (d : Run) → AreRuns runs → All (λ run. first ≤ end_of run) (drop kept runs) → kept < length runs
     → (get_or runs kept d).first < first → (get_or runs kept d).perm ≢ perm
-    → IsBelow runs first perm (take kept runs ++ record { first = (get_or runs kept d).first; count = first - (get_or runs kept d).first; perm = (get_or runs kept d).perm } ∷ []) first
+    → IsBelow runs first perm (take kept runs ++ record {
+      first = (get_or runs kept d).first;
+      count = first - (get_or runs kept d).first;
+      perm =
+          (get_or runs kept d).perm;
+    } ∷ []) first
 below_cut_at runs kept first perm d are high inside begin other =
     below_cut runs (take kept runs) (drop (kept + 1) runs) (get_or runs kept d) first perm are (around runs kept d inside) begin
     (at_front (λ run. first ≤ end_of run) runs kept d inside high)
@@ -76,7 +81,8 @@ below_joined_at runs kept first perm d are high inside begin same =
 
 -- ---- after the range
 
-pub above_all : (runs : List Run) (gone end : ℕ) (perm : Perm) → AreRuns runs → end ≤ 2 ^ 44 → All (λ run. end < run.first) (drop gone runs) → gone ≡ 0 → IsAbove runs end perm (drop gone runs) end
+pub above_all : (runs : List Run) (gone end : ℕ) (perm : Perm) → AreRuns runs → end ≤ 2 ^ 44 → All (λ run. end < run.first) (drop gone runs) → gone ≡ 0
+    → IsAbove runs end perm (drop gone runs) end
 above_all runs gone end perm are small high none =
     let same : drop gone runs ≡ runs = ap (λ n. drop n runs) none in
     above_none runs [] (drop gone runs) end perm are (sym same) small (omega arith) (recursion_from_All (λ run. end < run.first) (drop gone runs) high)
@@ -87,20 +93,23 @@ before_it runs gone d some inside =
     around runs (gone - 1) d (omega arith) ∙ ap (λ n. take (gone - 1) runs ++ get_or runs (gone - 1) d ∷ drop n runs) next
 
 pub above_clear :
-    (runs : List Run) (gone end : ℕ) (perm : Perm) (d : Run) → AreRuns runs → end ≤ 2 ^ 44 → All (λ run. end < run.first) (drop gone runs) → 0 < gone → gone ≤ length runs
+    (runs : List Run) (gone end : ℕ) (perm : Perm) (d : Run) → AreRuns runs → end ≤ 2 ^ 44 → All (λ run. end < run.first) (drop gone runs) → 0 < gone
+    → gone ≤ length runs
     → end_of (get_or runs (gone - 1) d) ≤ end → IsAbove runs end perm (drop gone runs) end
 above_clear runs gone end perm d are small high some inside stop =
     let next : gone - 1 + 1 ≡ gone = omega arith in
     let grown : take (gone - 1 + 1) runs ≡ take (gone - 1) runs ++ get_or runs (gone - 1) d ∷ [] = take_more runs (gone - 1) d (omega arith) in
     let front : take gone runs ≡ take (gone - 1) runs ++ get_or runs (gone - 1) d ∷ [] = ap (λ n. take n runs) (sym next) ∙ grown in
-    let last : last_end 0 (take gone runs) ≡ end_of (get_or runs (gone - 1) d) = ap (last_end 0) front ∙ last_end-append 0 (take (gone - 1) runs) (get_or runs (gone - 1) d ∷ []) in
+    let last : last_end 0 (take gone runs) ≡ end_of (get_or runs (gone - 1) d) = ap (last_end 0) front
+    ∙ last_end-append 0 (take (gone - 1) runs) (get_or runs (gone - 1) d ∷ []) in
     above_none runs (take gone runs) (drop gone runs) end perm are (sym (take-append-drop gone runs)) small (omega arith)
     (recursion_from_All (λ run. end < run.first) (drop gone runs) high)
 
 pub above_cut_at :
     (runs : List Run) (gone end : ℕ) (perm : Perm) (d : Run) → AreRuns runs → All (λ run. run.first ≤ end) (take gone runs) → 0 < gone → gone ≤ length runs
     → end < end_of (get_or runs (gone - 1) d) → (get_or runs (gone - 1) d).perm ≢ perm
-    → IsAbove runs end perm (record { first = end; count = end_of (get_or runs (gone - 1) d) - end; perm = (get_or runs (gone - 1) d).perm } ∷ drop gone runs) end
+    → IsAbove runs end perm (record { first = end; count = end_of (get_or runs (gone - 1) d) - end; perm = (get_or runs (gone - 1) d).perm } ∷ drop gone runs)
+    end
 above_cut_at runs gone end perm d are low some inside stop other =
     above_cut runs (take (gone - 1) runs) (drop gone runs) (get_or runs (gone - 1) d) end perm are (before_it runs gone d some inside)
     (at_back (λ run. run.first ≤ end) runs gone d some inside low)
@@ -109,7 +118,8 @@ above_cut_at runs gone end perm d are low some inside stop other =
 
 pub above_joined_at :
     (runs : List Run) (gone end : ℕ) (perm : Perm) (d : Run) → AreRuns runs → All (λ run. run.first ≤ end) (take gone runs) → 0 < gone → gone ≤ length runs
-    → end < end_of (get_or runs (gone - 1) d) → (get_or runs (gone - 1) d).perm ≡ perm → IsAbove runs end perm (drop gone runs) (end_of (get_or runs (gone - 1) d))
+    → end < end_of (get_or runs (gone - 1) d) → (get_or runs (gone - 1) d).perm ≡ perm
+    → IsAbove runs end perm (drop gone runs) (end_of (get_or runs (gone - 1) d))
 above_joined_at runs gone end perm d are low some inside stop same =
     above_joined runs (take (gone - 1) runs) (drop gone runs) (get_or runs (gone - 1) d) end perm are (before_it runs gone d some inside)
     (at_back (λ run. run.first ≤ end) runs gone d some inside low)

@@ -18,10 +18,12 @@ pub record IsPlanned (ps : List Point) (first end from to gone : ℕ) (perm : Pe
 
 -- as the code says it
 pub row_planned :
-    (ps row : List Point) (first end from to gone : ℕ) (perm before after : Perm) (start stop : Option Point) → row ≡ ps → All (λ q. page_of q < first) (take from row)
+    (ps row : List Point) (first end from to gone : ℕ) (perm before after : Perm) (start stop : Option Point) → row ≡ ps
+    → All (λ q. page_of q < first) (take from row)
     → All (λ q. first ≤ page_of q) (drop from row) → All (λ q. page_of q ≤ end) (take to row) → All (λ q. end < page_of q) (drop to row)
     → before ≡ standing NoAccess (take from row) → after ≡ standing NoAccess (take to row) → IsTurn before first perm start → IsStop perm end after stop
-    → count_by allows (turns (take from row)) + (gone + count_by allows (turns_after (standing NoAccess (take to row)) (drop to row))) ≡ count_by allows (turns row)
+    → count_by allows (turns (take from row)) + (gone + count_by allows (turns_after (standing NoAccess (take to row)) (drop to row))) ≡ count_by allows
+    (turns row)
     → IsPlanned ps first end from to gone perm start stop
 row_planned ps row first end from to gone perm before after start stop same b r u e is_before is_after turn ends parts =
     let T : Perm → Type 0 = λ p. IsTurn p first perm start in
@@ -42,18 +44,21 @@ planned_runs ps from to start stop = runs_of (replaced (turns ps) (cut_at ps fro
 
 pub planned_over :
     (ps : List Point) (first count from to gone : ℕ) (perm : Perm) (start stop : Option Point) → Rise ps → 0 < count → first + count ≤ 2 ^ 44
-    → IsPlanned ps first (first + count) from to gone perm start stop → AreOverwritten (runs_of (turns ps)) first count perm (planned_runs ps from to start stop)
+    → IsPlanned ps first (first + count) from to gone perm start stop → AreOverwritten (runs_of (turns ps)) first count perm
+    (planned_runs ps from to start stop)
 planned_over ps first count from to gone perm start stop rise some small plan =
     cuts_overwritten (turns ps) first count (cut_at ps from) (cut_at ps to) perm start stop (turns_are ps rise) some small
     (turn_cuts ps first (first + count) from to perm start stop plan.cut plan.turn plan.ends)
 
 pub planned_count :
     (ps : List Point) (first end from to gone : ℕ) (perm : Perm) (start stop : Option Point) → IsPlanned ps first end from to gone perm start stop
-    → length (planned_runs ps from to start stop) + gone ≡ length (runs_of (turns ps)) + count_by allows (option_to_list start) + count_by allows (option_to_list stop)
+    → length (planned_runs ps from to start stop) + gone ≡ length (runs_of (turns ps)) + count_by allows (option_to_list start) + count_by allows
+    (option_to_list stop)
 planned_count ps first end from to gone perm start stop plan = replaced_count (turns ps) (cut_at ps from) (cut_at ps to) gone start stop plan.parts
 
 pub planned_few :
-    (ps : List Point) (first end from to gone : ℕ) (perm : Perm) (start stop : Option Point) → IsPlanned ps first end from to gone perm start stop → gone ≤ length (runs_of (turns ps))
+    (ps : List Point) (first end from to gone : ℕ) (perm : Perm) (start stop : Option Point) → IsPlanned ps first end from to gone perm start stop
+    → gone ≤ length (runs_of (turns ps))
 planned_few ps first end from to gone perm start stop plan = gone_few (turns ps) (cut_at ps from) (cut_at ps to) gone plan.parts
 
 pub changed_over :

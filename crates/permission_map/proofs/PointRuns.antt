@@ -1,5 +1,6 @@
 -- Points and the runs between them.
-use Rattle.std.proofs.Common.{◌≡◌, ◌≢◌, ℕ, zero, suc, ◌+◌, ◌-◌, ◌*◌, ◌%◌, ◌^◌, ◌<◌, ◌≤◌, ⊎_elim, List, [], ◌∷◌, ◌++◌, length, take, get_or, Bool, true, false, not, ◌==◌, nat_lt, cond, if◌then◌else◌, count_by, refl, sym, ap, ◌∙◌, arith}
+use Rattle.std.proofs.Common.{◌≡◌, ◌≢◌, ℕ, zero, suc, ◌+◌, ◌-◌, ◌*◌, ◌%◌, ◌^◌, ◌<◌, ◌≤◌, ⊎_elim, List, [], ◌∷◌, ◌++◌, length, take, get_or, Bool, true, false}
+use Rattle.std.proofs.Common.{not, ◌==◌, nat_lt, cond, if◌then◌else◌, count_by, refl, sym, ap, ◌∙◌, arith}
 use Rattle.std.specs.List.Sorted.{IsNonDecreasingBy}
 use Rattle.std.proofs.lemmas.Bool.{cases_lt, cond-true, cond-false, lt-ltb, le-ltb, eqb-true}
 use Rattle.std.proofs.lemmas.List.Recursion.{is_count_by}
@@ -80,7 +81,8 @@ runs_after :
     (at e : ℕ) (p b : Perm) (ps : List Point) → ArePointsAfter at p ps → e ≤ next_page ps → (e ≡ next_page ps → b ≡ p) → AreRunsAfter e b (runs_of ps)
 runs_after at e p b [] are low same = tt
 runs_after at e p b (q ∷ ps) are low same =
-    go (runs_after (page_of q + 1) e (perm_of q) b ps are.1) (runs_after (page_of q + 1) (page_of q + (next_page ps - page_of q)) (perm_of q) (perm_of q) ps are.1) (allows q) refl
+    go (runs_after (page_of q + 1) e (perm_of q) b ps are.1) (runs_after (page_of q + 1) (page_of q + (next_page ps - page_of q)) (perm_of q)
+    (perm_of q) ps are.1) (allows q) refl
   where
     behind : page_of q + 1 ≤ next_page ps
     behind = behind_point at p q ps are
@@ -89,7 +91,8 @@ runs_after at e p b (q ∷ ps) are low same =
         (e ≤ next_page ps → (e ≡ next_page ps → b ≡ perm_of q) → AreRunsAfter e b (runs_of ps))
         → (page_of q + (next_page ps - page_of q) ≤ next_page ps → (page_of q + (next_page ps - page_of q) ≡ next_page ps → perm_of q ≡ perm_of q)
         → AreRunsAfter (page_of q + (next_page ps - page_of q)) (perm_of q) (runs_of ps))
-        → (t : Bool) → allows q ≡ t → AreRunsAfter e b ((if t then record { first = page_of q; count = next_page ps - page_of q; perm = perm_of q } ∷ [] else []) ++ runs_of ps)
+        → (t : Bool) → allows q ≡ t → AreRunsAfter e b ((if t then record { first = page_of q; count = next_page ps - page_of q; perm = perm_of q } ∷ [] else
+        []) ++ runs_of ps)
     go over on true is =
         let inside : next_page ps ≤ 2 ^ 44 = next_inside (page_of q + 1) (perm_of q) ps are.1 in
         let ends : page_of q + (next_page ps - page_of q) ≡ next_page ps = omega (arith, behind) in (
@@ -123,7 +126,8 @@ first_stands p [] page low = refl
 first_stands p (q ∷ ps) page low = cond-true (nat_lt page (page_of q)) p (view_from (perm_of q) ps page) (lt-ltb _ _ low)
 
 view_behind :
-    (at : ℕ) (p : Perm) (ps : List Point) (page : ℕ) → ArePointsAfter at p ps → page < 2 ^ 44 → next_page ps ≤ page → view_of_runs (runs_of ps) page ≡ view_from p ps page
+    (at : ℕ) (p : Perm) (ps : List Point) (page : ℕ) → ArePointsAfter at p ps → page < 2 ^ 44 → next_page ps ≤ page
+    → view_of_runs (runs_of ps) page ≡ view_from p ps page
 view_behind at p [] page are small high = absurd (omega (arith, small, high))
 view_behind at p (q ∷ ps) page are small high =
     go (view_behind (page_of q + 1) (perm_of q) ps page are.1 small) (allows q) refl
@@ -138,8 +142,10 @@ view_behind at p (q ∷ ps) page are small high =
         let behind : page_of q + 1 ≤ next_page ps = behind_point at p q ps are in
         let ends : page_of q + (next_page ps - page_of q) ≡ next_page ps = omega (arith, behind) in
         ⊎_elim
-        (λ less. view_in (record { first = page_of q; count = next_page ps - page_of q; perm = perm_of q }) (runs_of ps) page high (omega (arith, less, ends)) ∙ sym (first_stands (perm_of q) ps page less))
-        (λ more. view_past (record { first = page_of q; count = next_page ps - page_of q; perm = perm_of q }) (runs_of ps) page (omega (arith, more, ends)) ∙ rest more)
+        (λ less. view_in (record { first = page_of q; count = next_page ps - page_of q; perm = perm_of q }) (runs_of ps) page high (omega (arith, less, ends))
+        ∙ sym (first_stands (perm_of q) ps page less))
+        (λ more. view_past (record { first = page_of q; count = next_page ps - page_of q; perm = perm_of q }) (runs_of ps) page (omega (arith, more, ends))
+        ∙ rest more)
         (cases_lt page (next_page ps))
     go rest false is =
         ⊎_elim
@@ -168,7 +174,8 @@ runs_begun (q ∷ ps) = go (runs_begun ps) (allows q)
   where
     go :
         length (runs_of ps) ≡ begun ps → (t : Bool)
-        → length ((if t then record { first = page_of q; count = next_page ps - page_of q; perm = perm_of q } ∷ [] else []) ++ runs_of ps) ≡ cond t (suc (begun ps)) (begun ps)
+        → length ((if t then record { first = page_of q; count = next_page ps - page_of q; perm = perm_of q } ∷ [] else []) ++ runs_of ps) ≡ cond t
+        (suc (begun ps)) (begun ps)
     go rest true = ap suc rest
     go rest false = rest
 

@@ -1,5 +1,6 @@
 -- Points with one range overwritten.
-use Rattle.std.proofs.Common.{◌≡◌, ℕ, zero, suc, ◌+◌, ◌-◌, ◌*◌, ◌^◌, ◌<◌, ◌≤◌, ⊎_elim, List, [], ◌∷◌, ◌++◌, length, take, drop, get_or, count_by, All, nat_lt, cond, Option, None, Some, option_to_list, refl, sym, ap, subst, ◌∙◌, arith}
+use Rattle.std.proofs.Common.{◌≡◌, ℕ, zero, suc, ◌+◌, ◌-◌, ◌*◌, ◌^◌, ◌<◌, ◌≤◌, ⊎_elim, List, [], ◌∷◌, ◌++◌, length, take, drop, get_or, count_by, All, nat_lt}
+use Rattle.std.proofs.Common.{cond, Option, None, Some, option_to_list, refl, sym, ap, subst, ◌∙◌, arith}
 use Rattle.std.specs.List.{AllByRecursion}
 use Rattle.std.proofs.lemmas.Bool.{cases_lt, cond-true, cond-false, lt-ltb, le-ltb}
 use Rattle.std.proofs.Math.Seq.{get_or-append_seam}
@@ -37,7 +38,8 @@ points_second : (at : ℕ) (p : Perm) (xs ys : List Point) → ArePointsAfter at
 points_second at p [] ys are = are
 points_second at p (x ∷ xs) ys are = points_second (page_of x + 1) (perm_of x) xs ys are.1
 
-points_append : (at : ℕ) (p : Perm) (xs ys : List Point) → ArePointsAfter at p xs → ArePointsAfter (last_at at xs) (standing p xs) ys → ArePointsAfter at p (xs ++ ys)
+points_append : (at : ℕ) (p : Perm) (xs ys : List Point) → ArePointsAfter at p xs → ArePointsAfter (last_at at xs) (standing p xs) ys
+    → ArePointsAfter at p (xs ++ ys)
 points_append at p [] ys are more = more
 points_append at p (x ∷ xs) ys are more = (are.0, points_append (page_of x + 1) (perm_of x) xs ys are.1 more)
 
@@ -61,7 +63,8 @@ weaker P Q f (q ∷ ps) all = (f q all.0, weaker P Q f ps all.1)
 
 -- ---- a turn
 
-turned : (at page : ℕ) (before perm : Perm) (turn : Option Point) (ps : List Point) → at ≤ page → page < 2 ^ 44 → IsTurn before page perm turn → ArePointsAfter (page + 1) perm ps
+turned : (at page : ℕ) (before perm : Perm) (turn : Option Point) (ps : List Point) → at ≤ page → page < 2 ^ 44 → IsTurn before page perm turn
+    → ArePointsAfter (page + 1) perm ps
     → ArePointsAfter at before (option_to_list turn ++ ps)
 turned at page before perm None ps low small same are =
     let A : Perm → Type 0 = λ p. ArePointsAfter at p ps in
@@ -74,11 +77,13 @@ turned at page before perm (Some q) ps low small turn are =
       subst B (sym turn.2) (subst A (sym there) are),
     )
 
-turned_behind : (page at : ℕ) (before perm : Perm) (turn : Option Point) (ps : List Point) → page < at → IsTurn before at perm turn → Behind page ps → Behind page (option_to_list turn ++ ps)
+turned_behind : (page at : ℕ) (before perm : Perm) (turn : Option Point) (ps : List Point) → page < at → IsTurn before at perm turn → Behind page ps
+    → Behind page (option_to_list turn ++ ps)
 turned_behind page at before perm None ps low turn behind = behind
 turned_behind page at before perm (Some q) ps low turn behind = ((let there : page_of q ≡ at = turn.1 in omega (arith, there, low)), behind)
 
-turned_view : (page at : ℕ) (before perm : Perm) (turn : Option Point) (ps : List Point) → at ≤ page → IsTurn before at perm turn → view_from before (option_to_list turn ++ ps) page ≡ view_from perm ps page
+turned_view : (page at : ℕ) (before perm : Perm) (turn : Option Point) (ps : List Point) → at ≤ page → IsTurn before at perm turn
+    → view_from before (option_to_list turn ++ ps) page ≡ view_from perm ps page
 turned_view page at before perm None ps high same = ap (λ p. view_from p ps page) (sym same)
 turned_view page at before perm (Some q) ps high turn =
     let there : page_of q ≡ at = turn.1 in
@@ -125,28 +130,36 @@ tail_are ps first end from to perm stop are some small cut is =
   where
     nothing : (at : ℕ) (p : Perm) (qs : List Point) → ArePointsAfter at p qs → Behind end qs → end ≡ 2 ^ 44 → qs ≡ []
     nothing at p [] are behind edge = refl
-    nothing at p (q ∷ qs) are behind edge = absurd (let inside : page_of q < 2 ^ 44 = are.0.inside in let far : end < page_of q = behind.0 in omega (arith, inside, far, edge))
+    nothing at p (q ∷ qs) are behind edge = absurd (let inside : page_of q < 2 ^ 44 = are.0.inside in let far : end < page_of q = behind.0 in omega
+        (arith, inside, far, edge))
 
 pub replaced_are :
     (ps : List Point) (first end from to : ℕ) (perm : Perm) (start stop : Option Point) → ArePoints ps → first < end → end ≤ 2 ^ 44 → IsCut ps first end from to
-    → IsTurn (standing NoAccess (take from ps)) first perm start → IsStop perm end (standing NoAccess (take to ps)) stop → ArePoints (replaced ps from to start stop)
+    → IsTurn (standing NoAccess (take from ps)) first perm start → IsStop perm end (standing NoAccess (take to ps)) stop
+    → ArePoints (replaced ps from to start stop)
 replaced_are ps first end from to perm start stop are some small cut turn is =
     let front : AllByRecursion (λ q. page_of q < first) (take from ps) = recursion_from_All (λ q. page_of q < first) (take from ps) cut.before in
-    points_append 0 NoAccess (take from ps) (option_to_list start ++ (option_to_list stop ++ drop to ps)) (points_first 0 NoAccess (take from ps) (drop from ps) (whole ps from are))
-    (turned (last_at 0 (take from ps)) first (standing NoAccess (take from ps)) perm start (option_to_list stop ++ drop to ps) (last_low 0 first (take from ps) (omega arith) front)
+    points_append 0 NoAccess (take from ps) (option_to_list start ++ (option_to_list stop ++ drop to ps))
+    (points_first 0 NoAccess (take from ps) (drop from ps) (whole ps from are))
+    (turned (last_at 0 (take from ps)) first (standing NoAccess (take from ps)) perm start (option_to_list stop ++ drop to ps)
+    (last_low 0 first (take from ps) (omega arith) front)
     (omega (arith, some, small)) turn (tail_are ps first end from to perm stop are some small cut is))
 
 tail_behind :
-    (ps : List Point) (first end from to page : ℕ) (perm : Perm) (stop : Option Point) → page < end → IsCut ps first end from to → IsStop perm end (standing NoAccess (take to ps)) stop
+    (ps : List Point) (first end from to page : ℕ) (perm : Perm) (stop : Option Point) → page < end → IsCut ps first end from to
+    → IsStop perm end (standing NoAccess (take to ps)) stop
     → Behind page (option_to_list stop ++ drop to ps)
 tail_behind ps first end from to page perm stop low cut is =
     let back : Behind page (drop to ps) =
-    weaker (λ q. end < page_of q) (λ q. page < page_of q) (λ q h. omega (arith, h, low)) (drop to ps) (recursion_from_All (λ q. end < page_of q) (drop to ps) cut.behind) in
+    weaker (λ q. end < page_of q) (λ q. page < page_of q) (λ q h. omega (arith, h, low)) (drop to ps)
+    (recursion_from_All (λ q. end < page_of q) (drop to ps) cut.behind) in
     ⊎_elim (λ edge. rw edge.1 back) (λ turn. turned_behind page end perm (standing NoAccess (take to ps)) stop (drop to ps) low turn.1 back) is
 
 replaced_view :
-    (ps : List Point) (first count from to : ℕ) (perm : Perm) (start stop : Option Point) → 0 < count → first + count ≤ 2 ^ 44 → IsCut ps first (first + count) from to
-    → IsTurn (standing NoAccess (take from ps)) first perm start → IsStop perm (first + count) (standing NoAccess (take to ps)) stop → (page : ℕ) → page < 2 ^ 44
+    (ps : List Point) (first count from to : ℕ) (perm : Perm) (start stop : Option Point) → 0 < count → first + count ≤ 2 ^ 44
+    → IsCut ps first (first + count) from to
+    → IsTurn (standing NoAccess (take from ps)) first perm start → IsStop perm (first + count) (standing NoAccess (take to ps)) stop → (page : ℕ)
+    → page < 2 ^ 44
     → view_from NoAccess (replaced ps from to start stop) page ≡ overwritten (view_from NoAccess ps) first count perm page
 replaced_view ps first count from to perm start stop some small cut turn is page inside =
     let tail = option_to_list stop ++ drop to ps in
@@ -157,7 +170,8 @@ replaced_view ps first count from to perm start stop some small cut turn is page
     let behind : Behind page (option_to_list start ++ (option_to_list stop ++ drop to ps)) =
     turned_behind page first before perm start tail less turn (tail_behind ps first (first + count) from to page perm stop (omega (arith, less)) cut is) in
     let others : Behind page (drop from ps) =
-    weaker (λ q. first ≤ page_of q) (λ q. page < page_of q) (λ q h. omega (arith, h, less)) (drop from ps) (recursion_from_All (λ q. first ≤ page_of q) (drop from ps) cut.rest) in
+    weaker (λ q. first ≤ page_of q) (λ q. page < page_of q) (λ q h. omega (arith, h, less)) (drop from ps)
+    (recursion_from_All (λ q. first ≤ page_of q) (drop from ps) cut.rest) in
     view_first NoAccess (take from ps) (option_to_list start ++ tail) page behind
     ∙ sym (view_first NoAccess (take from ps) (drop from ps) page others)
     ∙ ap (λ qs. view_from NoAccess qs page) (take-append-drop from ps)
@@ -183,7 +197,8 @@ replaced_view ps first count from to perm start stop some small cut turn is page
     (cases_lt page first)
 
 pub replaced_overwritten :
-    (ps : List Point) (first count from to : ℕ) (perm : Perm) (start stop : Option Point) → ArePoints ps → 0 < count → first + count ≤ 2 ^ 44 → IsCut ps first (first + count) from to
+    (ps : List Point) (first count from to : ℕ) (perm : Perm) (start stop : Option Point) → ArePoints ps → 0 < count → first + count ≤ 2 ^ 44
+    → IsCut ps first (first + count) from to
     → IsTurn (standing NoAccess (take from ps)) first perm start → IsStop perm (first + count) (standing NoAccess (take to ps)) stop
     → AreOverwritten (runs_of ps) first count perm (runs_of (replaced ps from to start stop))
 replaced_overwritten ps first count from to perm start stop are some small cut turn is =
@@ -203,14 +218,16 @@ replaced_overwritten ps first count from to perm start stop are some small cut t
 pub replaced_count :
     (ps : List Point) (from to gone : ℕ) (start stop : Option Point)
     → count_by allows (take from ps) + (gone + count_by allows (drop to ps)) ≡ count_by allows ps
-    → length (runs_of (replaced ps from to start stop)) + gone ≡ length (runs_of ps) + count_by allows (option_to_list start) + count_by allows (option_to_list stop)
+    → length (runs_of (replaced ps from to start stop)) + gone ≡ length (runs_of ps) + count_by allows (option_to_list start) + count_by allows
+    (option_to_list stop)
 replaced_count ps from to gone start stop parts =
     let a = count_by-append allows (take from ps) (option_to_list start ++ (option_to_list stop ++ drop to ps)) in
     let b = count_by-append allows (option_to_list start) (option_to_list stop ++ drop to ps) in
     let c = count_by-append allows (option_to_list stop) (drop to ps) in
     omega (arith, a, b, c, parts, runs_count ps, runs_count (replaced ps from to start stop))
 
-pub gone_few : (ps : List Point) (from to gone : ℕ) → count_by allows (take from ps) + (gone + count_by allows (drop to ps)) ≡ count_by allows ps → gone ≤ length (runs_of ps)
+pub gone_few : (ps : List Point) (from to gone : ℕ) → count_by allows (take from ps) + (gone + count_by allows (drop to ps)) ≡ count_by allows ps
+    → gone ≤ length (runs_of ps)
 gone_few ps from to gone parts = omega (arith, parts, runs_count ps)
 
 -- where the last of so many comes before the page, so do they all
@@ -221,13 +238,16 @@ front_to ps qs more q count page are is counted low = λ k d inside.
     let below : k < count = omega (arith, length-take count ps, inside) in
     let at : get_or ps (length qs) d ≡ q = ap (λ l. get_or l (length qs) d) is ∙ get_or-append_seam qs q more d in
     let long : length ps ≡ length qs + suc (length more) = ap length is ∙ length-append qs (q ∷ more) in
-    let rise : page_of (get_or ps k d) ≤ page_of (get_or ps (length qs) d) = pages_rise ps are k (length qs) d (omega (arith, below, counted)) (omega (arith, long)) in
+    let rise : page_of (get_or ps k d) ≤ page_of (get_or ps (length qs) d) = pages_rise ps are k (length qs) d (omega (arith, below, counted))
+    (omega (arith, long)) in
     rw (get_or-take count ps k d below) (omega (arith, rise, ap page_of at, low))
 
 -- where a point is after a page, so are those from it on
-pub behind_from : (ps : List Point) (i page : ℕ) (e : Point) → Rise ps → i < length ps → page < page_of (get_or ps i e) → All (λ q. page < page_of q) (drop i ps)
+pub behind_from : (ps : List Point) (i page : ℕ) (e : Point) → Rise ps → i < length ps → page < page_of (get_or ps i e)
+    → All (λ q. page < page_of q) (drop i ps)
 behind_from ps i page e are less low = λ k d inside.
-    let rise : page_of (get_or ps i d) ≤ page_of (get_or ps (i + k) d) = pages_rise ps are i (i + k) d (omega arith) (omega (arith, length-drop i ps, inside)) in
+    let rise : page_of (get_or ps i d) ≤ page_of (get_or ps (i + k) d) = pages_rise ps are i (i + k) d (omega arith)
+    (omega (arith, length-drop i ps, inside)) in
     let same : page_of (get_or ps i e) ≡ page_of (get_or ps i d) = ap page_of (get_or_default ps i e d less) in
     rw (get_or-drop i ps k d) (omega (arith, rise, same, low))
 
@@ -252,15 +272,18 @@ no_step step moved is = rw is (omega arith)
 
 pub step_small : (step moved : ℕ) → moved ≤ 1 → step * moved ≤ step
 step_small step moved bit =
-    ⊎_elim (λ zero. let none : moved ≡ 0 = omega arith in let e = no_step step moved none in omega (arith, e)) (λ one. let is : moved ≡ 1 = omega arith in let e = whole_step step moved is in omega (arith, e))
+    ⊎_elim (λ zero. let none : moved ≡ 0 = omega arith in let e = no_step step moved none in omega (arith, e))
+    (λ one. let is : moved ≡ 1 = omega arith in let e = whole_step step moved is in omega (arith, e))
     (cases_lt moved 1)
 
 pub stepped_inside :
-    (ps : List Point) (page low step moved : ℕ) (d : Point) → low ≤ length ps → Before ps page (low + step) moved → After ps page (low + step) moved → low + step * moved ≤ length ps
+    (ps : List Point) (page low step moved : ℕ) (d : Point) → low ≤ length ps → Before ps page (low + step) moved → After ps page (low + step) moved
+    → low + step * moved ≤ length ps
 stepped_inside ps page low step moved d inside before after =
     ⊎_elim (λ beyond. let e = no_step step moved (after d (λ within. absurd (omega (arith, within, beyond)))) in omega (arith, e, inside))
     (λ within.
-    ⊎_elim (λ under. let e = whole_step step moved (before d within under) in omega (arith, e, within)) (λ over. let e = no_step step moved (after d (λ _. over)) in omega (arith, e, inside))
+    ⊎_elim (λ under. let e = whole_step step moved (before d within under) in omega (arith, e, within))
+    (λ over. let e = no_step step moved (after d (λ _. over)) in omega (arith, e, inside))
     (cases_lt (page_of (get_or ps (low + step - 1) d)) page))
     (cases_lt (length ps) (low + step))
 
@@ -282,7 +305,8 @@ stepped_front ps page low step moved are some before after front k d less =
 
 pub stepped_rest :
     (ps : List Point) (page low step moved : ℕ) → Rise ps → 0 < step → Before ps page (low + step) moved → After ps page (low + step) moved
-    → ((k : ℕ) (d : Point) → low + (step + step) ≤ k + 1 → k < length ps → page ≤ page_of (get_or ps k d)) → (k : ℕ) (d : Point) → low + step * moved + step ≤ k + 1
+    → ((k : ℕ) (d : Point) → low + (step + step) ≤ k + 1 → k < length ps → page ≤ page_of (get_or ps k d)) → (k : ℕ) (d : Point)
+    → low + step * moved + step ≤ k + 1
     → k < length ps → page ≤ page_of (get_or ps k d)
 stepped_rest ps page low step moved are some before after rest k d more less =
     ⊎_elim (λ beyond. absurd (omega (arith, more, less, beyond)))

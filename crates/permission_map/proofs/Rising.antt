@@ -61,7 +61,8 @@ pub runs_second : (at : ℕ) (p : Perm) (xs ys : List Run) → AreRunsAfter at p
 runs_second at p [] ys are = are
 runs_second at p (x ∷ xs) ys are = runs_second (end_of x) x.perm xs ys are.1
 
-pub runs_append : (at : ℕ) (p : Perm) (xs ys : List Run) → AreRunsAfter at p xs → AreRunsAfter (last_end at xs) (last_perm p xs) ys → AreRunsAfter at p (xs ++ ys)
+pub runs_append : (at : ℕ) (p : Perm) (xs ys : List Run) → AreRunsAfter at p xs → AreRunsAfter (last_end at xs) (last_perm p xs) ys
+    → AreRunsAfter at p (xs ++ ys)
 runs_append at p [] ys are more = more
 runs_append at p (x ∷ xs) ys are more = (are.0, runs_append (end_of x) x.perm xs ys are.1 more)
 
@@ -81,7 +82,8 @@ last_end-le at p (x ∷ xs) are =
     omega arith
 
 -- after a list the second gives the view
-pub view_second : (at : ℕ) (p : Perm) (xs ys : List Run) (page : ℕ) → AreRunsAfter at p xs → last_end at xs ≤ page → view_of_runs (xs ++ ys) page ≡ view_of_runs ys page
+pub view_second : (at : ℕ) (p : Perm) (xs ys : List Run) (page : ℕ) → AreRunsAfter at p xs → last_end at xs ≤ page
+    → view_of_runs (xs ++ ys) page ≡ view_of_runs ys page
 view_second at p [] ys page are behind = refl
 view_second at p (x ∷ xs) ys page are behind =
     let rest : end_of x ≤ last_end (end_of x) xs = last_end-le (end_of x) x.perm xs are.1 in
@@ -94,7 +96,8 @@ view_alike (x ∷ xs) ys zs page same = ap (λ q. cond (in_range x.first x.count
 
 -- ---- the same runs from another page on
 
-pub runs_apart : (at next : ℕ) (p q : Perm) (runs : List Run) → AreRunsAfter at p runs → AllByRecursion (λ run. next < run.first) runs → AreRunsAfter next q runs
+pub runs_apart : (at next : ℕ) (p q : Perm) (runs : List Run) → AreRunsAfter at p runs → AllByRecursion (λ run. next < run.first) runs
+    → AreRunsAfter next q runs
 runs_apart at next p q [] are later = tt
 runs_apart at next p q (run ∷ runs) are later =
     let begin : next < run.first = later.0 in

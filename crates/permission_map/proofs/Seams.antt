@@ -8,7 +8,8 @@ use Rattle.pmp_encoding.specs.declared.perm.Perm.TheVariants.{NoAccess}
 use Rattle.permission_map.specs.declared.runs.Run.{Run}
 use Rattle.permission_map.specs.Runs.{end_of, AreRunsAfter, AreRuns, view_of_runs}
 use Rattle.permission_map.specs.Overwrite.{last_end, last_perm, IsBelow, IsAbove}
-use Rattle.permission_map.proofs.Rising.{view_above, view_past, view_in, view_before, view_second, view_alike, runs_first, runs_second, runs_append, runs_apart, last_end-append, last_perm-append}
+use Rattle.permission_map.proofs.Rising.{view_above, view_past, view_in, view_before, view_second, view_alike, runs_first, runs_second, runs_append, runs_apart}
+use Rattle.permission_map.proofs.Rising.{last_end-append, last_perm-append}
 
 -- runs with a list after that says nothing of a page
 pub view_only : (xs ys : List Run) (page : ℕ) → view_of_runs ys page ≡ NoAccess → view_of_runs xs page ≡ view_of_runs (xs ++ ys) page
@@ -52,7 +53,8 @@ below_none runs before rest first perm are parts low high =
 
 -- a run of another permission goes over it: what is below stays
 pub below_cut :
-    (runs before rest : List Run) (run : Run) (first : ℕ) (perm : Perm) → AreRuns runs → runs ≡ before ++ run ∷ rest → run.first < first → first ≤ end_of run → run.perm ≢ perm
+    (runs before rest : List Run) (run : Run) (first : ℕ) (perm : Perm) → AreRuns runs → runs ≡ before ++ run ∷ rest → run.first < first → first ≤ end_of run
+    → run.perm ≢ perm
     → IsBelow runs first perm (before ++ record { first = run.first; count = first - run.first; perm = run.perm } ∷ []) first
 below_cut runs before rest run first perm are parts begin end other =
     let kept : Run = record { first = run.first; count = first - run.first; perm = run.perm } in
@@ -61,7 +63,8 @@ below_cut runs before rest run first perm are parts begin end other =
     let tail : AreRunsAfter (last_end 0 before) (last_perm NoAccess before) (run ∷ rest) = runs_second 0 NoAccess before (run ∷ rest) both in
     let inside : end_of run ≤ 2 ^ 44 = tail.0.inside in
     let stop : run.first + (first - run.first) ≡ first = omega arith in
-    let last : last_end 0 (before ++ record { first = run.first; count = first - run.first; perm = run.perm } ∷ []) ≡ first = last_end-append 0 before (kept ∷ []) ∙ stop in
+    let last : last_end 0 (before ++ record { first = run.first; count = first - run.first; perm = run.perm } ∷ []) ≡ first = last_end-append 0 before
+    (kept ∷ []) ∙ stop in
     record {
       are_runs =
           runs_append 0 NoAccess before (kept ∷ []) front
@@ -82,7 +85,8 @@ below_cut runs before rest run first perm are parts begin end other =
 
 -- a run of the permission goes over it: the new run begins with that one
 pub below_joined :
-    (runs before rest : List Run) (run : Run) (first : ℕ) (perm : Perm) → AreRuns runs → runs ≡ before ++ run ∷ rest → run.first < first → first ≤ end_of run → run.perm ≡ perm
+    (runs before rest : List Run) (run : Run) (first : ℕ) (perm : Perm) → AreRuns runs → runs ≡ before ++ run ∷ rest → run.first < first → first ≤ end_of run
+    → run.perm ≡ perm
     → IsBelow runs first perm before run.first
 below_joined runs before rest run first perm are parts begin end same_perm =
     let both : AreRuns (before ++ run ∷ rest) = rw parts at are in
@@ -100,7 +104,8 @@ below_joined runs before rest run first perm are parts begin end same_perm =
           ∙ ap (λ rs. view_of_runs rs page) (sym parts);
       taken_in =
           λ page over under.
-          ap (λ rs. view_of_runs rs page) parts ∙ view_second 0 NoAccess before (run ∷ rest) page front (omega arith) ∙ view_in run rest page over (omega arith) ∙ same_perm;
+          ap (λ rs. view_of_runs rs page) parts ∙ view_second 0 NoAccess before (run ∷ rest) page front (omega arith) ∙ view_in run rest page over (omega arith)
+          ∙ same_perm;
     }
 
 -- ---- after the range
@@ -123,7 +128,8 @@ above_none runs before rest end perm are parts small low high =
 
 -- a run of another permission goes over it: what is after stays
 pub above_cut :
-    (runs before rest : List Run) (run : Run) (end : ℕ) (perm : Perm) → AreRuns runs → runs ≡ before ++ run ∷ rest → run.first ≤ end → end < end_of run → run.perm ≢ perm
+    (runs before rest : List Run) (run : Run) (end : ℕ) (perm : Perm) → AreRuns runs → runs ≡ before ++ run ∷ rest → run.first ≤ end → end < end_of run
+    → run.perm ≢ perm
     → IsAbove runs end perm (record { first = end; count = end_of run - end; perm = run.perm } ∷ rest) end
 above_cut runs before rest run end perm are parts begin stop other =
     let kept : Run = record { first = end; count = end_of run - end; perm = run.perm } in
@@ -150,7 +156,8 @@ above_cut runs before rest run end perm are parts begin stop other =
 
 -- a run of the permission goes over it: the new run ends with that one
 pub above_joined :
-    (runs before rest : List Run) (run : Run) (end : ℕ) (perm : Perm) → AreRuns runs → runs ≡ before ++ run ∷ rest → run.first ≤ end → end < end_of run → run.perm ≡ perm
+    (runs before rest : List Run) (run : Run) (end : ℕ) (perm : Perm) → AreRuns runs → runs ≡ before ++ run ∷ rest → run.first ≤ end → end < end_of run
+    → run.perm ≡ perm
     → IsAbove runs end perm rest (end_of run)
 above_joined runs before rest run end perm are parts begin stop same_perm =
     let both : AreRuns (before ++ run ∷ rest) = rw parts at are in
@@ -162,8 +169,10 @@ above_joined runs before rest run end perm are parts begin stop same_perm =
       reaches = omega arith;
       inside = tail.0.inside;
       same_above =
-          λ page over. sym (ap (λ rs. view_of_runs rs page) parts ∙ view_second 0 NoAccess before (run ∷ rest) page front (omega arith) ∙ view_past run rest page over);
+          λ page over. sym (ap (λ rs. view_of_runs rs page) parts ∙ view_second 0 NoAccess before (run ∷ rest) page front (omega arith)
+          ∙ view_past run rest page over);
       taken_in =
           λ page over under.
-          ap (λ rs. view_of_runs rs page) parts ∙ view_second 0 NoAccess before (run ∷ rest) page front (omega arith) ∙ view_in run rest page (omega arith) under ∙ same_perm;
+          ap (λ rs. view_of_runs rs page) parts ∙ view_second 0 NoAccess before (run ∷ rest) page front (omega arith)
+          ∙ view_in run rest page (omega arith) under ∙ same_perm;
     }

@@ -1,5 +1,6 @@
 -- A search by halves in runs by rising page.
-use Rattle.std.proofs.Common.{◌≡◌, ℕ, zero, suc, ◌+◌, ◌-◌, ◌<◌, ◌≤◌, List, [], ◌∷◌, ◌++◌, length, take, drop, get_or, All, refl, sym, ap, ◌∙◌, arith, length-take, length-drop}
+use Rattle.std.proofs.Common.{◌≡◌, ℕ, zero, suc, ◌+◌, ◌-◌, ◌<◌, ◌≤◌, List, [], ◌∷◌, ◌++◌, length, take, drop, get_or, All, refl, sym, ap, ◌∙◌, arith}
+use Rattle.std.proofs.Common.{length-take, length-drop}
 use Rattle.std.specs.List.{AllByRecursion, Contains}
 use Rattle.std.specs.List.Sorted.{IsPartitionPoint, IsNonDecreasingBy}
 use Rattle.std.proofs.lemmas.List.{take-append-drop, drop_all, drop_more, get_or-take, get_or-drop}
@@ -22,7 +23,8 @@ begins_after at p (run ∷ runs) are (suc j) d inside =
     let rest : end_of run ≤ (get_or runs j d).first = begins_after (end_of run) run.perm runs are.1 j d (omega arith) in
     omega arith
 
-firsts_rise_at : (at : ℕ) (p : Perm) (runs : List Run) → AreRunsAfter at p runs → (i j : ℕ) (d : Run) → i ≤ j → j < length runs → (get_or runs i d).first ≤ (get_or runs j d).first
+firsts_rise_at : (at : ℕ) (p : Perm) (runs : List Run) → AreRunsAfter at p runs → (i j : ℕ) (d : Run) → i ≤ j → j < length runs
+    → (get_or runs i d).first ≤ (get_or runs j d).first
 firsts_rise_at at p [] are i j d order inside = absurd (omega arith)
 firsts_rise_at at p (run ∷ runs) are zero zero d order inside = omega arith
 firsts_rise_at at p (run ∷ runs) are zero (suc j) d order inside =
@@ -31,7 +33,8 @@ firsts_rise_at at p (run ∷ runs) are zero (suc j) d order inside =
 firsts_rise_at at p (run ∷ runs) are (suc i) zero d order inside = absurd (omega arith)
 firsts_rise_at at p (run ∷ runs) are (suc i) (suc j) d order inside = firsts_rise_at (end_of run) run.perm runs are.1 i j d (omega arith) (omega arith)
 
-ends_rise_at : (at : ℕ) (p : Perm) (runs : List Run) → AreRunsAfter at p runs → (i j : ℕ) (d : Run) → i ≤ j → j < length runs → end_of (get_or runs i d) ≤ end_of (get_or runs j d)
+ends_rise_at : (at : ℕ) (p : Perm) (runs : List Run) → AreRunsAfter at p runs → (i j : ℕ) (d : Run) → i ≤ j → j < length runs
+    → end_of (get_or runs i d) ≤ end_of (get_or runs j d)
 ends_rise_at at p [] are i j d order inside = absurd (omega arith)
 ends_rise_at at p (run ∷ runs) are zero zero d order inside = omega arith
 ends_rise_at at p (run ∷ runs) are zero (suc j) d order inside =
@@ -75,11 +78,13 @@ pub nothing_next :
 nothing_next runs page i over all q more =
     let parts : take i runs ++ drop i runs ≡ runs = take-append-drop i runs in
     let none : drop i runs ≡ [] = drop_all i runs all in
-    let low : AllByRecursion (λ run. end_of run ≤ q) (take i runs) = over_later (take i runs) page q more (recursion_from_All (λ run. end_of run ≤ page) (take i runs) over) in
+    let low : AllByRecursion (λ run. end_of run ≤ q) (take i runs) = over_later (take i runs) page q more
+    (recursion_from_All (λ run. end_of run ≤ page) (take i runs) over) in
     ap (λ rs. view_of_runs rs q) (sym parts) ∙ view_over (take i runs) (drop i runs) q low ∙ ap (λ rs. view_of_runs rs q) none
 
 next_at :
-    (runs before rest : List Run) (page : ℕ) (run : Run) → AreRuns runs → runs ≡ before ++ run ∷ rest → AllByRecursion (λ r. end_of r ≤ page) before → page < end_of run
+    (runs before rest : List Run) (page : ℕ) (run : Run) → AreRuns runs → runs ≡ before ++ run ∷ rest → AllByRecursion (λ r. end_of r ≤ page) before
+    → page < end_of run
     → Contains runs run → IsNext runs page run
 next_at runs before rest page run are parts over behind has =
     let both : AreRuns (before ++ run ∷ rest) = rw parts at are in
@@ -99,7 +104,8 @@ next_at runs before rest page run are parts over behind has =
           ∙ view_before (end_of run) run.perm rest q tail (omega arith);
       one_perm =
           λ q low high.
-          ap (λ rs. view_of_runs rs q) parts ∙ view_second 0 NoAccess before (run ∷ rest) q (runs_first 0 NoAccess before (run ∷ rest) both) (omega arith) ∙ view_in run rest q low high;
+          ap (λ rs. view_of_runs rs q) parts ∙ view_second 0 NoAccess before (run ∷ rest) q (runs_first 0 NoAccess before (run ∷ rest) both) (omega arith)
+          ∙ view_in run rest q low high;
       changes =
           λ same.
           view_differs (end_of run) run.perm rest tail from.0.allows
@@ -110,7 +116,8 @@ next_at runs before rest page run are parts over behind has =
     }
 
 pub next_is :
-    (runs : List Run) (page i : ℕ) (d : Run) → AreRuns runs → All (λ run. end_of run ≤ page) (take i runs) → All (λ run. page < end_of run) (drop i runs) → i < length runs
+    (runs : List Run) (page i : ℕ) (d : Run) → AreRuns runs → All (λ run. end_of run ≤ page) (take i runs) → All (λ run. page < end_of run) (drop i runs)
+    → i < length runs
     → IsNext runs page (get_or runs i d)
 next_is runs page i d are over behind inside =
     let split : drop i runs ≡ get_or runs i d ∷ drop (i + 1) runs = drop_more runs i d inside in

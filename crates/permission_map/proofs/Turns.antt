@@ -1,5 +1,7 @@
 -- Points at which the permission changes, among others at which it does not.
-use Rattle.std.proofs.Common.{◌≡◌, ◌≢◌, ℕ, ◌+◌, ◌-◌, ◌%◌, ◌^◌, ◌<◌, ◌≤◌, ◌⊎◌, inl, inr, ⊎_elim, List, [], ◌∷◌, ◌++◌, length, take, drop, Bool, true, false, not, cond, if◌then◌else◌, count_by, All, Option, None, Some, option_to_list, refl, sym, ap, subst, ◌∙◌, arith, rules, append_assoc, length-append}
+use Rattle.std.proofs.Common.{◌≡◌, ◌≢◌, ℕ, ◌+◌, ◌-◌, ◌%◌, ◌^◌, ◌<◌, ◌≤◌, ◌⊎◌, inl, inr, ⊎_elim, List, [], ◌∷◌, ◌++◌, length, take, drop, Bool, true, false, not}
+use Rattle.std.proofs.Common.{cond, if◌then◌else◌, count_by, All, Option, None, Some, option_to_list, refl, sym, ap, subst, ◌∙◌, arith, rules, append_assoc}
+use Rattle.std.proofs.Common.{length-append}
 use Rattle.std.specs.List.{AllByRecursion}
 use Rattle.std.proofs.Math.Seq.{take-append_seam, drop-append_seam}
 use Rattle.std.proofs.lemmas.Bool.{eqb-true, eq-eqb}
@@ -13,7 +15,8 @@ use Rattle.pmp_encoding.specs.Perms.{bits_of, perm_eq}
 use Rattle.pmp_encoding.proofs.Pairs.{perm_from_same_bits}
 use Rattle.permission_map.specs.declared.points.Point.{Point}
 use Rattle.permission_map.specs.declared.runs.Run.{Run}
-use Rattle.permission_map.specs.Points.{ArePoints, ArePointsAfter, IsChanged, IsCut, IsStop, IsTurn, Rise, RiseAfter, allows, page_of, perm_of, run_to, runs_of, standing, turn_at, turns, turns_after}
+use Rattle.permission_map.specs.Points.{ArePoints, ArePointsAfter, IsChanged, IsCut, IsStop, IsTurn, Rise, RiseAfter, allows, page_of, perm_of, run_to, runs_of}
+use Rattle.permission_map.specs.Points.{standing, turn_at, turns, turns_after}
 use Rattle.permission_map.proofs.PointLists.{count_by-append, drop_twice}
 use Rattle.permission_map.proofs.PointRuns.{allows_none, allows_some}
 use Rattle.permission_map.proofs.PointSets.{AreCuts, points_earlier, replaced}
@@ -99,7 +102,8 @@ turns_few p (x ∷ xs) =
     omega (arith, turns_few (perm_of x) xs, turn_few p x, length-append (turn_at p x) (turns_after (perm_of x) xs))
 
 -- a turn is one where it stands
-pub set_turn : (s : Perm) (page : ℕ) (perm : Perm) (t : Option Point) (rest : List Point) → IsTurn s page perm t → turns_after s (option_to_list t ++ rest) ≡ option_to_list t ++ turns_after perm rest
+pub set_turn : (s : Perm) (page : ℕ) (perm : Perm) (t : Option Point) (rest : List Point) → IsTurn s page perm t
+    → turns_after s (option_to_list t ++ rest) ≡ option_to_list t ++ turns_after perm rest
 set_turn s page perm None rest same = ap (λ q. turns_after q rest) (sym same)
 set_turn s page perm (Some q) rest turn =
     ap (λ l. l ++ turns_after (perm_of q) rest) (turn_other s q (λ e. turn.0 (sym turn.2 ∙ sym e)))
@@ -148,7 +152,8 @@ turns_back ps from to order =
     ap (turns_after s) (sym (take-append-drop (to - from) (drop from ps)))
     ∙ turns_append s mid (drop (to - from) (drop from ps))
     ∙ ap (λ l. turns_after s mid ++ turns_after (standing s mid) l) (drop_twice ps from to order)
-    ∙ ap (λ q. turns_after s mid ++ turns_after q (drop to ps)) (sym (standing_append NoAccess (take from ps) mid) ∙ ap (standing NoAccess) (take_both ps from to order))
+    ∙ ap (λ q. turns_after s mid ++ turns_after q (drop to ps)) (sym (standing_append NoAccess (take from ps) mid)
+    ∙ ap (standing NoAccess) (take_both ps from to order))
 
 -- how many of the turns begin a run, in three parts
 pub begun_parts :
@@ -209,7 +214,8 @@ pub turns_changed :
     → turns new ≡ replaced (turns old) (cut_at old from) (cut_at old to) c.start c.stop
 turns_changed old new from to first end perm c =
     c.turns_are
-    ∙ ap (λ l. l ++ (option_to_list c.start ++ (option_to_list c.stop ++ turns_after (standing NoAccess (take to old)) (drop to old)))) (sym (cut_front old from))
+    ∙ ap (λ l. l ++ (option_to_list c.start ++ (option_to_list c.stop ++ turns_after (standing NoAccess (take to old)) (drop to old))))
+    (sym (cut_front old from))
     ∙ ap (λ l. take (cut_at old from) (turns old) ++ (option_to_list c.start ++ (option_to_list c.stop ++ l))) (sym (cut_back old to))
 
 -- ---- two turns of one permission begin as many runs
@@ -258,7 +264,8 @@ told_other p q t is holds = same_false the_type p q (go (sameb the_type p q) (sy
 
 -- ---- the runs between the turns, point by point
 
-pub rise_next : (at : ℕ) (point : Point) (rest behind : List Point) → rest ≡ point ∷ behind → RiseAfter at rest → (page_of point < 2 ^ 44) × RiseAfter (page_of point) behind × RiseAfter at behind
+pub rise_next : (at : ℕ) (point : Point) (rest behind : List Point) → rest ≡ point ∷ behind → RiseAfter at rest
+    → (page_of point < 2 ^ 44) × RiseAfter (page_of point) behind × RiseAfter at behind
 rise_next at point rest behind shape rise =
     let A : List Point → Type 0 = RiseAfter at in
     let own = subst A shape rise in

@@ -1,5 +1,6 @@
 -- A chain is spelled from its largest block in to its smallest, and out again.
-use Rattle.std.proofs.Common.{◌≡◌, ◌∙◌, ℕ, zero, suc, ◌+◌, ◌-◌, ◌^◌, ◌<◌, ◌≤◌, ⊎_elim, List, ◌∷◌, ◌++◌, Bool, true, false, cond, append_assoc, append-nil, arith, ap, ap₂, refl, sym, subst}
+use Rattle.std.proofs.Common.{◌≡◌, ◌∙◌, ℕ, zero, suc, ◌+◌, ◌-◌, ◌^◌, ◌<◌, ◌≤◌, ⊎_elim, List, ◌∷◌, ◌++◌, Bool, true, false, cond, append_assoc, append-nil}
+use Rattle.std.proofs.Common.{arith, ap, ap₂, refl, sym, subst}
 use Rattle.std.proofs.lemmas.Bool.{cases_lt, lt-ltb, le-ltb, leb-true, leb-false}
 use Rattle.pmp_encoding.specs.declared.perm.Perm.{Perm}
 use Rattle.pmp_match.specs.Bounds.{Leaf}
@@ -26,19 +27,23 @@ head_lower :
     (costs : List SplitCost) (i n place : ℕ) (before : Perm) → place < 2 ^ n
     → head_bytes costs i (suc n) place before ≡ front_bytes costs i ++ head_bytes costs (i + 1) n place before
 head_lower costs i n place before low =
-    ap (λ t. front_bytes costs i ++ cond t (head_bytes costs (i + 1) n place before) (leaf_bytes before ++ head_bytes costs (i + 1) n (place - 2 ^ n) before)) (lt-ltb place (2 ^ n) low)
+    ap (λ t. front_bytes costs i ++ cond t (head_bytes costs (i + 1) n place before) (leaf_bytes before ++ head_bytes costs (i + 1) n (place - 2 ^ n) before))
+    (lt-ltb place (2 ^ n) low)
 
 head_upper :
     (costs : List SplitCost) (i n place : ℕ) (before : Perm) → 2 ^ n ≤ place
     → head_bytes costs i (suc n) place before ≡ front_bytes costs i ++ (leaf_bytes before ++ head_bytes costs (i + 1) n (place - 2 ^ n) before)
 head_upper costs i n place before high =
-    ap (λ t. front_bytes costs i ++ cond t (head_bytes costs (i + 1) n place before) (leaf_bytes before ++ head_bytes costs (i + 1) n (place - 2 ^ n) before)) (le-ltb place (2 ^ n) high)
+    ap (λ t. front_bytes costs i ++ cond t (head_bytes costs (i + 1) n place before) (leaf_bytes before ++ head_bytes costs (i + 1) n (place - 2 ^ n) before))
+    (le-ltb place (2 ^ n) high)
 
 tail_lower : (n place : ℕ) (behind : Perm) → place < 2 ^ n → tail_bytes (suc n) place behind ≡ leaf_bytes behind ++ tail_bytes n place behind
-tail_lower n place behind low = ap (λ t. cond t (leaf_bytes behind ++ tail_bytes n place behind) (tail_bytes n (place - 2 ^ n) behind)) (lt-ltb place (2 ^ n) low)
+tail_lower n place behind low = ap (λ t. cond t (leaf_bytes behind ++ tail_bytes n place behind) (tail_bytes n (place - 2 ^ n) behind))
+    (lt-ltb place (2 ^ n) low)
 
 tail_upper : (n place : ℕ) (behind : Perm) → 2 ^ n ≤ place → tail_bytes (suc n) place behind ≡ tail_bytes n (place - 2 ^ n) behind
-tail_upper n place behind high = ap (λ t. cond t (leaf_bytes behind ++ tail_bytes n place behind) (tail_bytes n (place - 2 ^ n) behind)) (le-ltb place (2 ^ n) high)
+tail_upper n place behind high = ap (λ t. cond t (leaf_bytes behind ++ tail_bytes n place behind) (tail_bytes n (place - 2 ^ n) behind))
+    (le-ltb place (2 ^ n) high)
 
 -- ---- the whole chain
 
@@ -74,7 +79,8 @@ chain_spelled costs i (suc n) place before behind tree =
     ap (λ t. node_bytes (costed costs i t)) (nested_lower n place before behind tree low)
     ∙ ap (λ (x : List ℕ). front_bytes costs i ++ (x ++ leaf_bytes behind)) (chain_spelled costs (i + 1) n place before behind tree)
     ∙ ap (λ (x : List ℕ). front_bytes costs i ++ x)
-    (append_assoc H (N ++ T) (leaf_bytes behind) ∙ ap (λ (x : List ℕ). H ++ x) (append_assoc N T (leaf_bytes behind) ∙ ap (λ (x : List ℕ). N ++ x) (tail_end n place behind)))
+    (append_assoc H (N ++ T) (leaf_bytes behind) ∙ ap (λ (x : List ℕ). H ++ x)
+    (append_assoc N T (leaf_bytes behind) ∙ ap (λ (x : List ℕ). N ++ x) (tail_end n place behind)))
     ∙ sym (append_assoc (front_bytes costs i) H (N ++ (leaf_bytes behind ++ T)))
     ∙ ap₂ (λ (h r : List ℕ). h ++ r) (sym (head_lower costs i n place before low))
     (ap₂ (λ (m : ℕ) (r : List ℕ). node_bytes (costed costs m tree) ++ r) deeper (sym (tail_lower n place behind low))))
@@ -178,7 +184,8 @@ tail_up chain behind some up =
     let n = chain.levels - 1 in
     let next : chain.levels ≡ suc n = omega arith in
     let same : cond (goes_up chain) (chain.place - 2 ^ n) chain.place ≡ chain.place - 2 ^ n = ap (λ t. cond t (chain.place - 2 ^ n) chain.place) up in
-    ap (λ m. tail_bytes m chain.place behind) next ∙ tail_upper n chain.place behind (leb-true (2 ^ n) chain.place up) ∙ ap (λ p. tail_bytes n p behind) (sym same)
+    ap (λ m. tail_bytes m chain.place behind) next ∙ tail_upper n chain.place behind (leb-true (2 ^ n) chain.place up)
+    ∙ ap (λ p. tail_bytes n p behind) (sym same)
 
 -- what is held and what is still to be put, after one block more
 pub held_down :
@@ -205,23 +212,28 @@ held_up costs i chain before held front new all some up is leaf whole =
     ∙ whole
 
 -- a front's bytes, as the code makes them
-pub front_is : (costs : List SplitCost) (i : ℕ) (front array : List ℕ) (six : SixCosts) → front ≡ array → array ≡ 1 ∷ costs_bytes (cost_of six) → six ≡ six_of (cost_in costs i) → front ≡ front_bytes costs i
+pub front_is : (costs : List SplitCost) (i : ℕ) (front array : List ℕ) (six : SixCosts) → front ≡ array → array ≡ 1 ∷ costs_bytes (cost_of six)
+    → six ≡ six_of (cost_in costs i) → front ≡ front_bytes costs i
 front_is costs i front array six is_front is_array is_six = is_front ∙ is_array ∙ ap (λ (x : SixCosts). 1 ∷ costs_bytes (cost_of x)) is_six
 
 -- the costs up to the next block fit
 pub fits_more :
-    (costs : List SplitCost) (i next : ℕ) → ((m : ℕ) → i ≤ m → m < next → (p : Perm) → cost_in costs m p < 2 ^ 32) → ((p : Perm) → cost_in costs next p < 2 ^ 32)
+    (costs : List SplitCost) (i next : ℕ) → ((m : ℕ) → i ≤ m → m < next → (p : Perm) → cost_in costs m p < 2 ^ 32)
+    → ((p : Perm) → cost_in costs next p < 2 ^ 32)
     → (m : ℕ) → i ≤ m → m < next + 1 → (p : Perm) → cost_in costs m p < 2 ^ 32
 fits_more costs i next before here m from to p =
-    ⊎_elim (λ less. before m from less p) (λ more. let same : m ≡ next = omega arith in let F : ℕ → Type 0 = λ n. cost_in costs n p < 2 ^ 32 in subst F (sym same) (here p)) (cases_lt m next)
+    ⊎_elim (λ less. before m from less p) (λ more. let same : m ≡ next = omega arith in let F : ℕ → Type 0 = λ n. cost_in costs n p < 2 ^ 32 in subst F
+    (sym same) (here p)) (cases_lt m next)
 
 -- the bytes of a chain's largest block are the heads, those of its smallest and the tails
 pub chain_put :
     (costs : List SplitCost) (i : ℕ) (chain : Chain) (shape tree : PermTree) → shape ≡ chained chain tree
-    → (head_bytes costs i chain.levels chain.place chain.before ++ node_bytes (costed costs (i + chain.levels) tree)) ++ tail_bytes chain.levels chain.place chain.behind
+    → (head_bytes costs i chain.levels chain.place chain.before ++ node_bytes (costed costs (i + chain.levels) tree))
+    ++ tail_bytes chain.levels chain.place chain.behind
     ≡ node_bytes (costed costs i shape)
 chain_put costs i chain shape tree is =
-    append_assoc (head_bytes costs i chain.levels chain.place chain.before) (node_bytes (costed costs (i + chain.levels) tree)) (tail_bytes chain.levels chain.place chain.behind)
+    append_assoc (head_bytes costs i chain.levels chain.place chain.before) (node_bytes (costed costs (i + chain.levels) tree))
+    (tail_bytes chain.levels chain.place chain.behind)
     ∙ sym (chain_spelled costs i chain.levels chain.place chain.before chain.behind tree)
     ∙ ap (λ t. node_bytes (costed costs i t)) (sym is)
 
@@ -248,7 +260,8 @@ pub tails_up :
 tails_up chain behind held all some up whole = ap (λ (x : List ℕ). held ++ x) (sym (tail_up chain behind some up)) ∙ whole
 
 -- once no block is left
-pub no_heads : (costs : List SplitCost) (i n place : ℕ) (before : Perm) (held all : List ℕ) → n ≤ 0 → held ++ head_bytes costs i n place before ≡ all → held ≡ all
+pub no_heads : (costs : List SplitCost) (i n place : ℕ) (before : Perm) (held all : List ℕ) → n ≤ 0 → held ++ head_bytes costs i n place before ≡ all
+    → held ≡ all
 no_heads costs i n place before held all none whole =
     let zero_left : 0 ≡ n = omega arith in
     sym (append-nil held) ∙ ap (λ m. held ++ head_bytes costs i m place before) zero_left ∙ whole

@@ -1,5 +1,6 @@
 -- Bytes that went to a sink one after another.
-use Rattle.std.proofs.Common.{◌≡◌, ◌∙◌, ℕ, ◌+◌, ◌<◌, List, [], ◌∷◌, ◌++◌, get_or, ap₂, length, take, drop, append_assoc, length-append, arith, ap, sym, subst, Option}
+use Rattle.std.proofs.Common.{◌≡◌, ◌∙◌, ℕ, ◌+◌, ◌<◌, List, [], ◌∷◌, ◌++◌, get_or, ap₂, length, take, drop, append_assoc, length-append, arith, ap, sym, subst}
+use Rattle.std.proofs.Common.{Option}
 use Rattle.std.proofs.KnownBytes.{Appends-trans}
 use Rattle.std.proofs.Math.Seq.{take-append_seam}
 use Rattle.std.proofs.lemmas.Grind.{flat_map-append}
@@ -20,7 +21,8 @@ use Rattle.plan_certificate.specs.Pieces.{Taken, IsPut, IsCut, taken}
 use Rattle.plan_certificate.specs.Written.{entry_bytes}
 
 -- what goes in turn
-joined : (went then held middle holds bytes more : List ℕ) → went ++ middle ≡ held ++ bytes → then ++ holds ≡ middle ++ more → (went ++ then) ++ holds ≡ held ++ (bytes ++ more)
+joined : (went then held middle holds bytes more : List ℕ) → went ++ middle ≡ held ++ bytes → then ++ holds ≡ middle ++ more
+    → (went ++ then) ++ holds ≡ held ++ (bytes ++ more)
 joined went then held middle holds bytes more first second =
     append_assoc went then holds
     ∙ ap (λ (xs : List ℕ). went ++ xs) second
@@ -53,12 +55,14 @@ held_put held room new old mid bytes put is = record {
 }
 
 fails_from :
-    (failures failures' failed stalls stalls' stalled : ℕ) → failures' ≡ failures → stalls' ≡ stalls → WriteFails failures' failed stalls' stalled → WriteFails failures failed stalls stalled
+    (failures failures' failed stalls stalls' stalled : ℕ) → failures' ≡ failures → stalls' ≡ stalls → WriteFails failures' failed stalls' stalled
+    → WriteFails failures failed stalls stalled
 fails_from failures failures' failed stalls stalls' stalled e f fails =
     subst (λ (s : ℕ). WriteFails failures failed s stalled) f (subst (λ (n : ℕ). WriteFails n failed stalls' stalled) e fails)
 
 pub cut_then :
-    (held middle : List ℕ) (old mid new : Taken) (bytes more : List ℕ) → IsPut held middle old mid bytes → IsCut middle mid new more → IsCut held old new (bytes ++ more)
+    (held middle : List ℕ) (old mid new : Taken) (bytes more : List ℕ) → IsPut held middle old mid bytes → IsCut middle mid new more
+    → IsCut held old new (bytes ++ more)
 cut_then held middle old mid new bytes more first second = record {
   went = first.went ++ second.went;
   missing = second.missing;
@@ -93,7 +97,15 @@ cut_in_piece held old new bytes part fails = record {
 
 -- what was held is of the bytes where nothing was held before
 pub cut_whole : (held : List ℕ) (old new : Taken) (bytes : List ℕ) → IsCut held old new bytes → IsCut [] old new (held ++ bytes)
-cut_whole held old new bytes cut = record { went = cut.went; missing = cut.missing; appended = cut.appended; short = cut.short; some = cut.some; fails = cut.fails }
+cut_whole held old new bytes cut = record {
+  went = cut.went;
+  missing = cut.missing;
+  appended = cut.appended;
+  short = cut.short;
+  some = cut.some;
+  fails =
+      cut.fails;
+}
 
 -- a beginning of the bytes, not all of them
 pub part_of_cut : (old new : Taken) (bytes : List ℕ) → IsCut [] old new bytes → (n : ℕ) × (n < length bytes) × Appends old.contents new.contents (take n bytes)
@@ -114,7 +126,8 @@ breaks_of_cut contents failures stalls {old = old} {new = new} bytes cut = recor
 }
 
 -- entries up to one, that one, and those after it
-pub entries_more : (es : List Entry) (i : ℕ) (d : Entry) → i < length es → flat_map entry_bytes (take (i + 1) es) ≡ flat_map entry_bytes (take i es) ++ entry_bytes (get_or es i d)
+pub entries_more : (es : List Entry) (i : ℕ) (d : Entry) → i < length es → flat_map entry_bytes (take (i + 1) es) ≡ flat_map entry_bytes
+    (take i es) ++ entry_bytes (get_or es i d)
 entries_more es i d inside = ap (flat_map entry_bytes) (take_more es i d inside) ∙ sym (flat_map_more entry_bytes [] (take i es) (get_or es i d))
 
 pub entries_split : (es : List Entry) (n : ℕ) → flat_map entry_bytes (take n es) ++ flat_map entry_bytes (drop n es) ≡ flat_map entry_bytes es

@@ -14,7 +14,8 @@ entries_spelled [] = refl
 entries_spelled (e ∷ entries) =
     (entry_bytes e, flat_map entry_bytes entries, refl, record { pair = (cfg_of e, address_of e); means = pair_is e; spelled = refl }, entries_spelled entries)
 
-pub certificate_spelled : (version : Version) (entries : List Entry) (tree : BoundTree) → length entries < 2 ^ 32 → FitsNode 44 tree → Spells (certificate_bytes version entries tree) version entries tree
+pub certificate_spelled : (version : Version) (entries : List Entry) (tree : BoundTree) → length entries < 2 ^ 32 → FitsNode 44 tree
+    → Spells (certificate_bytes version entries tree) version entries tree
 certificate_spelled version entries tree counted fits = record {
   listed = flat_map entry_bytes entries;
   spelled = refl;

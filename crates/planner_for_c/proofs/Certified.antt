@@ -14,13 +14,15 @@ use Rattle.planner_for_c.specs.Settings.{FaultIn, LeadTo}
 
 pub verdict_told :
     (settings : List SettingOfC) (bytes : List ℕ) (place : ℕ) (runs : List Run) (verdict : Result ℕ CheckRefusal) → LeadTo [] settings runs
-    → ((n : ℕ) → verdict ≡ Ok n → HoldsFewest (view_of_runs runs) bytes n) → ((refusal : CheckRefusal) → verdict ≡ Err refusal → RefusalStands (view_of_runs runs) bytes refusal)
+    → ((n : ℕ) → verdict ≡ Ok n → HoldsFewest (view_of_runs runs) bytes n)
+    → ((refusal : CheckRefusal) → verdict ≡ Err refusal → RefusalStands (view_of_runs runs) bytes refusal)
     → IsChecked settings bytes place place (check_code verdict)
 verdict_told settings bytes place runs (Ok n) led sound stands = accepted runs n led (sound n refl) refl
 verdict_told settings bytes place runs (Err refusal) led sound stands = rejected runs refusal led (stands refusal refl) refl
 
 pub no_map_told :
-    (settings : List SettingOfC) (bytes : List ℕ) (r : Refusal) (old new : ℕ) → ((i : ℕ) (fault : SettingFault) → r ≡ Setting i fault → FaultIn [] settings i fault) → new ≡ place_of r old
+    (settings : List SettingOfC) (bytes : List ℕ) (r : Refusal) (old new : ℕ)
+    → ((i : ℕ) (fault : SettingFault) → r ≡ Setting i fault → FaultIn [] settings i fault) → new ≡ place_of r old
     → IsChecked settings bytes old new (refusal_code r)
 no_map_told settings bytes (Setting i fault) old new known is = no_map fault (subst (λ k. FaultIn [] settings k fault) (sym is) (known i fault refl))
 no_map_told settings bytes Memory old new known is = no_room is

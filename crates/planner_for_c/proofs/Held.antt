@@ -22,10 +22,12 @@ entry_at cfg address e a b = subst (λ c. MeansEntry c address e) (sym a) (subst
 
 -- the pairs from one place on hold the entries, and zero past them
 pub record HoldFrom (words addresses : List ℕ) (first : ℕ) (entries : List Entry) : Type 0 where
-  pub canonical : (i : ℕ) (e : Entry) → slice_get entries i ≡ Some e → (cfg_byte words (first + i) ≡ cfg_of e) × (slice_index addresses (first + i) ≡ address_of e)
+  pub canonical : (i : ℕ) (e : Entry) → slice_get entries i ≡ Some e → (cfg_byte words (first + i) ≡ cfg_of e)
+      × (slice_index addresses (first + i) ≡ address_of e)
   pub off : (i : ℕ) → length entries ≤ i → first + i < 64 → (cfg_byte words (first + i) ≡ 0) × (slice_index addresses (first + i) ≡ 0)
 
-rest_holds : (words addresses : List ℕ) (first : ℕ) (e : Entry) (entries : List Entry) → HoldFrom words addresses first (e ∷ entries) → HoldFrom words addresses (suc first) entries
+rest_holds : (words addresses : List ℕ) (first : ℕ) (e : Entry) (entries : List Entry) → HoldFrom words addresses first (e ∷ entries)
+    → HoldFrom words addresses (suc first) entries
 rest_holds words addresses first e entries h = record {
   canonical = λ i x is. let k : first + suc i ≡ suc first + i = omega arith in
       subst (λ n. (cfg_byte words n ≡ cfg_of x) × (slice_index addresses n ≡ address_of x)) k (h.canonical (suc i) x is);
@@ -40,20 +42,26 @@ none_holds words addresses first h = record {
       subst (λ n. (cfg_byte words n ≡ 0) × (slice_index addresses n ≡ 0)) k (h.off (suc i) (omega arith) (omega (arith, inside)));
 }
 
-pub held : (words addresses : List ℕ) (first count : ℕ) (entries : List Entry) → HoldFrom words addresses first entries → length entries ≤ count → first + count ≤ 64 → MeansList (pairs_from words addresses first count) entries
+pub held : (words addresses : List ℕ) (first count : ℕ) (entries : List Entry) → HoldFrom words addresses first entries → length entries ≤ count
+    → first + count ≤ 64 → MeansList (pairs_from words addresses first count) entries
 held words addresses first zero [] h room inside = done
 held words addresses first zero (e ∷ entries) h room inside = absurd (omega arith)
 held words addresses first (suc count) [] h room inside =
     let off = h.off 0 (omega arith) (omega arith) in
-    let own : (cfg_byte words first ≡ 0) × (slice_index addresses first ≡ 0) = subst (λ n. (cfg_byte words n ≡ 0) × (slice_index addresses n ≡ 0)) (add-zero first) off in
+    let own : (cfg_byte words first ≡ 0) × (slice_index addresses first ≡ 0) = subst (λ n. (cfg_byte words n ≡ 0) × (slice_index addresses n ≡ 0))
+    (add-zero first) off in
     skip (off_at _ _ own.0 own.1) (held words addresses (suc first) count [] (none_holds words addresses first h) (omega arith) (omega arith))
 held words addresses first (suc count) (e ∷ entries) h room inside =
     let here = h.canonical 0 e refl in
-    let own : (cfg_byte words first ≡ cfg_of e) × (slice_index addresses first ≡ address_of e) = subst (λ n. (cfg_byte words n ≡ cfg_of e) × (slice_index addresses n ≡ address_of e)) (add-zero first) here in
-    keep (entry_at _ _ e own.0 own.1) (held words addresses (suc first) count entries (rest_holds words addresses first e entries h) (omega arith) (omega arith))
+    let own : (cfg_byte words first ≡ cfg_of e) × (slice_index addresses first ≡ address_of e) = subst
+    (λ n. (cfg_byte words n ≡ cfg_of e) × (slice_index addresses n ≡ address_of e)) (add-zero first) here in
+    keep (entry_at _ _ e own.0 own.1) (held words addresses (suc first) count entries (rest_holds words addresses first e entries h) (omega arith)
+    (omega arith))
 
 -- registers that are those of the bank of the entries hold them
-module _ (bank : Bank) (entries : List Entry) (words addresses : List ℕ) (of : IsBankOf bank SixtyFour entries) (short : length entries ≤ 64) (each_word : (i : ℕ) → i < 8 → slice_index words i ≡ word_at bank (2 * i)) (each_address : (i : ℕ) → i < 64 → slice_index addresses i ≡ address_at bank i) where
+module _ (bank : Bank) (entries : List Entry) (words addresses : List ℕ) (of : IsBankOf bank SixtyFour entries) (short : length entries ≤ 64)
+    (each_word : (i : ℕ) → i < 8 → slice_index words i ≡ word_at bank (2 * i))
+    (each_address : (i : ℕ) → i < 64 → slice_index addresses i ≡ address_at bank i) where
   word_is : (i : ℕ) → i < 8 → slice_index words i ≡ slice_index bank.words i
   word_is i h = let k : 2 * i / 2 ≡ i = omega arith in each_word i h ∙ ap (λ n. slice_index bank.words n) k
 

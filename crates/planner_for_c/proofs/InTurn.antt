@@ -12,7 +12,8 @@ use Rattle.planner_for_c.specs.declared.settings.SettingFault.TheVariants.{Unali
 use Rattle.planner_for_c.specs.Settings.{FaultIn, IsRefusedFor, LeadTo, Names, Sets, done, next, here, later}
 
 -- one range is overwritten in one way
-one_way : (old : List Run) (first count : ℕ) (p q : Perm) (xs ys : List Run) → p ≡ q → AreOverwritten old first count p xs → AreOverwritten old first count q ys → xs ≡ ys
+one_way : (old : List Run) (first count : ℕ) (p q : Perm) (xs ys : List Run) → p ≡ q → AreOverwritten old first count p xs → AreOverwritten old first count q ys
+    → xs ≡ ys
 one_way old first count p q xs ys same a b =
     let moved : AreOverwritten old first count p ys = subst (λ r. AreOverwritten old first count r ys) (sym same) b in
     determined xs ys a.are_runs moved.are_runs (λ page inside. a.view_is page inside ∙ sym (moved.view_is page inside))
@@ -32,7 +33,8 @@ not_both before x setting UnknownPerm s r = r.1 s.perm s.named
 not_both before x setting PastEnd s r = omega (arith, s.inside, r.2)
 not_both before x setting TooManyRanges s r =
     let many = r.2 in
-    let same : x ≡ many.runs = one_way before (setting.base / 4096) (setting.size / 4096) s.perm many.perm x many.runs (one_perm setting s.perm many.perm s.named many.named) s.overwritten many.overwritten in
+    let same : x ≡ many.runs = one_way before (setting.base / 4096) (setting.size / 4096) s.perm many.perm x many.runs
+    (one_perm setting s.perm many.perm s.named many.named) s.overwritten many.overwritten in
     omega (arith, s.few, many.many, ap length same)
 
 -- it is refused for one thing
@@ -77,7 +79,8 @@ no_fault _ x _ _ fault (next {before = before} {middle = middle} {setting = sett
     no_fault middle x settings i fault l (subst (λ runs. FaultIn runs settings i fault) (one_after before other middle setting t s) f)
 
 -- and that is one, at one place
-pub one_fault : (before : List Run) (settings : List Setting) (i j : ℕ) (f g : SettingFault) → FaultIn before settings i f → FaultIn before settings j g → (i ≡ j) × (f ≡ g)
+pub one_fault : (before : List Run) (settings : List Setting) (i j : ℕ) (f g : SettingFault) → FaultIn before settings i f → FaultIn before settings j g
+    → (i ≡ j) × (f ≡ g)
 one_fault _ _ _ _ f g (here {before = before} {setting = setting} r) (here q) = (refl, one_refusal before setting f g r q)
 one_fault _ _ _ _ f g (here {before = before} {setting = setting} r) (later {middle = other} t m) = absurd (not_both before other setting f t r)
 one_fault _ _ _ _ f g (later {before = before} {middle = middle} {setting = setting} s l) (here q) = absurd (not_both before middle setting g s q)
@@ -101,14 +104,17 @@ none_left (x ∷ xs) h = absurd (omega arith)
 abbrev pub IsFaultFrom : List Setting → List Run → List Setting → Type 0
 IsFaultFrom settings map rest = (i : ℕ) (fault : SettingFault) → FaultIn map rest i fault → FaultIn [] settings (length settings - length rest + i) fault
 
-one_more : (settings : List Setting) (map new : List Run) (x : Setting) (xs : List Setting) → length (x ∷ xs) ≤ length settings → IsFaultFrom settings map (x ∷ xs) → Sets map x new → IsFaultFrom settings new xs
+one_more : (settings : List Setting) (map new : List Run) (x : Setting) (xs : List Setting) → length (x ∷ xs) ≤ length settings
+    → IsFaultFrom settings map (x ∷ xs) → Sets map x new → IsFaultFrom settings new xs
 one_more settings map new x xs room known sets i fault f =
     let place : length settings - length (x ∷ xs) + suc i ≡ length settings - length xs + i = omega (arith, room) in
     subst (λ k. FaultIn [] settings k fault) place (known (suc i) fault (later sets f))
 
-pub fault_more : (settings rest : List Setting) (d : Setting) (map new : List Run) → 1 ≤ length rest → length rest ≤ length settings → IsFaultFrom settings map rest → Sets map (get_or rest 0 d) new → IsFaultFrom settings new (take (length rest - 1) (drop 1 rest))
+pub fault_more : (settings rest : List Setting) (d : Setting) (map new : List Run) → 1 ≤ length rest → length rest ≤ length settings
+    → IsFaultFrom settings map rest → Sets map (get_or rest 0 d) new → IsFaultFrom settings new (take (length rest - 1) (drop 1 rest))
 fault_more settings [] d map new some room known sets = absurd (omega arith)
-fault_more settings (x ∷ xs) d map new some room known sets = subst (λ ys. IsFaultFrom settings new ys) (sym (others_of x xs)) (one_more settings map new x xs room known sets)
+fault_more settings (x ∷ xs) d map new some room known sets = subst (λ ys. IsFaultFrom settings new ys) (sym (others_of x xs))
+    (one_more settings map new x xs room known sets)
 
 pub shorter_more : (settings rest : List Setting) → length rest ≤ length settings → length (take (length rest - 1) (drop 1 rest)) ≤ length settings
 shorter_more settings [] room = omega (arith, room)

@@ -47,4 +47,5 @@ same_access a b m k s p = λ i. record {
 
 pub one_access : (words : AccessWords) (a b : Access) → Says words a → Says words b → a ≡ b
 one_access words a b x y =
-    same_access a b (same_mode a.mode b.mode (x.mode ∙ sym y.mode)) (same_kind a.kind b.kind (x.kind ∙ sym y.kind)) (x.size ∙ sym y.size) (x.address ∙ sym y.address)
+    same_access a b (same_mode a.mode b.mode (x.mode ∙ sym y.mode)) (same_kind a.kind b.kind (x.kind ∙ sym y.kind)) (x.size ∙ sym y.size)
+    (x.address ∙ sym y.address)

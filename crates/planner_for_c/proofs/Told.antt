@@ -41,7 +41,12 @@ module _ (settings : List SettingOfC) (entries : List Entry) (plan : IsPlanOf se
   pub one_number : (runs : List Run) (n : ℕ) → LeadTo [] settings runs → Needs (view_of_runs runs) n → length entries ≡ n
   one_number runs n led needs =
       let same : plan.runs ≡ runs = one_map [] plan.runs runs settings plan.made led in
-      needs_one (view_of_runs runs) (length entries) n (record { entries = entries; fewest = subst (λ m. IsFewest (view_of_runs m) entries) same plan.fewest; count = refl }) needs
+      needs_one (view_of_runs runs) (length entries) n (record {
+        entries = entries;
+        fewest = subst
+            (λ m. IsFewest (view_of_runs m) entries) same plan.fewest;
+        count = refl;
+      }) needs
 
   pub not_refused : (i : ℕ) (fault : SettingFault) → FaultIn [] settings i fault → ⊥
   not_refused i fault f = no_fault [] plan.runs settings i fault plan.made f
@@ -55,23 +60,28 @@ module _ (settings : List SettingOfC) (r : Refusal) (known : (i : ℕ) (fault : 
       at (Setting i fault) h = absurd (no_fault [] runs settings i fault led (h i fault refl))
       at Memory h = refl
 
-  pub fault_refused : (i old new : ℕ) (fault : SettingFault) → new ≡ place_of r old → FaultIn [] settings i fault → ((refusal_code r ≡ fault_code fault) × (new ≡ i)) ⊎ (refusal_code r ≡ no_memory)
+  pub fault_refused : (i old new : ℕ) (fault : SettingFault) → new ≡ place_of r old → FaultIn [] settings i fault
+      → ((refusal_code r ≡ fault_code fault) × (new ≡ i)) ⊎ (refusal_code r ≡ no_memory)
   fault_refused i old new fault is f = at r known is
     where
-      at : (q : Refusal) → ((j : ℕ) (g : SettingFault) → q ≡ Setting j g → FaultIn [] settings j g) → new ≡ place_of q old → ((refusal_code q ≡ fault_code fault) × (new ≡ i)) ⊎ (refusal_code q ≡ no_memory)
+      at : (q : Refusal) → ((j : ℕ) (g : SettingFault) → q ≡ Setting j g → FaultIn [] settings j g) → new ≡ place_of q old
+          → ((refusal_code q ≡ fault_code fault) × (new ≡ i)) ⊎ (refusal_code q ≡ no_memory)
       at (Setting j g) h e = let one = one_fault [] settings j i g fault (h j g refl) f in inl (ap fault_code one.1, e ∙ one.0)
       at Memory h e = inr refl
 
   pub number_refused : (old new : ℕ) → new ≡ place_of r old → IsNumberOf settings old new (refusal_code r)
   number_refused old new is = at r known is
     where
-      at : (q : Refusal) → ((j : ℕ) (g : SettingFault) → q ≡ Setting j g → FaultIn [] settings j g) → new ≡ place_of q old → IsNumberOf settings old new (refusal_code q)
+      at : (q : Refusal) → ((j : ℕ) (g : SettingFault) → q ≡ Setting j g → FaultIn [] settings j g) → new ≡ place_of q old
+          → IsNumberOf settings old new (refusal_code q)
       at (Setting j g) h e = no_number g (subst (λ k. FaultIn [] settings k g) (sym e) (h j g refl))
       at Memory h e = number_without_memory e
 
-  pub plan_refused : (room : ℕ) (registers : Registers) (old new : ℕ) → new ≡ place_of r old → IsPlanned settings room registers registers old new (refusal_code r)
+  pub plan_refused : (room : ℕ) (registers : Registers) (old new : ℕ) → new ≡ place_of r old
+      → IsPlanned settings room registers registers old new (refusal_code r)
   plan_refused room registers old new is = at r known is
     where
-      at : (q : Refusal) → ((j : ℕ) (g : SettingFault) → q ≡ Setting j g → FaultIn [] settings j g) → new ≡ place_of q old → IsPlanned settings room registers registers old new (refusal_code q)
+      at : (q : Refusal) → ((j : ℕ) (g : SettingFault) → q ≡ Setting j g → FaultIn [] settings j g) → new ≡ place_of q old
+          → IsPlanned settings room registers registers old new (refusal_code q)
       at (Setting j g) h e = refused g (subst (λ k. FaultIn [] settings k g) (sym e) (h j g refl)) refl
       at Memory h e = memory refl e

@@ -30,7 +30,9 @@ begins_by first count page has = grind (arith, nat_tests, has)
 
 -- the range that has a page has those after it, up to its end
 pub covered_by :
-    (xs : List (ℕ × ℕ)) (k : ℕ) (d : ℕ × ℕ) (first count page q : ℕ) → k < length xs → first ≡ (get_or xs k d).0 / 4096 → count ≡ (get_or xs k d).1 / 4096 → in_range first count page ≡ true → page ≤ q
+    (xs : List (ℕ × ℕ)) (k : ℕ) (d : ℕ × ℕ) (first count page q : ℕ) → k < length xs → first ≡ (get_or xs k d).0 / 4096 → count ≡ (get_or xs k d).1 / 4096
+    → in_range first count page ≡ true → page ≤ q
     → q < first + count → is_among xs q ≡ true
 covered_by xs k d first count page q low begins counts has before behind =
-    among_at xs k d q low (inside ((get_or xs k d).0 / 4096) ((get_or xs k d).1 / 4096) q (omega (arith, begins, before, begins_by first count page has)) (omega arith))
+    among_at xs k d q low (inside ((get_or xs k d).0 / 4096) ((get_or xs k d).1 / 4096) q (omega (arith, begins, before, begins_by first count page has))
+    (omega arith))

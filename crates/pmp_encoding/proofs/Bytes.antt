@@ -1,5 +1,6 @@
 -- Bytes of a word.
-use Rattle.std.proofs.Common.{mul-le-mul_right, mul_assoc, zero-add, ◌≡◌, ◌≢◌, ℕ, ◌+◌, ◌-◌, ◌*◌, ◌/◌, ◌%◌, ◌^◌, ◌<◌, ◌≤◌, ⊎_elim, sym, ap, ◌∙◌, arith, pow_pos, pow-add}
+use Rattle.std.proofs.Common.{mul-le-mul_right, mul_assoc, zero-add, ◌≡◌, ◌≢◌, ℕ, ◌+◌, ◌-◌, ◌*◌, ◌/◌, ◌%◌, ◌^◌, ◌<◌, ◌≤◌, ⊎_elim, sym, ap, ◌∙◌, arith, pow_pos}
+use Rattle.std.proofs.Common.{pow-add}
 use Rattle.std.proofs.Math.Nat.{pow-le-pow_right, mod-eq_of_lt, add-mul-div_right, add-mul-mod_self_right, div-eq_of_lt}
 use Rattle.std.proofs.lemmas.Bool.{cases_lt}
 use Rattle.pmp_encoding.specs.Registers.{byte_of}
@@ -28,7 +29,8 @@ module _ (word j byte : ℕ) (place : j < 8) (above : word < 2 ^ (8 * j)) (fits 
 
   pub put_here : byte_of (word + byte * 2 ^ (8 * j)) j ≡ byte
   put_here =
-      let e : (word + byte * 2 ^ (8 * j)) / 2 ^ (8 * j) ≡ byte = add-mul-div_right word byte (pow_pos (8 * j)) ∙ ap (λ n. n + byte) (div-eq_of_lt above) ∙ zero-add byte in
+      let e : (word + byte * 2 ^ (8 * j)) / 2 ^ (8 * j) ≡ byte = add-mul-div_right word byte (pow_pos (8 * j)) ∙ ap (λ n. n + byte) (div-eq_of_lt above)
+      ∙ zero-add byte in
       ap (λ n. n % 256) e ∙ mod-eq_of_lt fits
 
   pub put_others : (k : ℕ) → k ≢ j → byte_of (word + byte * 2 ^ (8 * j)) k ≡ byte_of word k
@@ -40,7 +42,8 @@ module _ (word j byte : ℕ) (place : j < 8) (above : word < 2 ^ (8 * j)) (fits 
           let split : 2 ^ (8 * j) ≡ (2 ^ rest.0 * 256) * 2 ^ (8 * k) =
           ap (λ n. 2 ^ n) rest.1 ∙ pow-add 2 (rest.0 + 8) (8 * k) ∙ ap (λ n. n * 2 ^ (8 * k)) (pow-add 2 rest.0 8) in
           let part : byte * 2 ^ (8 * j) ≡ (byte * 2 ^ rest.0 * 256) * 2 ^ (8 * k) =
-          ap (λ n. byte * n) split ∙ sym (mul_assoc byte (2 ^ rest.0 * 256) (2 ^ (8 * k))) ∙ ap (λ n. n * 2 ^ (8 * k)) (sym (mul_assoc byte (2 ^ rest.0) 256)) in
+          ap (λ n. byte * n) split ∙ sym (mul_assoc byte (2 ^ rest.0 * 256) (2 ^ (8 * k)))
+          ∙ ap (λ n. n * 2 ^ (8 * k)) (sym (mul_assoc byte (2 ^ rest.0) 256)) in
           ap (λ n. (word + n) / 2 ^ (8 * k) % 256) part
           ∙ ap (λ n. n % 256) (add-mul-div_right word (byte * 2 ^ rest.0 * 256) (pow_pos (8 * k)))
           ∙ add-mul-mod_self_right (word / 2 ^ (8 * k)) (byte * 2 ^ rest.0) 256

@@ -1,5 +1,6 @@
 -- Registers that are decoded place by place, and the extents of the entries that they mean.
-use Rattle.std.proofs.Common.{add-zero, length-set, ◌≡◌, ℕ, zero, suc, ◌+◌, ◌<◌, ◌≤◌, List, [], ◌∷◌, ◌++◌, length, map, take, slice_index, refl, sym, ap, ◌∙◌, subst, arith}
+use Rattle.std.proofs.Common.{add-zero, length-set, ◌≡◌, ℕ, zero, suc, ◌+◌, ◌<◌, ◌≤◌, List, [], ◌∷◌, ◌++◌, length, map, take, slice_index, refl, sym, ap, ◌∙◌}
+use Rattle.std.proofs.Common.{subst, arith}
 use Rattle.std.specs.Prelude.{slice_set}
 use Rattle.std.proofs.lemmas.List.{take_more_set, map-append, append-nil, length-append}
 use Rattle.pmp_encoding.specs.declared.extent.Extent.{Extent}
@@ -22,12 +23,14 @@ pub record IsDecoded (words addresses : List ℕ) (count : ℕ) (extents : List 
 -- the pair of the next place comes after the others
 pairs_more :
     (words addresses : List ℕ) (first count : ℕ)
-    → pairs_from words addresses first (suc count) ≡ pairs_from words addresses first count ++ (cfg_byte words (first + count), slice_index addresses (first + count)) ∷ []
+    → pairs_from words addresses first (suc count) ≡ pairs_from words addresses first count ++
+    (cfg_byte words (first + count), slice_index addresses (first + count)) ∷ []
 pairs_more words addresses first zero = ap (λ i. (cfg_byte words i, slice_index addresses i) ∷ []) (sym (add-zero first))
 pairs_more words addresses first (suc count) =
     let place : suc first + count ≡ first + suc count = omega arith in
     ap (λ pairs. (cfg_byte words first, slice_index addresses first) ∷ pairs) (pairs_more words addresses (suc first) count)
-    ∙ ap (λ i. (cfg_byte words first, slice_index addresses first) ∷ (pairs_from words addresses (suc first) count ++ (cfg_byte words i, slice_index addresses i) ∷ [])) place
+    ∙ ap (λ i. (cfg_byte words first, slice_index addresses first) ∷ (pairs_from words addresses (suc first) count ++
+    (cfg_byte words i, slice_index addresses i) ∷ [])) place
 
 list_behind : (xs ys : List (ℕ × ℕ)) (es fs : List Entry) → MeansList xs es → MeansList ys fs → MeansList (xs ++ ys) (es ++ fs)
 list_behind _ ys _ fs done last = last
@@ -38,7 +41,8 @@ pub decoded_none : (words addresses : List ℕ) (extents : List Extent) → leng
 decoded_none words addresses extents room = record { entries = []; list = done; used_is = refl; few = omega arith; room = room; in_order = refl }
 
 module _ (words addresses : List ℕ) (n : ℕ) (extents : List Extent) (used : ℕ) (so_far : IsDecoded words addresses n extents used) where
-  list_more : (entries : List Entry) → MeansList ((cfg_byte words n, slice_index addresses n) ∷ []) entries → MeansList (pairs_from words addresses 0 (n + 1)) (so_far.entries ++ entries)
+  list_more : (entries : List Entry) → MeansList ((cfg_byte words n, slice_index addresses n) ∷ []) entries
+      → MeansList (pairs_from words addresses 0 (n + 1)) (so_far.entries ++ entries)
   list_more entries last =
       let next : suc n ≡ n + 1 = omega arith in
       let place : 0 + n ≡ n = omega arith in
@@ -58,7 +62,8 @@ module _ (words addresses : List ℕ) (n : ℕ) (extents : List Extent) (used : 
         in_order = so_far.in_order;
       }
 
-  pub decoded_entry : n < 64 → (e : Entry) → MeansEntry (cfg_byte words n) (slice_index addresses n) e → IsDecoded words addresses (n + 1) (slice_set extents used (extent_of e)) (used + 1)
+  pub decoded_entry : n < 64 → (e : Entry) → MeansEntry (cfg_byte words n) (slice_index addresses n) e
+      → IsDecoded words addresses (n + 1) (slice_set extents used (extent_of e)) (used + 1)
   decoded_entry inside e means =
       record {
         entries = so_far.entries ++ e ∷ [];

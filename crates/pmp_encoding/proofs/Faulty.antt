@@ -1,5 +1,6 @@
 -- Faults of pairs: which pairs have none, and which has the least number.
-use Rattle.std.proofs.Common.{◌≡◌, ◌≢◌, ℕ, ◌+◌, ◌*◌, ◌/◌, ◌%◌, ◌^◌, ◌<◌, ⊎_elim, Option, Some, None, Result, Ok, Err, cond, nat_eq, refl, sym, ap, ◌∙◌, arith, MatchOption, MatchResult, IfOk}
+use Rattle.std.proofs.Common.{◌≡◌, ◌≢◌, ℕ, ◌+◌, ◌*◌, ◌/◌, ◌%◌, ◌^◌, ◌<◌, ⊎_elim, Option, Some, None, Result, Ok, Err, cond, nat_eq, refl, sym, ap, ◌∙◌, arith}
+use Rattle.std.proofs.Common.{MatchOption, MatchResult, IfOk}
 use Rattle.pmp_encoding.specs.declared.perm.Perm.{Perm}
 use Rattle.pmp_encoding.specs.declared.perm.Perm.TheVariants.{NoAccess, Read, ReadWrite, Execute, ReadExecute, ReadWriteExecute}
 use Rattle.pmp_encoding.specs.declared.region.Entry.{Entry}
@@ -77,7 +78,8 @@ abbrev IsMeaning : ℕ → ℕ → Option Entry → Type 0
 IsMeaning cfg address o = MatchOption o (IsOff cfg address) (MeansEntry cfg address)
 
 pub entry_decoded :
-    (cfg address : ℕ) (r : Result (Option Entry) EncodingFault) → MatchResult r (λ _. IsFaultless cfg address) (IsLeastFault cfg address) → IfOk r (IsMeaning cfg address) → (e : Entry) → MeansEntry cfg address e
+    (cfg address : ℕ) (r : Result (Option Entry) EncodingFault) → MatchResult r (λ _. IsFaultless cfg address) (IsLeastFault cfg address)
+    → IfOk r (IsMeaning cfg address) → (e : Entry) → MeansEntry cfg address e
     → r ≡ Ok (Some e)
 entry_decoded cfg address (Err f) fault meaning e p = absurd ((entry_faultless cfg address e p).none f fault.has)
 entry_decoded cfg address (Ok None) fault meaning e p = absurd (not_off cfg address e p meaning)

@@ -1,5 +1,6 @@
 -- Registers that are filled with entries, place by place, and the list that they then have.
-use Rattle.std.proofs.Common.{add-zero, drop, length-append, length-drop, length-set, ◌++◌, replicate, ◌≡◌, ◌≢◌, ℕ, zero, suc, ◌+◌, ◌-◌, ◌*◌, ◌/◌, ◌%◌, ◌^◌, ◌<◌, ◌≤◌, ⊎_elim, List, [], ◌∷◌, length, Some, slice_index, refl, sym, ap, ◌∙◌, subst, arith, lit<, lit≤}
+use Rattle.std.proofs.Common.{add-zero, drop, length-append, length-drop, length-set, ◌++◌, replicate, ◌≡◌, ◌≢◌, ℕ, zero, suc, ◌+◌, ◌-◌, ◌*◌, ◌/◌, ◌%◌, ◌^◌}
+use Rattle.std.proofs.Common.{◌<◌, ◌≤◌, ⊎_elim, List, [], ◌∷◌, length, Some, slice_index, refl, sym, ap, ◌∙◌, subst, arith, lit<, lit≤}
 use Rattle.std.specs.Prelude.{slice_get, slice_set}
 use Rattle.std.proofs.lemmas.Bool.{cases_lt}
 use Rattle.std.proofs.lemmas.List.{get_or-append_right, get_or-drop, get_or-set_other, get_or-replicate, get_or_append_left, get_or_past, length-replicate}
@@ -33,7 +34,8 @@ zero_all = from 64 refl
     from n many = (length-replicate {A = ℕ} n 0 ∙ many, zeros n)
 
 -- the first sixteen of sixty-four made zero, where the others are
-pub zero_sixteen : (addresses : List ℕ) → length addresses ≡ 64 → ((i : ℕ) → 16 ≤ i → i < 64 → slice_index addresses i ≡ 0) → AreZero (replicate 16 0 ++ drop 16 addresses)
+pub zero_sixteen : (addresses : List ℕ) → length addresses ≡ 64 → ((i : ℕ) → 16 ≤ i → i < 64 → slice_index addresses i ≡ 0)
+    → AreZero (replicate 16 0 ++ drop 16 addresses)
 zero_sixteen addresses many unused = from 16 refl
   where
     from : (n : ℕ) → n ≡ 16 → AreZero (replicate n 0 ++ drop n addresses)
@@ -86,7 +88,9 @@ same_word words n word inside some =
     rw place (sym (get_or-set_at words (n / 8) (n / 8) word 0 refl inside))
 
 -- one entry more, its byte put above the others of its word
-module _ (entries : List Entry) (words addresses : List ℕ) (n : ℕ) (filled : IsFilled entries words addresses n) (few : n < 64) (e : Entry) (next : slice_get entries n ≡ Some e) (word : ℕ) (here : byte_of word (n % 8) ≡ cfg_of e) (others : (k : ℕ) → k ≢ n % 8 → byte_of word k ≡ byte_of (slice_index words (n / 8)) k) (small : word < 2 ^ (8 * (n % 8 + 1))) where
+module _ (entries : List Entry) (words addresses : List ℕ) (n : ℕ) (filled : IsFilled entries words addresses n) (few : n < 64) (e : Entry)
+    (next : slice_get entries n ≡ Some e) (word : ℕ) (here : byte_of word (n % 8) ≡ cfg_of e)
+    (others : (k : ℕ) → k ≢ n % 8 → byte_of word k ≡ byte_of (slice_index words (n / 8)) k) (small : word < 2 ^ (8 * (n % 8 + 1))) where
   new_words : List ℕ
   new_words = slice_set words (n / 8) word
 
@@ -100,7 +104,8 @@ module _ (entries : List Entry) (words addresses : List ℕ) (n : ℕ) (filled :
   byte_here = ap (λ x. byte_of x (n % 8)) (word_here (n / 8) refl) ∙ here
 
   byte_there : (i : ℕ) → i ≢ n → cfg_byte (slice_set words (n / 8) word) i ≡ cfg_byte words i
-  byte_there i apart = ⊎_elim other (λ over. ⊎_elim (λ under. other_above under) (λ under. same (omega arith)) (cases_lt (n / 8) (i / 8))) (cases_lt (i / 8) (n / 8))
+  byte_there i apart = ⊎_elim other (λ over. ⊎_elim (λ under. other_above under) (λ under. same (omega arith)) (cases_lt (n / 8) (i / 8)))
+      (cases_lt (i / 8) (n / 8))
     where
       other : i / 8 < n / 8 → cfg_byte (slice_set words (n / 8) word) i ≡ cfg_byte words i
       other less = ap (λ x. byte_of x (i % 8)) (word_there (i / 8) (omega arith))
@@ -143,7 +148,8 @@ module _ (entries : List Entry) (words addresses : List ℕ) (n : ℕ) (filled :
               )
 
       above : (w : ℕ) → slice_index (slice_set words (n / 8) word) w < 2 ^ (8 * (n + 1 - 8 * w))
-      above w = ⊎_elim (λ less. other (omega arith)) (λ over. ⊎_elim (λ more. other (omega arith)) (λ under. at (omega arith)) (cases_lt (n / 8) w)) (cases_lt w (n / 8))
+      above w = ⊎_elim (λ less. other (omega arith)) (λ over. ⊎_elim (λ more. other (omega arith)) (λ under. at (omega arith)) (cases_lt (n / 8) w))
+          (cases_lt w (n / 8))
         where
           other : w ≢ n / 8 → slice_index (slice_set words (n / 8) word) w < 2 ^ (8 * (n + 1 - 8 * w))
           other apart = omega (arith, word_there w apart, filled.words_above w, pow_rises (8 * (n - 8 * w)) (8 * (n + 1 - 8 * w)) (omega arith))
@@ -158,7 +164,8 @@ module _ (entries : List Entry) (words addresses : List ℕ) (n : ℕ) (filled :
 
 -- ---- what filled registers are
 
-pub filled_all : (entries : List Entry) (words addresses : List ℕ) (n : ℕ) → IsFilled entries words addresses n → n ≡ length entries → IsFilled entries words addresses (length entries)
+pub filled_all : (entries : List Entry) (words addresses : List ℕ) (n : ℕ) → IsFilled entries words addresses n → n ≡ length entries
+    → IsFilled entries words addresses (length entries)
 filled_all entries words addresses n filled is = subst (λ k. IsFilled entries words addresses k) is filled
 
 pub zero_off : IsOff 0 0
@@ -172,11 +179,14 @@ list_from :
     → MeansList (pairs_from words addresses first count) entries
 list_from [] words addresses first zero few canonical off = done
 list_from [] words addresses first (suc count) few canonical off =
-    skip (let none = off first (omega arith) in rw (none.0, none.1) zero_off) (list_from [] words addresses (suc first) count (omega arith) (λ i e is. absurd (cc is)) (λ i h. off i (omega (arith, h))))
+    skip (let none = off first (omega arith) in rw (none.0, none.1) zero_off)
+    (list_from [] words addresses (suc first) count (omega arith) (λ i e is. absurd (cc is)) (λ i h. off i (omega (arith, h))))
 list_from (e ∷ entries) words addresses first zero few canonical off = absurd (omega (arith, few))
 list_from (e ∷ entries) words addresses first (suc count) few canonical off =
-    keep (let here : (cfg_byte words first ≡ cfg_of e) × (slice_index addresses first ≡ address_of e) = rw (add-zero first) at (canonical 0 e refl) in rw (here.0, here.1) (pair_is e))
-    (list_from entries words addresses (suc first) count (omega (arith, few)) (λ i d is. let next : first + suc i ≡ suc first + i = omega arith in rw next at (canonical (suc i) d is)) (λ i h. off i (omega (arith, h))))
+    keep (let here : (cfg_byte words first ≡ cfg_of e) × (slice_index addresses first ≡ address_of e) = rw (add-zero first) at (canonical 0 e refl) in rw
+    (here.0, here.1) (pair_is e))
+    (list_from entries words addresses (suc first) count (omega (arith, few))
+    (λ i d is. let next : first + suc i ≡ suc first + i = omega arith in rw next at (canonical (suc i) d is)) (λ i h. off i (omega (arith, h))))
 
 module _ (entries : List Entry) (words addresses : List ℕ) (filled : IsFilled entries words addresses (length entries)) where
   pub filled_off : (i : ℕ) → length entries ≤ i → (cfg_byte words i ≡ 0) × (slice_index addresses i ≡ 0)
@@ -202,5 +212,6 @@ module _ (entries : List Entry) (words addresses : List ℕ) (filled : IsFilled 
 
   pub filled_list : (limit : Limit) → length entries ≤ limit_number limit → MeansList (pairs_from words addresses 0 (limit_number limit)) entries
   filled_list limit few =
-      list_from entries words addresses 0 (limit_number limit) few (λ i e is. let at : i ≡ 0 + i = omega arith in subst (λ k. (cfg_byte words k ≡ cfg_of e) × (slice_index addresses k ≡ address_of e)) at (filled_canonical i e is))
+      list_from entries words addresses 0 (limit_number limit) few (λ i e is. let at : i ≡ 0 + i = omega arith in subst
+      (λ k. (cfg_byte words k ≡ cfg_of e) × (slice_index addresses k ≡ address_of e)) at (filled_canonical i e is))
       (λ i h. filled_off i (omega (arith, h)))

@@ -1,5 +1,6 @@
 -- A faultless pair is OFF or means an entry, and so a bank has a list.
-use Rattle.std.proofs.Common.{◌≡◌, ◌≢◌, ℕ, zero, suc, ◌+◌, ◌*◌, ◌/◌, ◌%◌, ◌^◌, ◌<◌, ◌≤◌, ◌⊎◌, ◌↔◌, inl, inr, ⊎_elim, List, [], ◌∷◌, length, slice_index, refl, arith, lit≤}
+use Rattle.std.proofs.Common.{◌≡◌, ◌≢◌, ℕ, zero, suc, ◌+◌, ◌*◌, ◌/◌, ◌%◌, ◌^◌, ◌<◌, ◌≤◌, ◌⊎◌, ◌↔◌, inl, inr, ⊎_elim, List, [], ◌∷◌, length, slice_index, refl}
+use Rattle.std.proofs.Common.{arith, lit≤}
 use Rattle.std.specs.Int.{w64, trailing_ones}
 use Rattle.std.proofs.lemmas.Bool.{cases_lt}
 use Rattle.pmp_encoding.specs.declared.perm.Perm.{Perm}
@@ -54,7 +55,17 @@ module _ (cfg address : ℕ) (clean : IsFaultless cfg address) where
   na4_from h =
       let inside = small in (
         record {
-          region = record { base = 4 * address; log2 = 2; block = record { long = lit≤ tt; short = lit≤ tt; aligned = omega arith; inside = omega (arith, inside) } };
+          region = record {
+            base = 4 * address;
+            log2 = 2;
+            block = record {
+              long = lit≤ tt;
+              short = lit≤ tt;
+              aligned = omega arith;
+              inside = omega
+                  (arith, inside);
+            };
+          };
           perm = perm.0;
         },
         inl (record { bits = omega (arith, h, perm.1); small = small; size = refl; place = refl }),
@@ -74,16 +85,34 @@ module _ (cfg address : ℕ) (clean : IsFaultless cfg address) where
           let n = trailing_ones w64 address in
           let inside = small in (
             record {
-              region = record { base = 4 * address / 2 ^ (n + 3) * 2 ^ (n + 3); log2 = n + 3; block = block_round (4 * address) (n + 3) (omega arith) (omega (arith, few)) (omega (arith, inside)) };
+              region = record {
+                base = 4 * address / 2 ^ (n + 3) * 2 ^ (n + 3);
+                log2 = n + 3;
+                block = block_round (4 * address) (n + 3) (omega arith)
+                    (omega (arith, few)) (omega (arith, inside));
+              };
               perm = perm.0;
             },
-            inr (record { bits = bits; small = small; ones = n; above = (trailing_is address small).above; trailing = (trailing_is address small).split; size = omega (arith, few); place = block_holds (4 * address) (n + 3) }),
+            inr (record {
+              bits = bits;
+              small = small;
+              ones = n;
+              above = (trailing_is address small).above;
+              trailing =
+                  (trailing_is address small).split;
+              size = omega (arith, few);
+              place = block_holds (4 * address) (n + 3);
+            }),
           )
 
       whole : 53 ≤ trailing_ones w64 address → (e : Entry) × MeansEntry cfg address e
       whole many =
           let inside = small in (
-            record { region = record { base = 0; log2 = 56; block = record { long = lit≤ tt; short = lit≤ tt; aligned = refl; inside = lit≤ tt } }; perm = perm.0 },
+            record {
+              region = record { base = 0; log2 = 56; block = record { long = lit≤ tt; short = lit≤ tt; aligned = refl; inside = lit≤ tt } };
+              perm =
+                  perm.0;
+            },
             inr
                 (record {
                   bits = bits;
@@ -122,9 +151,11 @@ list_some words addresses first (suc count) h clean =
     (means_or_off (cfg_byte words first) (slice_index addresses first) (clean first (omega (arith, h))))
 
 pub bank_some : (bank : Bank) → (entries : List Entry) × HasList bank entries
-bank_some bank = list_some bank.words bank.addresses 0 (limit_number bank.limit) (let most = limit_most bank.limit in omega (arith, most)) bank.registers.faultless
+bank_some bank = list_some bank.words bank.addresses 0 (limit_number bank.limit)
+    (let most = limit_most bank.limit in omega (arith, most)) bank.registers.faultless
 
-short_list : (words addresses : List ℕ) (first count : ℕ) (entries : List Entry) → MeansList (pairs_from words addresses first count) entries → length entries ≤ count
+short_list : (words addresses : List ℕ) (first count : ℕ) (entries : List Entry) → MeansList (pairs_from words addresses first count) entries
+    → length entries ≤ count
 short_list words addresses first zero _ done = omega arith
 short_list words addresses first (suc count) _ (skip off rest) = let less = short_list words addresses (suc first) count _ rest in omega (arith, less)
 short_list words addresses first (suc count) _ (keep means rest) = let less = short_list words addresses (suc first) count _ rest in omega (arith, less)

@@ -18,7 +18,8 @@ perm_for-bits ReadExecute = refl
 perm_for-bits ReadWriteExecute = refl
 
 -- the three parts of a number that is made of them
-parts : (quarter k b : ℕ) → k < 64 → b < 8 → ((quarter * 512 + k * 8 + b) / 512 ≡ quarter) × ((quarter * 512 + k * 8 + b) / 8 % 64 ≡ k) × ((quarter * 512 + k * 8 + b) % 8 ≡ b)
+parts : (quarter k b : ℕ) → k < 64 → b < 8 → ((quarter * 512 + k * 8 + b) / 512 ≡ quarter) × ((quarter * 512 + k * 8 + b) / 8 % 64 ≡ k)
+    × ((quarter * 512 + k * 8 + b) % 8 ≡ b)
 parts quarter k b small few = (omega arith, omega arith, omega arith)
 
 -- a block's lowest address is a multiple of four

@@ -92,7 +92,8 @@ module _ (cfg address : ℕ) (e : Entry) (a : IsNapot cfg address e) where
 
   whole_address : IsAllOnes cfg address → address_of e ≡ 2 ^ 53 - 1
   whole_address all =
-      let is : a.ones ≡ 54 = same_ones address a.ones 54 (record { above = a.above; split = a.trailing }) (record { above = 0; split = omega (arith, all.1) }) in
+      let is : a.ones ≡ 54 = same_ones address a.ones 54 (record { above = a.above; split = a.trailing })
+      (record { above = 0; split = omega (arith, all.1) }) in
       let size : e.region.log2 ≡ 56 = omega (arith, a.size, is) in
       let inside = e.region.block.inside in
       let power : 2 ^ e.region.log2 ≡ 2 ^ 56 = ap (λ k. 2 ^ k) size in

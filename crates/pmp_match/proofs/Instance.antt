@@ -1,5 +1,6 @@
 -- A list of NA4 and NAPOT entries says what its extents say, and registers that mean such a list what theirs say.
-use Rattle.std.proofs.Common.{◌≡◌, ◌≢◌, ℕ, ◌+◌, ◌%◌, ◌/◌, ◌^◌, ◌<◌, ◌≤◌, ◌↔◌, inl, inr, suc, zero, List, [], ◌∷◌, length, map, Bool, true, false, cond, ◌&&◌, nat_lt, refl, sym, ap, ap₂, subst, ◌∙◌, arith}
+use Rattle.std.proofs.Common.{◌≡◌, ◌≢◌, ℕ, ◌+◌, ◌%◌, ◌/◌, ◌^◌, ◌<◌, ◌≤◌, ◌↔◌, inl, inr, suc, zero, List, [], ◌∷◌, length, map, Bool, true, false, cond, ◌&&◌}
+use Rattle.std.proofs.Common.{nat_lt, refl, sym, ap, ap₂, subst, ◌∙◌, arith}
 use Rattle.std.specs.List.{AllByRecursion}
 use Rattle.std.proofs.lemmas.Bool.{le-ltb}
 use Rattle.pmp_encoding.specs.declared.extent.Extent.{Extent}
@@ -33,13 +34,15 @@ pub entries_words : (entries : List Entry) → AllByRecursion IsWords (map exten
 entries_words [] = tt
 entries_words (e ∷ entries) = (entry_words e, entries_words entries)
 
-pub same_decision : (xs : List Extent) (entries : List Entry) (a : Access) → AllByRecursion IsWords xs → lets_through xs a ≡ allows entries a → a.mode ≢ Machine → Permits xs a ↔ Allows entries a
+pub same_decision : (xs : List Extent) (entries : List Entry) (a : Access) → AllByRecursion IsWords xs → lets_through xs a ≡ allows entries a → a.mode ≢ Machine
+    → Permits xs a ↔ Allows entries a
 same_decision xs entries a words same user = (
   (λ p. Allows-from_test entries a (sym same ∙ test_from_permits xs a words p)),
   (λ q. permits_from_test xs a (not_machine a.mode user) words (same ∙ test_from_Allows entries a q)),
 )
 
-pub same_meaning : (xs : List Extent) (entries : List Entry) → ((a : Access) → a.mode ≢ Machine → Permits xs a ↔ Allows entries a) → (view : View) → ExtentsMean xs view ↔ Means entries view
+pub same_meaning : (xs : List Extent) (entries : List Entry) → ((a : Access) → a.mode ≢ Machine → Permits xs a ↔ Allows entries a) → (view : View)
+    → ExtentsMean xs view ↔ Means entries view
 same_meaning xs entries same view = (
   (λ means a aligned inside user. ((λ q. (means a aligned inside user).0 ((same a user).1 q)), (λ may. (same a user).0 ((means a aligned inside user).1 may)))),
   (λ means a aligned inside user. ((λ p. (means a aligned inside user).0 ((same a user).0 p)), (λ may. (same a user).1 ((means a aligned inside user).1 may)))),
@@ -67,16 +70,20 @@ pub off_extent : (registers : Registers) (place : ℕ) → IsOff (cfg_at registe
 off_extent registers place o =
     off (record { perm = o.perm; bits = whole_cfg _ _ (off_faultless _ _ o) ∙ o.bits; small = kept_small registers.xlen (address_at registers place) })
 
-pub entry_extent : (registers : Registers) (place : ℕ) (e : Entry) → MeansEntry (cfg_at registers place) (address_at registers place) e → e.region.base + 2 ^ e.region.log2 ≤ space_end registers.xlen → IsExtentAt registers place (extent_of e)
+pub entry_extent : (registers : Registers) (place : ℕ) (e : Entry) → MeansEntry (cfg_at registers place) (address_at registers place) e
+    → e.region.base + 2 ^ e.region.log2 ≤ space_end registers.xlen → IsExtentAt registers place (extent_of e)
 entry_extent registers place e m near =
     let whole = whole_kept registers.xlen (address_at registers place) (omega (arith, pair_high _ _ e m, near)) in
-    let pair : MeansEntry (unlocked (cfg_at registers place)) (kept registers.xlen (address_at registers place)) e = rw (whole_cfg _ _ (entry_faultless _ _ e m), whole) m in
+    let pair : MeansEntry (unlocked (cfg_at registers place)) (kept registers.xlen (address_at registers place)) e = rw
+    (whole_cfg _ _ (entry_faultless _ _ e m), whole) m in
     subst (λ x. IsExtentAt registers place x) (whole_within registers.xlen (extent_of e) near) (block e pair)
 
-off_at : (registers : Registers) (place : ℕ) (x : Extent) → IsOff (cfg_at registers place) (address_at registers place) → IsExtentAt registers place x → x ≡ nowhere
+off_at : (registers : Registers) (place : ℕ) (x : Extent) → IsOff (cfg_at registers place) (address_at registers place) → IsExtentAt registers place x
+    → x ≡ nowhere
 off_at registers place x o is = one_extent registers place x nowhere is (off_extent registers place o)
 
-entry_at : (registers : Registers) (place : ℕ) (x : Extent) (e : Entry) → MeansEntry (cfg_at registers place) (address_at registers place) e → e.region.base + 2 ^ e.region.log2 ≤ space_end registers.xlen → IsExtentAt registers place x → x ≡ extent_of e
+entry_at : (registers : Registers) (place : ℕ) (x : Extent) (e : Entry) → MeansEntry (cfg_at registers place) (address_at registers place) e
+    → e.region.base + 2 ^ e.region.log2 ≤ space_end registers.xlen → IsExtentAt registers place x → x ≡ extent_of e
 entry_at registers place x e m near is = one_extent registers place x (extent_of e) is (entry_extent registers place e m near)
 
 pub off_untouched : (a : Access) → touches nowhere a ≡ false
@@ -86,7 +93,9 @@ off_untouched a = ap (λ t. nat_lt 0 (a.address + a.size) && t) (le-ltb a.addres
     and_false true = refl
     and_false false = refl
 
-says_from : (registers : Registers) (place count : ℕ) (xs : List Extent) (entries : List Entry) (a : Access) → length xs ≡ count → AreExtentsFrom registers place xs → MeansList (pairs_from registers place count) entries → AreReached registers.xlen entries → lets_through xs a ≡ allows entries a
+says_from : (registers : Registers) (place count : ℕ) (xs : List Extent) (entries : List Entry) (a : Access) → length xs ≡ count
+    → AreExtentsFrom registers place xs → MeansList (pairs_from registers place count) entries → AreReached registers.xlen entries
+    → lets_through xs a ≡ allows entries a
 says_from registers place zero [] _ a same are done near = refl
 says_from registers place zero (x ∷ xs) entries a same are list near = absurd (omega (arith, same))
 says_from registers place (suc count) [] entries a same are list near = absurd (omega (arith, same))
@@ -98,8 +107,11 @@ says_from registers place (suc count) (x ∷ xs) _ a same are (keep {e = e} {ent
     ap₂ (λ y rest. cond (touches y a) (grants y a) rest) (entry_at registers place x e m (reached_end registers.xlen e entries near) are.0)
     (says_from registers (place + 1) count xs entries a (omega (arith, same)) are.1 list (reached_rest registers.xlen e entries near))
 
-pub registers_decision : (registers : Registers) (xs : List Extent) (entries : List Entry) → AreExtents registers xs → MeansList (pairs_of registers) entries → AreReached registers.xlen entries → (a : Access) → a.mode ≢ Machine → Permits xs a ↔ Allows entries a
-registers_decision registers xs entries are list near a user = same_decision xs entries a (each_words registers xs are) (says_from registers 0 64 xs entries a are.count are.each list near) user
+pub registers_decision : (registers : Registers) (xs : List Extent) (entries : List Entry) → AreExtents registers xs → MeansList (pairs_of registers) entries
+    → AreReached registers.xlen entries → (a : Access) → a.mode ≢ Machine → Permits xs a ↔ Allows entries a
+registers_decision registers xs entries are list near a user = same_decision xs entries a (each_words registers xs are)
+    (says_from registers 0 64 xs entries a are.count are.each list near) user
 
-pub registers_meaning : (registers : Registers) (xs : List Extent) (entries : List Entry) → AreExtents registers xs → MeansList (pairs_of registers) entries → AreReached registers.xlen entries → (view : View) → ExtentsMean xs view ↔ Means entries view
+pub registers_meaning : (registers : Registers) (xs : List Extent) (entries : List Entry) → AreExtents registers xs → MeansList (pairs_of registers) entries
+    → AreReached registers.xlen entries → (view : View) → ExtentsMean xs view ↔ Means entries view
 registers_meaning registers xs entries are list near view = same_meaning xs entries (registers_decision registers xs entries are list near) view

@@ -1,5 +1,6 @@
 -- What an entry matches: one extent, of whole words, and none where it has a reserved value.
-use Rattle.std.proofs.Common.{◌≡◌, ◌≢◌, ℕ, ◌+◌, ◌*◌, ◌/◌, ◌%◌, ◌^◌, ◌<◌, ◌≤◌, ◌⊎◌, inl, inr, ⊎_elim, zero, suc, take, List, [], ◌∷◌, ◌++◌, All, length, Bool, true, false, nat_lt, cond, refl, sym, ap, ap₂, subst, ◌∙◌, arith, pow_pos, lit<}
+use Rattle.std.proofs.Common.{◌≡◌, ◌≢◌, ℕ, ◌+◌, ◌*◌, ◌/◌, ◌%◌, ◌^◌, ◌<◌, ◌≤◌, ◌⊎◌, inl, inr, ⊎_elim, zero, suc, take, List, [], ◌∷◌, ◌++◌, All, length, Bool}
+use Rattle.std.proofs.Common.{true, false, nat_lt, cond, refl, sym, ap, ap₂, subst, ◌∙◌, arith, pow_pos, lit<}
 use Rattle.std.specs.List.{AllByRecursion}
 use Rattle.std.specs.Prelude.{min, slice_set}
 use Rattle.std.proofs.Math.Nat.{min-le_left, min-le_right}
@@ -48,7 +49,8 @@ one_extent registers place _ _ (block e m) (off o) = absurd (not_off _ _ e m o)
 one_extent registers place _ _ (block e m) (tor perm h) = absurd (omega (arith, h, bits_below perm, entry_mode _ _ e m))
 one_extent registers place _ _ (block e m) (block f n) = ap (λ g. within registers.xlen (extent_of g)) (one_entry _ _ e f m n)
 
-one_from : (registers : Registers) (place : ℕ) (xs ys : List Extent) → length xs ≡ length ys → AreExtentsFrom registers place xs → AreExtentsFrom registers place ys → xs ≡ ys
+one_from : (registers : Registers) (place : ℕ) (xs ys : List Extent) → length xs ≡ length ys → AreExtentsFrom registers place xs
+    → AreExtentsFrom registers place ys → xs ≡ ys
 one_from registers place [] [] same a b = refl
 one_from registers place (x ∷ xs) (y ∷ ys) same a b =
     ap₂ (λ z zs. z ∷ zs) (one_extent registers place x y a.0 b.0) (one_from registers (place + 1) xs ys (omega (arith, same)) a.1 b.1)
@@ -78,11 +80,13 @@ extent_defined registers place _ (off o) = defined_by _ _ (off_faultless _ _ o)
 extent_defined registers place _ (tor perm h) = tor_defined _ perm h
 extent_defined registers place _ (block e m) = defined_by _ _ (entry_faultless _ _ e m)
 
-defined_from : (registers : Registers) (first : ℕ) (xs : List Extent) → AreExtentsFrom registers first xs → (place : ℕ) → first ≤ place → place < first + length xs → IsDefined (cfg_at registers place)
+defined_from : (registers : Registers) (first : ℕ) (xs : List Extent) → AreExtentsFrom registers first xs → (place : ℕ) → first ≤ place
+    → place < first + length xs → IsDefined (cfg_at registers place)
 defined_from registers first [] are place low high = absurd (omega (arith, low, high))
 defined_from registers first (x ∷ xs) are place low high =
     ⊎_elim (λ more. defined_from registers (first + 1) xs are.1 place (omega (arith, more)) (omega (arith, high)))
-    (λ less. let same : first ≡ place = omega (arith, low, less) in subst (λ p. IsDefined (cfg_at registers p)) same (extent_defined registers first x are.0)) (cases_lt first place)
+    (λ less. let same : first ≡ place = omega (arith, low, less) in subst (λ p. IsDefined (cfg_at registers p)) same (extent_defined registers first x are.0))
+    (cases_lt first place)
 
 pub all_defined : (registers : Registers) (xs : List Extent) → AreExtents registers xs → (place : ℕ) → place < 64 → IsDefined (cfg_at registers place)
 all_defined registers xs are place inside = defined_from registers 0 xs are.each place (omega arith) (omega (arith, are.count, inside))
@@ -95,7 +99,8 @@ nowhere_words = record { base = refl; end = refl; inside = omega arith; some = i
 pub entry_words : (e : Entry) → IsWords (extent_of e)
 entry_words e =
     let words : IsMultiple 4 (2 ^ e.region.log2) = power_multiple 2 e.region.log2 e.region.block.long in
-    let base : IsMultiple 4 e.region.base = multiple_trans 4 (2 ^ e.region.log2) e.region.base words (multiple_from_mod (2 ^ e.region.log2) e.region.base e.region.block.aligned) in
+    let base : IsMultiple 4 e.region.base = multiple_trans 4 (2 ^ e.region.log2) e.region.base words
+    (multiple_from_mod (2 ^ e.region.log2) e.region.base e.region.block.aligned) in
     record {
       base = omega (arith, base.1);
       end = omega (arith, base.1, words.1);
@@ -126,7 +131,8 @@ tor_words bottom top perm small =
 
 pub extent_words : (registers : Registers) (place : ℕ) (x : Extent) → IsExtentAt registers place x → IsWords x
 extent_words registers place _ (off o) = nowhere_words
-extent_words registers place _ (tor perm h) = tor_words (bottom_of registers place) (kept registers.xlen (address_at registers place)) perm (kept_small registers.xlen (address_at registers place))
+extent_words registers place _ (tor perm h) = tor_words (bottom_of registers place) (kept registers.xlen (address_at registers place)) perm
+    (kept_small registers.xlen (address_at registers place))
 extent_words registers place _ (block e m) = within_words registers.xlen _ _ e m (kept_inside registers.xlen (address_at registers place))
 
 words_from : (registers : Registers) (place : ℕ) (xs : List Extent) → AreExtentsFrom registers place xs → AllByRecursion IsWords xs
@@ -152,10 +158,12 @@ tor_inside xlen bottom top perm inside =
 
 extent_inside : (registers : Registers) (place : ℕ) (x : Extent) → IsExtentAt registers place x → x.end ≤ space_end registers.xlen
 extent_inside registers place _ (off o) = omega arith
-extent_inside registers place _ (tor perm h) = tor_inside registers.xlen (bottom_of registers place) (kept registers.xlen (address_at registers place)) perm (kept_inside registers.xlen (address_at registers place))
+extent_inside registers place _ (tor perm h) = tor_inside registers.xlen (bottom_of registers place) (kept registers.xlen (address_at registers place)) perm
+    (kept_inside registers.xlen (address_at registers place))
 extent_inside registers place _ (block e m) = min-le_right (e.region.base + 2 ^ e.region.log2) (space_end registers.xlen)
 
-inside_from : (registers : Registers) (place : ℕ) (xs : List Extent) → AreExtentsFrom registers place xs → AllByRecursion (λ x. x.end ≤ space_end registers.xlen) xs
+inside_from : (registers : Registers) (place : ℕ) (xs : List Extent) → AreExtentsFrom registers place xs
+    → AllByRecursion (λ x. x.end ≤ space_end registers.xlen) xs
 inside_from registers place [] are = tt
 inside_from registers place (x ∷ xs) are = (extent_inside registers place x are.0, inside_from registers (place + 1) xs are.1)
 
@@ -164,7 +172,8 @@ all_inside registers xs are = All-from_recursion (λ x. x.end ≤ space_end regi
 
 -- ---- one more entry
 
-pub one_more : (registers : Registers) (place : ℕ) (xs : List Extent) (x : Extent) → AreExtentsFrom registers place xs → IsExtentAt registers (place + length xs) x → AreExtentsFrom registers place (xs ++ x ∷ [])
+pub one_more : (registers : Registers) (place : ℕ) (xs : List Extent) (x : Extent) → AreExtentsFrom registers place xs
+    → IsExtentAt registers (place + length xs) x → AreExtentsFrom registers place (xs ++ x ∷ [])
 one_more registers place [] x are is = let same : place + 0 ≡ place = omega arith in (subst (λ p. IsExtentAt registers p x) same is, tt)
 one_more registers place (y ∷ xs) x are is =
     let same : place + suc (length xs) ≡ place + 1 + length xs = omega arith in
@@ -180,7 +189,8 @@ bits_clear cfg defined = go (cfg / 32 % 4) refl
     go (suc n) is = absurd (defined Bits (λ none. omega (arith, is, none)))
 
 -- it has no fault where its mode is not TOR
-pub no_fault : (cfg address : ℕ) (fault : EncodingFault) → IsDefined cfg → (unlocked cfg / 8 ≡ 1 → ⊥) → address < 2 ^ 54 → HasFault fault (unlocked cfg) address → ⊥
+pub no_fault : (cfg address : ℕ) (fault : EncodingFault) → IsDefined cfg → (unlocked cfg / 8 ≡ 1 → ⊥) → address < 2 ^ 54 → HasFault fault (unlocked cfg) address
+    → ⊥
 no_fault cfg address ReservedPerm defined other small has = defined Permission (omega (arith, has.0), omega (arith, has.1))
 no_fault cfg address Tor defined other small has = other (omega (arith, has, bits_clear cfg defined))
 no_fault cfg address Locked defined other small has = omega (arith, has)
@@ -195,12 +205,15 @@ no_reserved cfg defined (inr (inl six)) = defined Permission (omega (arith, six)
 no_reserved cfg defined (inr (inr more)) = omega (arith, more)
 
 -- one place more has no reserved value
-pub one_defined : (registers : Registers) (n : ℕ) → ((place : ℕ) → place < n → IsDefined (cfg_at registers place)) → IsDefined (cfg_at registers n) → (place : ℕ) → place < n + 1 → IsDefined (cfg_at registers place)
+pub one_defined : (registers : Registers) (n : ℕ) → ((place : ℕ) → place < n → IsDefined (cfg_at registers place)) → IsDefined (cfg_at registers n)
+    → (place : ℕ) → place < n + 1 → IsDefined (cfg_at registers place)
 one_defined registers n below here place less =
-    ⊎_elim (λ under. below place under) (λ over. let same : n ≡ place = omega (arith, over, less) in subst (λ p. IsDefined (cfg_at registers p)) same here) (cases_lt place n)
+    ⊎_elim (λ under. below place under) (λ over. let same : n ≡ place = omega (arith, over, less) in subst (λ p. IsDefined (cfg_at registers p)) same here)
+    (cases_lt place n)
 
 -- one entry more behind the first ones
-pub next_from : (registers : Registers) (place : ℕ) (extents : List Extent) (x : Extent) → place < length extents → AreExtentsFrom registers 0 (take place extents) → IsExtentAt registers place x → AreExtentsFrom registers 0 (take (place + 1) (slice_set extents place x))
+pub next_from : (registers : Registers) (place : ℕ) (extents : List Extent) (x : Extent) → place < length extents
+    → AreExtentsFrom registers 0 (take place extents) → IsExtentAt registers place x → AreExtentsFrom registers 0 (take (place + 1) (slice_set extents place x))
 next_from registers place extents x inside are is =
     let so_far : length (take place extents) ≡ place = length-take-le place extents (omega (arith, inside)) in
     let at : 0 + length (take place extents) ≡ place = omega (arith, so_far) in

@@ -1,5 +1,6 @@
 -- The decision by the first match, as tests one after another.
-use Rattle.std.proofs.Common.{◌≡◌, ◌≢◌, ℕ, ◌+◌, ◌-◌, ◌<◌, ◌≤◌, ◌⊎◌, inl, inr, ⊎_elim, max, List, [], ◌∷◌, ◌++◌, All, Bool, true, false, cond, ◌&&◌, ◌||◌, nat_lt, nat_le, refl, sym, ap, subst, ◌∙◌, arith}
+use Rattle.std.proofs.Common.{◌≡◌, ◌≢◌, ℕ, ◌+◌, ◌-◌, ◌<◌, ◌≤◌, ◌⊎◌, inl, inr, ⊎_elim, max, List, [], ◌∷◌, ◌++◌, All, Bool, true, false, cond, ◌&&◌, ◌||◌}
+use Rattle.std.proofs.Common.{nat_lt, nat_le, refl, sym, ap, subst, ◌∙◌, arith}
 use Rattle.std.specs.List.{AllByRecursion}
 use Rattle.std.proofs.lemmas.Bool.{ltb-true, leb-true, lt-ltb, le-leb, and_from, and_parts, false_from_ne_true, both_ways}
 use Rattle.std.proofs.lemmas.List.Elements.{All-nil, All-cons, All-head, All-tail}
@@ -65,7 +66,8 @@ contained x a h =
 
 held : (x : Extent) (a : Access) → is_machine a.mode ≡ false → grants x a ≡ true → holds x.perm a.kind ≡ true
 held x a user h =
-    let both : ((nat_le x.base a.address && nat_le (a.address + a.size) x.end) ≡ true) × ((is_machine a.mode || holds x.perm a.kind) ≡ true) = and_parts _ _ h in
+    let both : ((nat_le x.base a.address && nat_le (a.address + a.size) x.end) ≡ true) × ((is_machine a.mode || holds x.perm a.kind) ≡ true) = and_parts _ _ h
+    in
     ap (λ t. t || holds x.perm a.kind) (sym user) ∙ both.1
 
 -- ---- a list
@@ -91,10 +93,17 @@ permits_from_test (x ∷ xs) a user words h = go (touches x a) refl h (permits_f
     go true is h rest = record { extent = x; first = at_once x xs a (Meets-from_test x a words.0 is); whole = contained x a h; may = held x a user h }
     go false is h rest =
         let p = rest h in
-        record { extent = p.extent; first = later x xs a p.extent (λ m. both_ways (touches x a) is (test_from_Meets x a m)) p.first; whole = p.whole; may = p.may }
+        record {
+          extent = p.extent;
+          first = later x xs a p.extent (λ m. both_ways (touches x a) is (test_from_Meets x a m)) p.first;
+          whole = p.whole;
+          may =
+              p.may;
+        }
 
 -- the answer goes by what comes after the extents that do not meet the access
-through_after : (before after : List Extent) (a : Access) → AllByRecursion IsWords (before ++ after) → NoneMeets before a → lets_through (before ++ after) a ≡ lets_through after a
+through_after : (before after : List Extent) (a : Access) → AllByRecursion IsWords (before ++ after) → NoneMeets before a
+    → lets_through (before ++ after) a ≡ lets_through after a
 through_after [] after a words none = refl
 through_after (x ∷ before) after a words none =
     let P : Extent → Type 0 = λ z. ¬ Meets z a in

@@ -1,5 +1,6 @@
 -- Extents mean a view exactly where they give each byte the view's permission and cut no access that the view lets through.
-use Rattle.std.proofs.Common.{◌≡◌, ◌≢◌, ℕ, ◌+◌, ◌/◌, ◌^◌, ◌<◌, ◌≤◌, ◌↔◌, ◌⊎◌, inl, inr, ⊎_elim, List, [], ◌∷◌, ◌++◌, All, Bool, true, false, cond, ◌&&◌, nat_lt, nat_le, refl, sym, ap, subst, ◌∙◌, arith}
+use Rattle.std.proofs.Common.{◌≡◌, ◌≢◌, ℕ, ◌+◌, ◌/◌, ◌^◌, ◌<◌, ◌≤◌, ◌↔◌, ◌⊎◌, inl, inr, ⊎_elim, List, [], ◌∷◌, ◌++◌, All, Bool, true, false, cond, ◌&&◌, nat_lt}
+use Rattle.std.proofs.Common.{nat_le, refl, sym, ap, subst, ◌∙◌, arith}
 use Rattle.std.specs.List.{AllByRecursion}
 use Rattle.std.proofs.lemmas.Bool.{ltb-true, leb-true, lt-ltb, le-leb, and_from, and_parts, false_from_ne_true, both_ways}
 use Rattle.std.proofs.lemmas.List.Elements.{All-nil, All-cons, All-head, All-tail, recursion_from_All}
@@ -25,7 +26,8 @@ tail_is : (x y : Extent) (xs ys : List Extent) → x ∷ xs ≡ y ∷ ys → xs 
 tail_is x y xs ys h = cc
 
 same_match :
-    (a : Access) (before others after rest : List Extent) (x y : Extent) → before ++ x ∷ after ≡ others ++ y ∷ rest → NoneMeets before a → NoneMeets others a → Meets x a → Meets y a
+    (a : Access) (before others after rest : List Extent) (x y : Extent) → before ++ x ∷ after ≡ others ++ y ∷ rest → NoneMeets before a → NoneMeets others a
+    → Meets x a → Meets y a
     → x ≡ y
 same_match a [] [] after rest x y h p q m n = head_is x y after rest h
 same_match a [] (z ∷ others) after rest x y h p q m n =
@@ -45,7 +47,8 @@ pub first_of_all : (xs : List Extent) (a : Access) → AllByRecursion IsWords xs
 first_of_all [] a words = inl (All-nil (λ x. ¬ Meets x a))
 first_of_all (x ∷ xs) a words = go (touches x a) refl (first_of_all xs a words.1)
   where
-    go : (t : Bool) → touches x a ≡ t → NoneMeets xs a ⊎ ((y : Extent) × IsFirstMatch xs a y) → NoneMeets (x ∷ xs) a ⊎ ((y : Extent) × IsFirstMatch (x ∷ xs) a y)
+    go : (t : Bool) → touches x a ≡ t → NoneMeets xs a ⊎ ((y : Extent) × IsFirstMatch xs a y)
+        → NoneMeets (x ∷ xs) a ⊎ ((y : Extent) × IsFirstMatch (x ∷ xs) a y)
     go true is rest = inr (x, at_once x xs a (Meets-from_test x a words.0 is))
     go false is rest =
         let off : ¬ Meets x a = λ m. both_ways (touches x a) is (test_from_Meets x a m) in
@@ -74,7 +77,8 @@ module _ (a : Access) where
   perm_after [] after none = refl
   perm_after (x ∷ before) after none =
       let P : Extent → Type 0 = λ z. ¬ Meets z a in
-      ap (λ t. cond t x.perm (perm_at (before ++ after) a.address)) (off_first x (All-head P x before none)) ∙ perm_after before after (All-tail P x before none)
+      ap (λ t. cond t x.perm (perm_at (before ++ after) a.address)) (off_first x (All-head P x before none))
+      ∙ perm_after before after (All-tail P x before none)
 
   perm_none : (xs : List Extent) → NoneMeets xs a → perm_at xs a.address ≡ NoAccess
   perm_none [] none = refl
@@ -96,7 +100,8 @@ never_cut xs view means a aligned inside user may x first =
     subst (λ y. ContainsAll y a) (one_match xs a p.extent x p.first first) p.whole
 
 pub means_from_bytes :
-    (xs : List Extent) (view : View) → AllByRecursion IsWords xs → ((byte : ℕ) → byte < 2 ^ 56 → perm_at xs byte ≡ view (byte / 4096)) → IsNeverCut xs view → ExtentsMean xs view
+    (xs : List Extent) (view : View) → AllByRecursion IsWords xs → ((byte : ℕ) → byte < 2 ^ 56 → perm_at xs byte ≡ view (byte / 4096)) → IsNeverCut xs view
+    → ExtentsMean xs view
 means_from_bytes xs view words bytes uncut a aligned inside user = (there, back)
   where
     here : perm_at xs a.address ≡ view (a.address / 4096)

@@ -1,5 +1,6 @@
 -- A list means a view exactly where it gives each byte the view's permission and no access that the view lets through is cut.
-use Rattle.std.proofs.Common.{◌≡◌, ℕ, ◌+◌, ◌/◌, ◌^◌, ◌<◌, ◌↔◌, ◌⊎◌, inl, inr, ⊎_elim, List, [], ◌∷◌, ◌++◌, Bool, true, false, cond, nat_lt, nat_le, refl, sym, ap, subst, ◌∙◌, arith}
+use Rattle.std.proofs.Common.{◌≡◌, ℕ, ◌+◌, ◌/◌, ◌^◌, ◌<◌, ◌↔◌, ◌⊎◌, inl, inr, ⊎_elim, List, [], ◌∷◌, ◌++◌, Bool, true, false, cond, nat_lt, nat_le, refl, sym}
+use Rattle.std.proofs.Common.{ap, subst, ◌∙◌, arith}
 use Rattle.std.proofs.lemmas.Bool.{ltb-true, leb-true, lt-ltb, le-leb, and_from, and_parts, false_from_ne_true, both_ways}
 use Rattle.std.proofs.lemmas.List.Elements.{All-nil, All-cons, All-head, All-tail}
 use Rattle.pmp_encoding.specs.declared.perm.Perm.TheVariants.{NoAccess}
@@ -24,7 +25,8 @@ tail_is : (e d : Entry) (es ds : List Entry) → e ∷ es ≡ d ∷ ds → es �
 tail_is e d es ds h = cc
 
 same_match :
-    (a : Access) (before others after rest : List Entry) (e d : Entry) → before ++ e ∷ after ≡ others ++ d ∷ rest → NoneMeets before a → NoneMeets others a → Meets e.region a → Meets d.region a
+    (a : Access) (before others after rest : List Entry) (e d : Entry) → before ++ e ∷ after ≡ others ++ d ∷ rest → NoneMeets before a → NoneMeets others a
+    → Meets e.region a → Meets d.region a
     → e ≡ d
 same_match a [] [] after rest e d h p q m n = head_is e d after rest h
 same_match a [] (x ∷ others) after rest e d h p q m n =
@@ -44,7 +46,8 @@ first_of_all : (entries : List Entry) (a : Access) → NoneMeets entries a ⊎ (
 first_of_all [] a = inl (All-nil (λ x. ¬ Meets x.region a))
 first_of_all (e ∷ es) a = go (meets e.region a) refl (first_of_all es a)
   where
-    go : (t : Bool) → meets e.region a ≡ t → NoneMeets es a ⊎ ((d : Entry) × IsFirstMatch es a d) → NoneMeets (e ∷ es) a ⊎ ((d : Entry) × IsFirstMatch (e ∷ es) a d)
+    go : (t : Bool) → meets e.region a ≡ t → NoneMeets es a ⊎ ((d : Entry) × IsFirstMatch es a d)
+        → NoneMeets (e ∷ es) a ⊎ ((d : Entry) × IsFirstMatch (e ∷ es) a d)
     go true is rest =
         inr (e, record { before = []; after = es; split = refl; missed = All-nil (λ x. ¬ Meets x.region a); met = Meets-from_test e.region a is })
     go false is rest =
@@ -87,7 +90,8 @@ module _ (a : Access) where
   perm_after [] after none = refl
   perm_after (e ∷ before) after none =
       let P : Entry → Type 0 = λ x. ¬ Meets x.region a in
-      ap (λ t. cond t e.perm (perm_at NoAccess (before ++ after) a.address)) (off_first e (All-head P e before none)) ∙ perm_after before after (All-tail P e before none)
+      ap (λ t. cond t e.perm (perm_at NoAccess (before ++ after) a.address)) (off_first e (All-head P e before none))
+      ∙ perm_after before after (All-tail P e before none)
 
   perm_none : (entries : List Entry) → NoneMeets entries a → perm_at NoAccess entries a.address ≡ NoAccess
   perm_none [] none = refl
@@ -111,7 +115,8 @@ never_cut entries view means a aligned inside user may e first = from ((means a 
     from (unmatched none machine) = absurd (user machine)
 
 pub means_from_bytes :
-    (entries : List Entry) (view : View) → ((address : ℕ) → address < 2 ^ 56 → perm_at NoAccess entries address ≡ view (address / 4096)) → IsNeverCut entries view → Means entries view
+    (entries : List Entry) (view : View) → ((address : ℕ) → address < 2 ^ 56 → perm_at NoAccess entries address ≡ view (address / 4096))
+    → IsNeverCut entries view → Means entries view
 means_from_bytes entries view bytes uncut a aligned inside user = (there, back)
   where
     here : perm_at NoAccess entries a.address ≡ view (a.address / 4096)

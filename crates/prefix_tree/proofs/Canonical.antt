@@ -1,5 +1,6 @@
 -- The canonical tree of a view, and of the runs that meet a block.
-use Rattle.std.proofs.Common.{◌≡◌, ℕ, zero, suc, ◌+◌, ◌-◌, ◌*◌, ◌^◌, ◌<◌, ◌≤◌, ◌⊎◌, ⊎_elim, List, [], ◌∷◌, ◌++◌, length, take, drop, get_or, slice_index_or, count_by, None, Some, refl, sym, ap, ap₂, ◌∙◌, arith, pow_pos}
+use Rattle.std.proofs.Common.{◌≡◌, ℕ, zero, suc, ◌+◌, ◌-◌, ◌*◌, ◌^◌, ◌<◌, ◌≤◌, ◌⊎◌, ⊎_elim, List, [], ◌∷◌, ◌++◌, length, take, drop, get_or, slice_index_or}
+use Rattle.std.proofs.Common.{count_by, None, Some, refl, sym, ap, ap₂, ◌∙◌, arith, pow_pos}
 use Rattle.std.proofs.lemmas.List.{take-append-drop}
 use Rattle.pmp_encoding.specs.declared.perm.Perm.{Perm}
 use Rattle.pmp_encoding.specs.declared.perm.Perm.TheVariants.{NoAccess}
@@ -57,7 +58,8 @@ joined_split lower upper none = joins_split lower upper (joined lower upper) (jo
 
 -- a block that is not of one permission is split into its halves' trees
 pub tree_at-halves :
-    (v : ℕ → Perm) (h k first : ℕ) → h ≡ suc k → one_perm (tree_at v h first) ≡ None → tree_at v h first ≡ Split (tree_at v k first) (tree_at v k (first + 2 ^ k))
+    (v : ℕ → Perm) (h k first : ℕ) → h ≡ suc k → one_perm (tree_at v h first) ≡ None
+    → tree_at v h first ≡ Split (tree_at v k first) (tree_at v k (first + 2 ^ k))
 unfolding tree_at
 tree_at-halves v h k first e none =
     let whole : tree_at v h first ≡ joined (tree_at v k first) (tree_at v k (first + 2 ^ k)) = ap (λ n. tree_at v n first) e in
@@ -78,7 +80,8 @@ runs_taken n runs are = runs_first 0 NoAccess (take n runs) (drop n runs) (runs_
 
 runs_dropped : (n : ℕ) (runs : List Run) → AreRuns runs → AreRuns (drop n runs)
 runs_dropped n runs are =
-    any_runs (last_end 0 (take n runs)) (last_perm NoAccess (take n runs)) (drop n runs) (runs_second 0 NoAccess (take n runs) (drop n runs) (runs_parted n runs are))
+    any_runs (last_end 0 (take n runs)) (last_perm NoAccess (take n runs)) (drop n runs)
+    (runs_second 0 NoAccess (take n runs) (drop n runs) (runs_parted n runs are))
 
 -- the runs that meet each half
 pub lower_runs :
@@ -146,7 +149,8 @@ pub more_runs :
     (run : Run) (runs : List Run) (h first : ℕ) → AreBlockRuns (run ∷ runs) first h → (first < run.first) ⊎ (end_of run < first + 2 ^ h)
     → one_perm (tree_at (view_of_runs (run ∷ runs)) h first) ≡ None
 more_runs run runs h first are cut =
-    let next = next_is (run ∷ runs) first 0 run are.are_runs (λ j d inside. absurd (omega arith)) (all_behind 0 first (first + 2 ^ h) (run ∷ runs) are.meet) (omega arith) in
+    let next = next_is (run ∷ runs) first 0 run are.are_runs (λ j d inside. absurd (omega arith)) (all_behind 0 first (first + 2 ^ h) (run ∷ runs) are.meet)
+    (omega arith) in
     let view = view_of_runs (run ∷ runs) in
     not_one (tree_at view h first)
     (λ q same.

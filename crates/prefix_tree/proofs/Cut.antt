@@ -1,5 +1,6 @@
 -- The runs that meet a block, cut at its middle.
-use Rattle.std.proofs.Common.{◌≡◌, ℕ, zero, suc, ◌+◌, ◌-◌, ◌^◌, ◌<◌, ◌≤◌, ⊎_elim, List, [], ◌∷◌, take, drop, get_or, Bool, false, cond, nat_lt, nat_le, count_by, refl, sym, ap, arith}
+use Rattle.std.proofs.Common.{◌≡◌, ℕ, zero, suc, ◌+◌, ◌-◌, ◌^◌, ◌<◌, ◌≤◌, ⊎_elim, List, [], ◌∷◌, take, drop, get_or, Bool, false, cond, nat_lt, nat_le}
+use Rattle.std.proofs.Common.{count_by, refl, sym, ap, arith}
 use Rattle.std.proofs.lemmas.Bool.{cases_lt, lt-ltb, le-ltb, le-leb, lt-leb, and_left, and_right}
 use Rattle.std.proofs.lemmas.List.Recursion.{is_count_by}
 use Rattle.pmp_encoding.specs.declared.perm.Perm.TheVariants.{NoAccess}
@@ -25,7 +26,8 @@ counted p [] = 0
 counted p (run ∷ runs) = cond (p run) (suc (counted p runs)) (counted p runs)
 
 counted-is : (p : Run → Bool) (runs : List Run) → counted p runs ≡ count_by p runs
-counted-is p runs = is_count_by (counted p) p refl (λ run rest. let e : suc (counted p rest) ≡ 1 + counted p rest = omega arith in ap (λ n. cond (p run) n (counted p rest)) e) runs
+counted-is p runs = is_count_by (counted p) p refl (λ run rest. let e : suc (counted p rest) ≡ 1 + counted p rest = omega arith in ap
+    (λ n. cond (p run) n (counted p rest)) e) runs
 
 -- runs after a page are none of those that begin before it, or end before it
 none_begin : (at low high page : ℕ) (runs : List Run) → page ≤ at → MeetBehind at low high runs → counted (begins_before page) runs ≡ 0
@@ -68,15 +70,19 @@ begun_view at low high page q (run ∷ runs) meet before =
     rw (lt-ltb run.first page below) (ap (cond (in_range run.first run.count q) run.perm) (begun_view (end_of run) low high page q runs meet.1 before)))
     (λ above.
     rw (le-ltb run.first page above, none_begin (end_of run) low high page runs (omega arith) meet.1)
-    (sym (not_yet (q + 1) low high q (run ∷ runs) (omega arith) (meet_earlier run.first (q + 1) low high (run ∷ runs) (omega arith) (record { rising = omega arith; some = meet.0.some; begins = meet.0.begins; ends = meet.0.ends }, meet.1)))))
+    (sym (not_yet (q + 1) low high q (run ∷ runs) (omega arith) (meet_earlier run.first (q + 1) low high (run ∷ runs) (omega arith)
+    (record { rising = omega arith; some = meet.0.some; begins = meet.0.begins; ends = meet.0.ends }, meet.1)))))
     (cases_lt run.first page)
 
 -- ---- the upper half
 
 behind_meet : (at low high page : ℕ) (runs : List Run) → page ≤ at → MeetBehind at low high runs → MeetBehind at page high runs
 behind_meet at low high page [] le meet = tt
-behind_meet at low high page (run ∷ runs) le meet =
-    (record { rising = meet.0.rising; some = meet.0.some; begins = meet.0.begins; ends = omega arith }, behind_meet (end_of run) low high page runs (omega arith) meet.1)
+behind_meet at low high page (run ∷ runs) le meet = (
+  record { rising = meet.0.rising; some = meet.0.some; begins = meet.0.begins; ends = omega arith },
+  behind_meet (end_of run) low high page runs
+      (omega arith) meet.1,
+)
 
 ended_meet :
     (at low high page : ℕ) (runs : List Run) → MeetBehind at low high runs → MeetBehind at page high (drop (counted (ends_before page) runs) runs)
@@ -84,8 +90,11 @@ ended_meet at low high page [] meet = tt
 ended_meet at low high page (run ∷ runs) meet =
     ⊎_elim
     (λ goes.
-    rw (lt-leb run.count (page - run.first) goes, none_end (end_of run) low high page runs (omega arith) meet.1)
-    (record { rising = meet.0.rising; some = meet.0.some; begins = meet.0.begins; ends = omega arith }, behind_meet (end_of run) low high page runs (omega arith) meet.1))
+    rw (lt-leb run.count (page - run.first) goes, none_end (end_of run) low high page runs (omega arith) meet.1) (
+      record { rising = meet.0.rising; some = meet.0.some; begins = meet.0.begins; ends = omega arith },
+      behind_meet (end_of run) low high page runs
+          (omega arith) meet.1,
+    ))
     (λ ends.
     rw (le-leb run.count (page - run.first) ends)
     (meet_earlier (end_of run) at page high (drop (counted (ends_before page) runs) runs) (omega arith) (ended_meet (end_of run) low high page runs meet.1)))
@@ -156,14 +165,27 @@ ended_is at low high page (run ∷ runs) d meet =
     (λ below.
     ⊎_elim
     (λ goes.
-    rw (lt-ltb run.first page below, lt-leb run.count (page - run.first) goes, none_begin (end_of run) low high page runs (omega arith) meet.1, none_end (end_of run) low high page runs (omega arith) meet.1)
+    rw (
+      lt-ltb run.first page below,
+      lt-leb run.count (page - run.first) goes,
+      none_begin (end_of run) low high page runs (omega arith) meet.1,
+      none_end
+          (end_of run) low high page runs (omega arith) meet.1,
+    )
     (λ ends. absurd (omega (arith, ends, goes)), λ later. refl))
     (λ ends.
     rw (lt-ltb run.first page below, le-leb run.count (page - run.first) ends)
-    (behind_ended run runs d page (counted (begins_before page) runs) (counted (ends_before page) runs) ends (ended_is (end_of run) low high page runs d meet.1)))
+    (behind_ended run runs d page (counted (begins_before page) runs) (counted (ends_before page) runs) ends
+    (ended_is (end_of run) low high page runs d meet.1)))
     (cases_lt (page - run.first) run.count))
     (λ above.
-    rw (le-ltb run.first page above, lt-leb run.count (page - run.first) (omega (arith, meet.0.some)), none_begin (end_of run) low high page runs (omega arith) meet.1, none_end (end_of run) low high page runs (omega arith) meet.1)
+    rw (
+      le-ltb run.first page above,
+      lt-leb run.count (page - run.first) (omega (arith, meet.0.some)),
+      none_begin (end_of run) low high page runs
+          (omega arith) meet.1,
+      none_end (end_of run) low high page runs (omega arith) meet.1,
+    )
     refl)
     (cases_lt run.first page)
 

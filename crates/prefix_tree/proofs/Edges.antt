@@ -50,7 +50,8 @@ edge_step p q = step (perm_eq q NoAccess) (perm_eq q p) (perm_eq p NoAccess) one
         let yes : perm_eq q NoAccess ≡ true = perm_eq-same q NoAccess same in
         let no : ⊥ = cc in no)
 
-edges_start : (p : Perm) (tree : PermTree) → edge p (first_perm tree) + edges_inside tree + some (last_perm tree) ≤ 2 * (starts p (first_perm tree) + starts_inside tree) + some p
+edges_start : (p : Perm) (tree : PermTree) → edge p (first_perm tree) + edges_inside tree + some (last_perm tree) ≤ 2 *
+    (starts p (first_perm tree) + starts_inside tree) + some p
 edges_start p (Uniform q) = omega (arith, edge_step p q)
 edges_start p (Split lower upper) = omega (arith, edges_start p lower, edges_start (last_perm lower) upper)
 

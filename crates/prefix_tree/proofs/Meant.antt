@@ -104,7 +104,8 @@ two_above v k first two =
     let f : first + 2 ^ k + two.1 ≡ first + (2 ^ k + two.1) = omega arith in
     (2 ^ k + i, 2 ^ k + j, omega arith, omega arith, λ same. two.4 (ap v e ∙ same ∙ sym (ap v f)))
 
-has_two : (v : ℕ → Perm) (k first : ℕ) (lower upper : PermTree) → IsCanonical (Split lower upper) → TreeMeansAt v (suc k) first (Split lower upper) → HasTwo v (suc k) first
+has_two : (v : ℕ → Perm) (k first : ℕ) (lower upper : PermTree) → IsCanonical (Split lower upper) → TreeMeansAt v (suc k) first (Split lower upper)
+    → HasTwo v (suc k) first
 has_two v k first (Uniform p) (Uniform q) canonical means =
     let double : 2 ^ suc k ≡ 2 ^ k * 2 = pow-suc 2 k in
     let pos : 0 < 2 ^ k = pow_pos k in
@@ -118,8 +119,12 @@ has_two v (suc k) first (Uniform p) (Split l u) canonical means = two_above v (s
 pub splits_mixed : (v : ℕ → Perm) (k first : ℕ) (tree : PermTree) → IsCanonical tree → TreeMeansAt v k first tree → SplitsOnlyMixedAt v k first tree
 splits_mixed v k first (Uniform q) canonical means = tt
 splits_mixed v zero first (Split lower upper) canonical means = absurd means
-splits_mixed v (suc k) first (Split lower upper) canonical means =
-    (has_two v k first lower upper canonical means, splits_mixed v k first lower canonical.1 means.0, splits_mixed v k (first + 2 ^ k) upper canonical.2 means.1)
+splits_mixed v (suc k) first (Split lower upper) canonical means = (
+  has_two v k first lower upper canonical means,
+  splits_mixed v k first lower canonical.1 means.0,
+  splits_mixed v k
+      (first + 2 ^ k) upper canonical.2 means.1,
+)
 
 -- a tree means its own view
 pub own_means : (tree : PermTree) → Fits 44 tree → TreeMeans (view_of_tree tree) tree

@@ -1,5 +1,6 @@
 -- Chains of blocks.
-use Rattle.std.proofs.Common.{◌≡◌, ◌≢◌, ℕ, zero, suc, ◌+◌, ◌-◌, ◌*◌, ◌/◌, ◌^◌, ◌<◌, ◌≤◌, ⊎_elim, List, [], ◌∷◌, length, slice_index_or, None, Some, true, false, cond, refl, sym, ap, ap₂, subst, ◌∙◌, arith, pow_mono, pow_pos, pow-add, pow-suc, add-mul, mul-le-mul_right, suc-mul}
+use Rattle.std.proofs.Common.{◌≡◌, ◌≢◌, ℕ, zero, suc, ◌+◌, ◌-◌, ◌*◌, ◌/◌, ◌^◌, ◌<◌, ◌≤◌, ⊎_elim, List, [], ◌∷◌, length, slice_index_or, None, Some, true, false}
+use Rattle.std.proofs.Common.{cond, refl, sym, ap, ap₂, subst, ◌∙◌, arith, pow_mono, pow_pos, pow-add, pow-suc, add-mul, mul-le-mul_right, suc-mul}
 use Rattle.std.proofs.Math.Nat.{div-eq_of_lt, div-lt_iff_lt-mul, div-mul-le_self, lt-div-mul-add}
 use Rattle.std.proofs.lemmas.Nat.{leading_length, xor_lt, xor_shr}
 use Rattle.std.specs.Int.Bits.{bit_xor, xor_assoc, xor_self, xor_zero_r}
@@ -27,13 +28,15 @@ pub nested_lower :
     (n place : ℕ) (before behind : Perm) (tree : PermTree) → place < 2 ^ n
     → nested (suc n) place before behind tree ≡ Split (nested n place before behind tree) (Uniform behind)
 nested_lower n place before behind tree low =
-    ap (λ t. cond t (Split (nested n place before behind tree) (Uniform behind)) (Split (Uniform before) (nested n (place - 2 ^ n) before behind tree))) (lt-ltb place (2 ^ n) low)
+    ap (λ t. cond t (Split (nested n place before behind tree) (Uniform behind)) (Split (Uniform before) (nested n (place - 2 ^ n) before behind tree)))
+    (lt-ltb place (2 ^ n) low)
 
 pub nested_upper :
     (n place : ℕ) (before behind : Perm) (tree : PermTree) → 2 ^ n ≤ place
     → nested (suc n) place before behind tree ≡ Split (Uniform before) (nested n (place - 2 ^ n) before behind tree)
 nested_upper n place before behind tree high =
-    ap (λ t. cond t (Split (nested n place before behind tree) (Uniform behind)) (Split (Uniform before) (nested n (place - 2 ^ n) before behind tree))) (le-ltb place (2 ^ n) high)
+    ap (λ t. cond t (Split (nested n place before behind tree) (Uniform behind)) (Split (Uniform before) (nested n (place - 2 ^ n) before behind tree)))
+    (le-ltb place (2 ^ n) high)
 
 pub splits-nested : (n place : ℕ) (before behind : Perm) (tree : PermTree) → splits (nested n place before behind tree) ≡ n + splits tree
 splits-nested zero place before behind tree = omega arith
@@ -174,7 +177,8 @@ nests v (suc n) h k first place before behind e less cut b a =
     let size : 2 ^ (n + k) ≡ 2 ^ n * 2 ^ k = pow-add 2 n k in
     let wide = wider h (n + k) up in
     ⊎_elim
-    (λ low. nests_lower v n h k first place before behind up low a (nests v n (n + k) k first place before behind refl low cut b (λ i from to. a i from (omega (arith, wide, to)))))
+    (λ low. nests_lower v n h k first place before behind up low a (nests v n (n + k) k first place before behind refl low cut b
+    (λ i from to. a i from (omega (arith, wide, to)))))
     (λ high.
     let back : (place - 2 ^ n) * 2 ^ k + 2 ^ n * 2 ^ k ≡ place * 2 ^ k = parts_back place (2 ^ n) (2 ^ k) high in
     nests_upper v n h k first place before behind up high b
@@ -187,7 +191,8 @@ nests v (suc n) h k first place before behind e less cut b a =
 -- ---- the part of a block that has its edges
 
 edge_inside :
-    (v : ℕ → Perm) (k start low : ℕ) (before : Perm) → start < low → low < start + 2 ^ k → v start ≡ before → v low ≢ before → one_perm (tree_at v k start) ≡ None
+    (v : ℕ → Perm) (k start low : ℕ) (before : Perm) → start < low → low < start + 2 ^ k → v start ≡ before → v low ≢ before
+    → one_perm (tree_at v k start) ≡ None
 edge_inside v k start low before begins ends first apart =
     not_one (tree_at v k start)
     (λ q same.
@@ -205,7 +210,8 @@ part_chained v first height edges part are is =
     let k = height - part.levels in
     let level : height ≡ part.levels + k = omega (arith, is.within) in
     let cut : one_perm (tree_at v k part.first) ≡ None =
-    edge_inside v k part.first edges.low edges.before is.begins (omega (arith, are.rising, is.reaches)) (are.before part.first (omega (arith, is.starts)) is.begins) are.apart in
+    edge_inside v k part.first edges.low edges.before is.begins (omega (arith, are.rising, is.reaches))
+    (are.before part.first (omega (arith, is.starts)) is.begins) are.apart in
     (nests v part.levels height k first part.place edges.before edges.behind level is.placed (ap (λ x. one_perm (tree_at v k x)) (sym is.starts) ∙ cut)
     (λ i to. are.before (first + i) (omega arith) (omega (arith, is.starts, is.begins, to)))
     (λ i from to. are.behind (first + i) (omega (arith, is.starts, is.reaches, from)) (omega (arith, to)))).0

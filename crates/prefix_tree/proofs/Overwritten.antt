@@ -49,7 +49,8 @@ apart_means v k first from count perm tree apart means =
     means_along v (overwritten v from count perm) k first tree
     (λ i h.
     let out : in_range from count (first + i) ≡ false =
-    ⊎_elim (λ none. ⊎_elim (λ before. and_left _ _ (lt-leb from (first + i) before)) (λ behind. and_right _ _ (le-ltb (first + i) (from + count) (omega arith))) (cases_lt (first + i) from))
+    ⊎_elim (λ none. ⊎_elim (λ before. and_left _ _ (lt-leb from (first + i) before)) (λ behind. and_right _ _ (le-ltb (first + i) (from + count) (omega arith)))
+    (cases_lt (first + i) from))
     (λ outside.
     ⊎_elim (λ below. and_right _ _ (le-ltb (first + i) (from + count) (omega arith))) (λ above. and_left _ _ (lt-leb from (first + i) (omega arith))) outside)
     apart in

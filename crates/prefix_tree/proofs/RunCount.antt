@@ -1,5 +1,6 @@
 -- How many runs a view has, counted page by page, in a tree and in a list of runs.
-use Rattle.std.proofs.Common.{◌≡◌, ◌≢◌, ℕ, zero, suc, ◌+◌, ◌-◌, ◌^◌, ◌<◌, ◌≤◌, List, [], ◌∷◌, length, Bool, true, false, if◌then◌else◌, refl, sym, ap, ap₂, ◌∙◌, arith, pow-suc, pow_pos}
+use Rattle.std.proofs.Common.{◌≡◌, ◌≢◌, ℕ, zero, suc, ◌+◌, ◌-◌, ◌^◌, ◌<◌, ◌≤◌, List, [], ◌∷◌, length, Bool, true, false, if◌then◌else◌, refl, sym, ap, ap₂, ◌∙◌}
+use Rattle.std.proofs.Common.{arith, pow-suc, pow_pos}
 use Rattle.std.specs.Prelude.{◌||◌}
 use Rattle.std.proofs.lemmas.Bool.{lt-ltb, le-ltb, le-leb, lt-leb, and_left, and_right, and_from}
 use Rattle.pmp_encoding.specs.declared.perm.Perm.{Perm}
@@ -55,7 +56,8 @@ starts_over-append v before at (suc m) n =
     starts_over-append v (v at) (suc at) m n in
     let moved : starts_over v (last_over v (v at) (suc at) m) (suc at + m) n ≡ starts_over v (last_over v (v at) (suc at) m) (at + suc m) n =
     ap (λ a. starts_over v (last_over v (v at) (suc at) m) a n) f in
-    ap (starts_over v before at) e ∙ (let sum : starts before (v at) + starts_over v (v at) (suc at) (m + n) ≡ starts before (v at) + starts_over v (v at) (suc at) m + starts_over v (last_over v (v at) (suc at) m) (at + suc m) n = omega arith in sum)
+    ap (starts_over v before at) e
+    ∙ (let sum : starts before (v at) + starts_over v (v at) (suc at) (m + n) ≡ starts before (v at) + starts_over v (v at) (suc at) m + starts_over v (last_over v (v at) (suc at) m) (at + suc m) n = omega arith in sum)
 
 last_over-append :
     (v : ℕ → Perm) (before : Perm) (at m n : ℕ) → last_over v before at (m + n) ≡ last_over v (last_over v before at m) (at + m) n
@@ -101,7 +103,8 @@ some_last v before q at (suc n) some all = rw (all_head v q at n all) (all_last 
 none_start : (v : ℕ → Perm) (before : Perm) (at n : ℕ) → IsAll v NoAccess at n → starts_over v before at n ≡ 0
 none_start v before at zero all = refl
 none_start v before at (suc n) all =
-    rw (all_head v NoAccess at n all) (let none : starts_over v NoAccess (suc at) n ≡ 0 = all_none v NoAccess (suc at) n (all_tail v NoAccess at n all) in omega arith)
+    rw (all_head v NoAccess at n all) (let none : starts_over v NoAccess (suc at) n ≡ 0 = all_none v NoAccess (suc at) n
+    (all_tail v NoAccess at n all) in omega arith)
 
 -- ---- the runs of a tree
 
@@ -123,7 +126,8 @@ starts_tree v before (suc k) at (Split lower upper) means =
     let high : starts_over v (last_perm lower) (at + 2 ^ k) (2 ^ k) ≡ starts (last_perm lower) (first_perm upper) + starts_inside upper =
     starts_tree v (last_perm lower) k (at + 2 ^ k) upper means.1 in
     let cut : starts_over v before at (2 ^ k + 2 ^ k) ≡ starts_over v before at (2 ^ k) + starts_over v (last_perm lower) (at + 2 ^ k) (2 ^ k) =
-    starts_over-append v before at (2 ^ k) (2 ^ k) ∙ ap (λ p. starts_over v before at (2 ^ k) + starts_over v p (at + 2 ^ k) (2 ^ k)) (last_tree v before k at lower means.0) in
+    starts_over-append v before at (2 ^ k) (2 ^ k) ∙ ap (λ p. starts_over v before at (2 ^ k) + starts_over v p (at + 2 ^ k) (2 ^ k))
+    (last_tree v before k at lower means.0) in
     ap (starts_over v before at) double ∙ cut ∙ omega arith
 
 -- ---- the runs of a list
@@ -163,7 +167,8 @@ run_counts :
 run_counts v before at g m run runs are e same rest =
     let gap : IsAll v NoAccess at g = λ i h. same i (omega arith) ∙ before_run (at + i) run runs are.1 (omega arith) in
     let held : IsAll v run.perm (at + g) run.count =
-    λ i h. let f : at + g + i ≡ at + (g + i) = omega arith in ap v f ∙ same (g + i) (omega arith) ∙ in_run (at + (g + i)) run runs (omega arith) (omega arith) in
+    λ i h. let f : at + g + i ≡ at + (g + i) = omega arith in ap v f ∙ same (g + i) (omega arith)
+    ∙ in_run (at + (g + i)) run runs (omega arith) (omega arith) in
     let none : starts_over v before at g ≡ 0 = none_start v before at g gap in
     let l : Perm = last_over v before at g in
     let one : starts_over v (last_over v before at g) (at + g) run.count ≡ 1 =
@@ -175,7 +180,8 @@ run_counts v before at g m run runs are e same rest =
     starts_over-append v before at g (run.count + m) in
     let cut' :
     starts_over v (last_over v before at g) (at + g) (run.count + m)
-    ≡ starts_over v (last_over v before at g) (at + g) run.count + starts_over v (last_over v (last_over v before at g) (at + g) run.count) (at + g + run.count) m =
+    ≡ starts_over v (last_over v before at g) (at + g) run.count + starts_over v (last_over v (last_over v before at g) (at + g) run.count)
+    (at + g + run.count) m =
     starts_over-append v l (at + g) run.count m in
     omega arith
 
@@ -200,7 +206,8 @@ starts_runs v before at n (run ∷ runs) are far same =
     ∙ behind_run (end_of run + i) run runs (omega arith)))
 
 -- a tree has as many runs as any list of maximal runs of its view
-pub runs_in-length : (v : ℕ → Perm) (tree : PermTree) (runs : List Run) → TreeMeans v tree → AreRuns runs → SameView (view_of_runs runs) v → runs_in tree ≡ length runs
+pub runs_in-length : (v : ℕ → Perm) (tree : PermTree) (runs : List Run) → TreeMeans v tree → AreRuns runs → SameView (view_of_runs runs) v
+    → runs_in tree ≡ length runs
 runs_in-length v tree runs means are same =
     sym (starts_tree v NoAccess 44 0 tree means)
     ∙ starts_runs v NoAccess 0 (2 ^ 44) runs are (omega arith) (λ i h. sym (same (0 + i) (omega arith)))

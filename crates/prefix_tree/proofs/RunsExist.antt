@@ -46,7 +46,8 @@ page_run at p = record { first = at; count = 1; perm = p }
 
 -- a run of its own
 apart :
-    (view : ℕ → Perm) (at : ℕ) (p : Perm) (runs : List Run) → at < 2 ^ 44 → AreFrom view (suc at) runs → AreRunsAfter (at + 1) p runs → view at ≡ p → p ≢ NoAccess
+    (view : ℕ → Perm) (at : ℕ) (p : Perm) (runs : List Run) → at < 2 ^ 44 → AreFrom view (suc at) runs → AreRunsAfter (at + 1) p runs → view at ≡ p
+    → p ≢ NoAccess
     → AreFrom view at (page_run at p ∷ runs)
 apart view at p runs inside are behind is some = record {
   are_runs = (record { rising = omega arith; maximal = λ e. some; some = omega arith; allows = some; inside = omega arith }, behind);
@@ -98,7 +99,8 @@ put view at [] inside are some = (page_run at (view at) ∷ [], apart view at (v
 put view at (run ∷ runs) inside are some =
     ⊎_elim
     (λ gap. new_run (λ e. absurd (omega arith)))
-    (λ next. ⊎_elim (λ same. (grown at run ∷ runs, longer view at run runs are (omega (arith, are.are_runs.0.rising)) (sym same))) (λ other. new_run (λ e. other)) (same_or_not run.perm (view at)))
+    (λ next. ⊎_elim (λ same. (grown at run ∷ runs, longer view at run runs are (omega (arith, are.are_runs.0.rising)) (sym same)))
+    (λ other. new_run (λ e. other)) (same_or_not run.perm (view at)))
     (cases_lt (suc at) run.first)
   where
     new_run : (at + 1 ≡ run.first → run.perm ≢ view at) → (new : List Run) × AreFrom view at new

@@ -6,7 +6,8 @@ use Rattle.pmp_encoding.specs.declared.perm.Perm.TheVariants.{NoAccess, Read, Re
 use Rattle.pmp_encoding.specs.Perms.{bits_of, perm_eq}
 
 abbrev perm_from : ℕ → Perm
-perm_from bits = cond (bits == 0) NoAccess (cond (bits == 1) Read (cond (bits == 3) ReadWrite (cond (bits == 4) Execute (cond (bits == 5) ReadExecute ReadWriteExecute))))
+perm_from bits = cond (bits == 0) NoAccess (cond (bits == 1) Read (cond (bits == 3) ReadWrite
+    (cond (bits == 4) Execute (cond (bits == 5) ReadExecute ReadWriteExecute))))
 
 perm_from_bits : (p : Perm) → perm_from (bits_of p) ≡ p
 perm_from_bits NoAccess = refl

@@ -9,10 +9,18 @@ pub point_counts :
 point_counts p [] i most point = omega arith
 point_counts p (x ∷ xs) zero most point =
     let here : p x ≡ false = point.1 0 x (omega arith) (omega arith) in
-    let rest : count_by p xs ≡ 0 = point_counts p xs zero (omega arith) (λ k d low high. absurd (omega arith), λ k d low high. point.1 (suc k) d (omega arith) (omega arith)) in
+    let rest : count_by p xs ≡ 0 = point_counts p xs zero (omega arith) (
+      λ k d low high. absurd (omega arith),
+      λ k d low high. point.1 (suc k) d (omega arith)
+          (omega arith),
+    ) in
     sum_by-cons (λ y. cond (p y) 1 0) x xs ∙ rw here (omega (arith, rest))
 point_counts p (x ∷ xs) (suc i) most point =
     let here : p x ≡ true = point.0 0 x (omega arith) (omega arith) in
     let rest : count_by p xs ≡ i =
-    point_counts p xs i (omega arith) (λ k d low high. point.0 (suc k) d (omega arith) (omega arith), λ k d low high. point.1 (suc k) d (omega arith) (omega arith)) in
+    point_counts p xs i (omega arith) (
+      λ k d low high. point.0 (suc k) d (omega arith) (omega arith),
+      λ k d low high. point.1 (suc k) d (omega arith)
+          (omega arith),
+    ) in
     sum_by-cons (λ y. cond (p y) 1 0) x xs ∙ rw here (omega (arith, rest))

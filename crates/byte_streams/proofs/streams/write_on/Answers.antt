@@ -19,7 +19,8 @@ loop-done-preserved g c =
     record { whole = bytes; well = (c.in_ok-n.ensures.failures, rw (ne_eqb c.in_ok-n.n 0 c.if-n-eq0.false) at c.in_ok-n.ensures.stalls) } in
     record {
       within = omega (arith, bound, length-drop c.loop-done.done c.args.bytes.now);
-      taken = rw (take-add c.loop-done.done c.in_ok-n.n c.args.bytes.now) (takes_then g.W.Sink.contents g.W.Sink.failures g.W.Sink.stalls c.loop-done.invariant.taken taken);
+      taken = rw (take-add c.loop-done.done c.in_ok-n.n c.args.bytes.now)
+          (takes_then g.W.Sink.contents g.W.Sink.failures g.W.Sink.stalls c.loop-done.invariant.taken taken);
     }
 
 pub returns-then-n-eq0 : goal.returns-then-n-eq0

@@ -15,6 +15,14 @@ returns-then-n-gt0 g c =
     let n = c.in_ok-n.n in
     let sink = writing g.W.Sink.contents g.W.Sink.failures g.W.Sink.stalls c.args.sink.now c.write.new.self in
     let taken : TakesAll (take n c.args.bytes.now) sink =
-    record { whole = c.in_ok-n.ensures.bytes; well = (c.in_ok-n.ensures.failures, rw (ne_eqb n 0 (λ e. omega (arith, e, c.if-n-gt0.true))) at c.in_ok-n.ensures.stalls) } in
+    record {
+      whole = c.in_ok-n.ensures.bytes;
+      well = (
+        c.in_ok-n.ensures.failures,
+        rw
+            (ne_eqb n 0 (λ e. omega (arith, e, c.if-n-gt0.true))) at c.in_ok-n.ensures.stalls,
+      );
+    } in
     rw (take-append-drop n c.args.bytes.now) at
-    (prints_on g.W.Sink.contents g.W.Sink.failures g.W.Sink.stalls c.args.sink.now c.write.new.self c.write_on.new.sink (take n c.args.bytes.now) (drop n c.args.bytes.now) c.write_on.result taken (rw (rest_from n c.args.bytes.now) at c.write_on.ensures))
+    (prints_on g.W.Sink.contents g.W.Sink.failures g.W.Sink.stalls c.args.sink.now c.write.new.self c.write_on.new.sink (take n c.args.bytes.now)
+    (drop n c.args.bytes.now) c.write_on.result taken (rw (rest_from n c.args.bytes.now) at c.write_on.ensures))

@@ -12,7 +12,8 @@ invariant-loop-size l = record {
   ended : HaveEndedBut l.sizes l.page l.slots;
   stays : IfSome l.open (λ entry. l.page < entry.span.end);
   one : IfSome l.open (λ entry. (k : ℕ) × (k < 45) × ((d : Begun) → slice_index_or l.slots k d ≡ entry));
-  least : IfSome l.open (λ entry. (k : ℕ) (d : Begun) → k < 45 → bit_at l.left.bits k ≡ 0 → l.page < (slice_index_or l.slots k d).span.end → entry.number ≤ (slice_index_or l.slots k d).number);
+  least : IfSome l.open (λ entry. (k : ℕ) (d : Begun) → k < 45 → bit_at l.left.bits k ≡ 0 → l.page < (slice_index_or l.slots k d).span.end
+      → entry.number ≤ (slice_index_or l.slots k d).number);
   none : IfNone l.open ((k : ℕ) (d : Begun) → k < 45 → bit_at l.left.bits k ≡ 0 → (slice_index_or l.slots k d).span.end ≤ l.page);
 }
 

@@ -10,7 +10,12 @@ pub returns-clause-least : goal.returns-clause-least
 returns-clause-least c = if_least (view_of_runs c.args.map.now) c.args.bytes.now c.read_whole.result c.read_whole.ensures.right
 
 pub returns-clause-right : goal.returns-clause-right
-returns-clause-right c = λ n. (right_where (view_of_runs c.args.map.now) c.args.bytes.now c.read_whole.result n c.read_whole.ensures.right, accepted_exactly (view_of_runs c.args.map.now) c.args.bytes.now c.read_whole.result n c.read_whole.ensures.right c.read_whole.ensures.fault)
+returns-clause-right c = λ n. (
+  right_where (view_of_runs c.args.map.now) c.args.bytes.now c.read_whole.result n c.read_whole.ensures.right,
+  accepted_exactly
+      (view_of_runs c.args.map.now) c.args.bytes.now c.read_whole.result n c.read_whole.ensures.right c.read_whole.ensures.fault,
+)
 
 pub returns-clause-fault : goal.returns-clause-fault
-returns-clause-fault c = refused_exactly (view_of_runs c.args.map.now) c.args.bytes.now c.read_whole.result c.read_whole.ensures.right c.read_whole.ensures.fault
+returns-clause-fault c = refused_exactly (view_of_runs c.args.map.now) c.args.bytes.now c.read_whole.result c.read_whole.ensures.right
+    c.read_whole.ensures.fault

@@ -19,7 +19,8 @@ loop-i-preserved c =
             subst (λ (xs : List ℕ). RiseTo 0 xs c.loop-i.i) (sym items) (rise_append 0 c.loop-i.ends.items from c.loop-i.i rise low),
             λ spans reads.
                 let known = chains spans reads in (
-                  subst (λ (xs : List ℕ). AreChains spans 0 xs c.loop-i.i) (sym items) (chains_append spans 0 c.loop-i.ends.items from c.loop-i.i known.0 known.1),
+                  subst (λ (xs : List ℕ). AreChains spans 0 xs c.loop-i.i) (sym items)
+                      (chains_append spans 0 c.loop-i.ends.items from c.loop-i.i known.0 known.1),
                   chain_begun spans c.loop-i.i,
                   ends_begun spans c.loop-i.i c.bounds-bounds.result.end (c.bounds-bounds.ensures.end (spans c.loop-i.i) (reads c.loop-i.i (omega arith))),
                 ),
@@ -33,8 +34,10 @@ loop-i-preserved c =
                 let known = chains spans reads in
                 let after : c.loop-i.last ≤ c.bounds-bounds.result.first = omega arith in (
                   subst (λ (xs : List ℕ). AreChains spans 0 xs from) (sym items) known.0,
-                  chain_grown spans from c.loop-i.i c.loop-i.last c.bounds-bounds.result.first (c.bounds-bounds.ensures.first (spans c.loop-i.i) (reads c.loop-i.i (omega arith))) after known.1 known.2,
-                  ends_grown spans from c.loop-i.i c.loop-i.last c.bounds-bounds.result.first c.bounds-bounds.result.end (c.bounds-bounds.ensures.end (spans c.loop-i.i) (reads c.loop-i.i (omega arith))) c.bounds-bounds.ensures.some after known.2,
+                  chain_grown spans from c.loop-i.i c.loop-i.last c.bounds-bounds.result.first
+                      (c.bounds-bounds.ensures.first (spans c.loop-i.i) (reads c.loop-i.i (omega arith))) after known.1 known.2,
+                  ends_grown spans from c.loop-i.i c.loop-i.last c.bounds-bounds.result.first c.bounds-bounds.result.end
+                      (c.bounds-bounds.ensures.end (spans c.loop-i.i) (reads c.loop-i.i (omega arith))) c.bounds-bounds.ensures.some after known.2,
                 ),
           )
     ]

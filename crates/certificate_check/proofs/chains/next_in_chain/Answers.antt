@@ -16,7 +16,8 @@ pub loop-span-preserved : goal.loop-span-preserved
 loop-span-preserved c = record {
   low = omega arith;
   value = λ spans reads place.
-      place_on spans _ _ _ _ c.span-span.result (c.loop-span.invariant.value spans reads place) (omega arith) c.loop-span.invariant.low (omega arith) (c.span-span.ensures.value spans reads)
+      place_on spans _ _ _ _ c.span-span.result (c.loop-span.invariant.value spans reads place) (omega arith) c.loop-span.invariant.low (omega arith)
+      (c.span-span.ensures.value spans reads)
       c.span-span.ensures.some;
 }
 

@@ -7,7 +7,8 @@ use Rattle.certificate_check.proofs.chains.next_in_chain.Given as goal
 abbrev pub invariant-loop-span : goal.invariant-loop-span
 invariant-loop-span l = record {
   low : l.from ≤ l.next;
-  value : (spans : ℕ → Span) → ReadsAs l.entries spans → IsPlace spans l.from l.to l.page l.fn.place → IsPlace spans l.from l.to l.page (record { next = l.next; span = l.span });
+  value : (spans : ℕ → Span) → ReadsAs l.entries spans → IsPlace spans l.from l.to l.page l.fn.place
+      → IsPlace spans l.from l.to l.page (record { next = l.next; span = l.span });
 }
 
 abbrev pub decreases-loop-span : goal.decreases-loop-span

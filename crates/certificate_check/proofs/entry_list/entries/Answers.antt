@@ -26,8 +26,11 @@ loop-preserved c =
           let e : length left.0 + c.loop.counter ≡ c.args.count = left.2 in
           let some : 0 < length left.0 = (let b = c.loop-test.true in omega arith) in
           let next = next_entry c.loop.reader rest left.0 left.1 some in
-          let new = (c.in_ok-entry.ensures.given next.entry next.front next.behind next.split next.spells next.page).1 in
-          (next.later, subst (λ (xs : List ℕ). IsListed xs rest next.later) (sym new) next.listed, (let f : length next.later + 1 ≡ length left.0 = next.fewer in omega arith));
+          let new = (c.in_ok-entry.ensures.given next.entry next.front next.behind next.split next.spells next.page).1 in (
+            next.later,
+            subst (λ (xs : List ℕ). IsListed xs rest next.later) (sym new) next.listed,
+            (let f : length next.later + 1 ≡ length left.0 = next.fewer in omega arith),
+          );
     }
 
 pub returns-clause-given : goal.returns-clause-given

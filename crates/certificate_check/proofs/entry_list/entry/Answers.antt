@@ -33,8 +33,13 @@ returns-then-entry-lt12-clause-fault c =
 pub returns-clause-read : goal.returns-clause-read
 returns-clause-read c =
     let meaning = rw c.in-Ok-Some.field-0-is at c.in-Ok-Some.ensures.meaning in
-    let means : MeansEntry c.in_ok-pair.pair.0 c.in_ok-pair.pair.1 c.in-Ok-Some.entry = rw (sym c.cfg.ensures, sym c.address.ensures) meaning in
-    (c.in-Ok-Some.entry, pair_bytes c.in_ok-pair.pair, c.in_ok-pair.ensures.read, record { pair = c.in_ok-pair.pair; means = means; spelled = refl }, c.if-entry-lt12.false)
+    let means : MeansEntry c.in_ok-pair.pair.0 c.in_ok-pair.pair.1 c.in-Ok-Some.entry = rw (sym c.cfg.ensures, sym c.address.ensures) meaning in (
+      c.in-Ok-Some.entry,
+      pair_bytes c.in_ok-pair.pair,
+      c.in_ok-pair.ensures.read,
+      record { pair = c.in_ok-pair.pair; means = means; spelled = refl },
+      c.if-entry-lt12.false,
+    )
 
 pub returns-clause-given : goal.returns-clause-given
 returns-clause-given c =

@@ -5,7 +5,8 @@ use Rattle.certificate_check.proofs.Windows.{all_here, ok_from, reads_as}
 use Rattle.certificate_check.proofs.nodes.root.Goals as goal
 
 pub returns-clause-read : goal.returns-clause-read
-returns-clause-read g c = reads_as _ _ _ _ c.node.ensures.read (λ left rest read. read (view_of_runs c.args.map.now) (λ at low. ap (λ runs. view_of_runs runs at) c.of-runs.ensures.value))
+returns-clause-read g c = reads_as _ _ _ _ c.node.ensures.read (λ left rest read. read (view_of_runs c.args.map.now)
+    (λ at low. ap (λ runs. view_of_runs runs at) c.of-runs.ensures.value))
 
 pub returns-clause-few : goal.returns-clause-few
 returns-clause-few g c =

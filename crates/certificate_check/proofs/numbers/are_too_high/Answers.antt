@@ -18,4 +18,5 @@ returns-clause-same c = λ said. none_above _ _ _ (sym c.is_some.ensures ∙ c.i
 
 pub returns-clause-any : goal.returns-clause-any
 returns-clause-any c =
-    λ said p q. let low = none_above _ _ _ (sym c.is_some-2.ensures ∙ said) c.above-2.ensures.none p in omega (arith, low, c.the_same.ensures p, c.least.ensures.low q)
+    λ said p q. let low = none_above _ _ _ (sym c.is_some-2.ensures ∙ said) c.above-2.ensures.none p in omega
+    (arith, low, c.the_same.ensures p, c.least.ensures.low q)

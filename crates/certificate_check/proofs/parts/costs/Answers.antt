@@ -16,7 +16,14 @@ returns-in-Ok g c =
     let split = sym c.held.ensures.value ∙ c.in-Ok.ensures.1 in
     let behind = ap (drop 24) split ∙ drop_at (costs_bytes (cost_of c.in-Ok.costs)) c.in-Ok.ensures.0 24 (length-costs_bytes (cost_of c.in-Ok.costs)) in
     part_read _ _ _ (costs_bytes (cost_of c.in-Ok.costs)) c.in-Ok.ensures.0 _ c.hold.ensures.reads split
-    (record { buffer = c.pass.ensures.buffer ∙ behind; came = c.pass.ensures.came; most = c.pass.ensures.most; inflow = c.pass.ensures.inflow; remaining = refl; failures = refl })
+    (record {
+      buffer = c.pass.ensures.buffer ∙ behind;
+      came = c.pass.ensures.came;
+      most = c.pass.ensures.most;
+      inflow = c.pass.ensures.inflow;
+      remaining = refl;
+      failures = refl;
+    })
     (λ later. (refl, c.in-Ok.ensures.2))
 
 pub returns-in-Err : goal.returns-in-Err

@@ -17,7 +17,14 @@ returns-in-Ok g c =
     let split = sym c.held.ensures.value ∙ read.2 in
     let behind = ap (drop 9) split ∙ drop_at c.in-Ok.nine read.1 9 long in
     part_read _ _ _ c.in-Ok.nine read.1 _ c.hold.ensures.reads split
-    (record { buffer = c.pass.ensures.buffer ∙ behind; came = c.pass.ensures.came; most = c.pass.ensures.most; inflow = c.pass.ensures.inflow; remaining = refl; failures = refl })
+    (record {
+      buffer = c.pass.ensures.buffer ∙ behind;
+      came = c.pass.ensures.came;
+      most = c.pass.ensures.most;
+      inflow = c.pass.ensures.inflow;
+      remaining = refl;
+      failures = refl;
+    })
     (λ later. (read.0, refl, read.3, read.4))
 
 pub returns-in-Err : goal.returns-in-Err

@@ -16,8 +16,14 @@ returns-in-Ok c =
     let read = c.in-Ok.ensures.read in
     let split = sym c.new-reader.ensures ∙ read.2 in
     let long : length read.1 ≡ 9 = ap length read.3.spelled ∙ length-pair_bytes read.3.pair in
-    let nine : c.nine_of.result ≡ read.1 = c.nine_of.ensures ∙ ap (take 9) split ∙ take_at read.1 c.entry.new.reader 9 long in
-    (read.0, c.entry.new.reader, split ∙ ap (λ xs. xs ++ c.entry.new.reader) (sym nine), subst (λ (xs : List ℕ). SpellsEntry xs read.0) (sym nine) read.3, read.4)
+    let nine : c.nine_of.result ≡ read.1 = c.nine_of.ensures ∙ ap (take 9) split ∙ take_at read.1 c.entry.new.reader 9 long in (
+      read.0,
+      c.entry.new.reader,
+      split ∙ ap (λ xs. xs ++ c.entry.new.reader) (sym nine),
+      subst (λ (xs : List ℕ). SpellsEntry xs read.0)
+          (sym nine) read.3,
+      read.4,
+    )
 
 pub returns-in-Err : goal.returns-in-Err
 returns-in-Err c = subst (λ (xs : List ℕ). EntryFault xs c.in-Err.refusal) c.new-reader.ensures c.in-Err.ensures.fault

@@ -8,7 +8,14 @@ pub returns-in-Ok : goal.returns-in-Ok
 returns-in-Ok g c =
     let split = sym c.held.ensures.value ∙ c.in-Ok.ensures.1 in
     part_read _ _ _ (tag_byte c.in-Ok.tag ∷ []) c.in-Ok.ensures.0 _ c.hold.ensures.reads split
-    (record { buffer = c.pass.ensures.buffer ∙ ap (drop 1) split; came = c.pass.ensures.came; most = c.pass.ensures.most; inflow = c.pass.ensures.inflow; remaining = refl; failures = refl })
+    (record {
+      buffer = c.pass.ensures.buffer ∙ ap (drop 1) split;
+      came = c.pass.ensures.came;
+      most = c.pass.ensures.most;
+      inflow = c.pass.ensures.inflow;
+      remaining = refl;
+      failures = refl;
+    })
     (λ later. refl)
 
 pub returns-in-Err : goal.returns-in-Err

@@ -18,7 +18,8 @@ returns-in_default-clause-read g c = reads_then _ _ _ _ _ _ c.loop.invariant.rea
 pub loop-preserved : goal.loop-preserved
 loop-preserved g c = record {
   read = reads_then _ _ _ _ _ _ c.loop.invariant.read c.in_ok-nine.ensures (λ left mid rest before one.
-      held_one c.loop.counter (c.loop.counter + 1) c.loop.list.items c.extend_from_slice.new.self.items left mid rest refl before (one.0, c.in_ok-nine.nine, one.1, one.2, one.3, c.in-Ok.ensures.items ∙ ap (λ xs. c.loop.list.items ++ xs) c.as_slice.ensures));
+      held_one c.loop.counter (c.loop.counter + 1) c.loop.list.items c.extend_from_slice.new.self.items left mid rest refl before
+      (one.0, c.in_ok-nine.nine, one.1, one.2, one.3, c.in-Ok.ensures.items ∙ ap (λ xs. c.loop.list.items ++ xs) c.as_slice.ensures));
 }
 
 pub returns-clause-read : goal.returns-clause-read

@@ -7,6 +7,7 @@ use Rattle.certificate_check.proofs.source.entries_from.Given as goal
 
 abbrev pub invariant-loop : goal.invariant-loop
 invariant-loop g l = record {
-  read : Reads (place g.R.Source.remaining g.R.Source.failures l.initial.window l.initial.source) (place g.R.Source.remaining g.R.Source.failures l.window l.source)
+  read : Reads (place g.R.Source.remaining g.R.Source.failures l.initial.window l.initial.source)
+      (place g.R.Source.remaining g.R.Source.failures l.window l.source)
       (λ left mid. (es : List Entry) × IsListed left mid es × (length es ≡ l.counter) × SpellsEntries l.list.items es);
 }

@@ -12,8 +12,11 @@ returns-in-Err-clause-refused g c =
 
 pub loop-preserved : goal.loop-preserved
 loop-preserved g c = record {
-  read = reads_then _ _ _ _ _ _ c.loop.invariant.read c.in-Ok.ensures (λ left mid rest before one.
-      (before.0 ++ c.in-Ok.field-0, held_one c.loop.counter (c.loop.counter + 1) before.0 (before.0 ++ c.in-Ok.field-0) left mid rest refl before.1 (one.0, c.in-Ok.field-0, one.1, one.2, one.3, refl)));
+  read = reads_then _ _ _ _ _ _ c.loop.invariant.read c.in-Ok.ensures (λ left mid rest before one. (
+    before.0 ++ c.in-Ok.field-0,
+    held_one c.loop.counter (c.loop.counter + 1) before.0 (before.0 ++ c.in-Ok.field-0) left mid rest refl before.1
+        (one.0, c.in-Ok.field-0, one.1, one.2, one.3, refl),
+  ));
 }
 
 pub returns-clause-refused : goal.returns-clause-refused

@@ -18,7 +18,8 @@ returns-then-ne-clause-differs c =
       c.loop-page.invariant.low,
       c.loop-page-test.true,
       λ there.
-          let here = c.piece_of_begun-given.ensures.value spans count below blocks (begun_later spans count below c.args.from page c.args.slots.now c.loop-page.invariant.low are) none page
+          let here = c.piece_of_begun-given.ensures.value spans count below blocks
+          (begun_later spans count below c.args.from page c.args.slots.now c.loop-page.invariant.low are) none page
           (omega arith) c.piece_of_begun-given.ensures.some in
           let view = sym (c.loop-page.invariant.same page (omega arith)) ∙ sym (c.runs_from-rest.ensures.same page (omega arith))
           ∙ c.piece_of_runs-wanted.ensures.value page (omega arith) c.piece_of_runs-wanted.ensures.some in
@@ -37,10 +38,12 @@ loop-page-preserved c = record {
       ⊎_elim (λ less. c.loop-page.invariant.given spans count below blocks are none at after less)
       (λ from.
       let page : ℕ = c.loop-page.page in
-      let view : view_of_runs c.args.runs.now at ≡ c.piece_of_runs-wanted.result.perm = sym (c.loop-page.invariant.same at from) ∙ sym (c.runs_from-rest.ensures.same at from)
+      let view : view_of_runs c.args.runs.now at ≡ c.piece_of_runs-wanted.result.perm = sym (c.loop-page.invariant.same at from)
+      ∙ sym (c.runs_from-rest.ensures.same at from)
       ∙ c.piece_of_runs-wanted.ensures.value at from (omega arith) in
       let one : c.piece_of_begun-given.result.perm ≡ c.piece_of_runs-wanted.result.perm = search rules in
       subst (λ (p : Perm). Decides spans count at p) (one ∙ sym view)
-      (c.piece_of_begun-given.ensures.value spans count below blocks (begun_later spans count below c.args.from page c.args.slots.now c.loop-page.invariant.low are) none at from (omega arith)))
+      (c.piece_of_begun-given.ensures.value spans count below blocks (begun_later spans count below c.args.from page c.args.slots.now c.loop-page.invariant.low
+      are) none at from (omega arith)))
       (cases_lt at c.loop-page.page);
 }

@@ -9,7 +9,8 @@ use Rattle.certificate_check.specs.Spans.{Decides, count_in}
 use Rattle.certificate_check.specs.InOrder.{key_of, AreKeys, AreBegun, NoneBegins}
 use Rattle.certificate_check.proofs.Blocks.{blocks_read}
 use Rattle.certificate_check.proofs.Opened.{begun_later, begun_among, begun_none, ended_none}
-use Rattle.certificate_check.proofs.Gathered.{same_element, AreWithin, key_behind, key_order, key_from, keys_next, keys_first, begins_later, begins_at, by_option}
+use Rattle.certificate_check.proofs.Gathered.{same_element, AreWithin, key_behind, key_order, key_from, keys_next, keys_first, begins_later, begins_at}
+use Rattle.certificate_check.proofs.Gathered.{by_option}
 use Rattle.certificate_check.proofs.sweep.agrees_in_any_order.Goals as goal
 
 pub loop-low-init : goal.loop-low-init
@@ -43,7 +44,8 @@ loop-key-init g c =
       same = inv.same;
       begun = λ spans reads.
           let are : AreKeys spans (count_in c.args.entries.now) low high ks = rw (c.deref-key-items.ensures.0) (c.gather-low.ensures.value spans reads) in
-          begun_among spans (count_in c.args.entries.now) low (get_or ks 0 high) c.loop-low.page c.loop-low.slots (keys_first spans (count_in c.args.entries.now) low high ks are sorted)
+          begun_among spans (count_in c.args.entries.now) low (get_or ks 0 high) c.loop-low.page c.loop-low.slots
+          (keys_first spans (count_in c.args.entries.now) low high ks are sorted)
           (inv.begun spans reads);
       given = inv.given;
     }
@@ -102,11 +104,13 @@ loop-key-preserved g c =
           ap (λ (s : Span). s.first) span ∙ begins_at spans c.number_of-number.result (get_or ks x high) page (omega (arith, inside, few)) first real in
           c.begin.ensures.begun spans count (get_or ks x high) (get_or ks (x + 1) high) (blocks_read c.args.entries.now spans reads)
           (begun_later spans count (get_or ks x high) c.loop-key.page page c.loop-key.slots some (inv.begun spans reads)) inside span begins
-          (λ j less early. subst (λ (n : ℕ). (key_of spans j < get_or ks x high) ⊎ (j ≡ n)) (sym number) (keys_next spans count low high x ks are sorted few c.loop-key-test.true j less early));
+          (λ j less early. subst (λ (n : ℕ). (key_of spans j < get_or ks x high) ⊎ (j ≡ n)) (sym number)
+          (keys_next spans count low high x ks are sorted few c.loop-key-test.true j less early));
       given = λ spans reads at less.
           ⊎_elim (λ before. inv.given spans reads at before)
           (λ from.
-          let none : NoneBegins spans count (get_or ks x high) page = λ j inside later. begins_later spans j (get_or ks x high) page (omega (arith, inside, few)) first later in
+          let none : NoneBegins spans count (get_or ks x high) page = λ j inside later. begins_later spans j (get_or ks x high) page
+          (omega (arith, inside, few)) first later in
           subst (λ (p : Perm). Decides spans count at p) (inv.same at from)
           (c.in-Some.ensures.given spans count (get_or ks x high) (blocks_read c.args.entries.now spans reads) (inv.begun spans reads) none at from less))
           (cases_lt at c.loop-key.page);
@@ -121,15 +125,20 @@ returns-in_default g c =
     let x : ℕ = c.loop-key.key-index in
     let page : ℕ = c.first_of-first.result in
     let count : ℕ = count_in c.args.entries.now in
-    let within : AreWithin c.loop-low.low high ks = rw (c.deref-key-items.ensures.0) (λ k d less. let n = c.gather-low.ensures.numbers k d less in (n.1, n.2)) in
+    let within : AreWithin c.loop-low.low high ks = rw (c.deref-key-items.ensures.0)
+    (λ k d less. let n = c.gather-low.ensures.numbers k d less in (n.1, n.2)) in
     let key : get_or ks x 0 ≡ get_or ks x high = same_element ks x 0 high c.loop-key-test.true in
     let first : page ≡ get_or ks x high / 2 ^ 19 = c.first_of-first.ensures ∙ ap (λ n. n / 2 ^ 19) key in
     let below : get_or ks x high < high = (within x high c.loop-key-test.true).1 in
     let inside : page ≤ 2 ^ 44 = (let h = c.gather-low.ensures.inside in omega (arith, h, first, below)) in
     let few = c.requires.few in
-    let none : NoneBegins spans count (get_or ks x high) page = λ j less later. begins_later spans j (get_or ks x high) page (omega (arith, less, few)) first later in
-    let differs = c.in_default.ensures.differs spans count (get_or ks x high) (blocks_read c.args.entries.now spans reads) (inv.begun spans reads) none in
-    ((λ t. absurd (cc)), (λ all. absurd (differs.3 (subst (λ (p : Perm). Decides spans count differs.0 p) (sym (inv.same differs.0 differs.1)) (all differs.0 (let d = differs.2 in omega (arith, d, inside)))))))
+    let none : NoneBegins spans count (get_or ks x high) page = λ j less later. begins_later spans j (get_or ks x high) page
+    (omega (arith, less, few)) first later in
+    let differs = c.in_default.ensures.differs spans count (get_or ks x high) (blocks_read c.args.entries.now spans reads) (inv.begun spans reads) none in (
+      (λ t. absurd (cc)),
+      (λ all. absurd (differs.3 (subst (λ (p : Perm). Decides spans count differs.0 p) (sym (inv.same differs.0 differs.1))
+          (all differs.0 (let d = differs.2 in omega (arith, d, inside)))))),
+    )
 
 pub returns : goal.returns
 returns g c =
@@ -139,12 +148,14 @@ returns g c =
     let blocks = blocks_read c.args.entries.now spans reads in
     let past = c.loop-low-test.false in
     let few = c.requires.few in
-    let none : NoneBegins spans count c.loop-low.low (2 ^ 44) = λ j less later. absurd (let inside = blocks.inside j less in omega (arith, inside, later, past, less, few)) in
+    let none : NoneBegins spans count c.loop-low.low (2 ^ 44) = λ j less later. absurd
+    (let inside = blocks.inside j less in omega (arith, inside, later, past, less, few)) in
     by_option c.agreed-2.result c.is_some.result ((page : ℕ) → page < 2 ^ 44 → Decides spans count page (view_of_runs c.args.runs.now page))
     ((page : ℕ) → page < 2 ^ 44 → Decides spans count page (view_of_runs c.args.runs.now page)) c.is_some.ensures c.agreed-2.ensures.given
     (λ given at less.
     ⊎_elim (λ before. inv.given spans reads at before)
-    (λ from. subst (λ (p : Perm). Decides spans count at p) (inv.same at from) (given spans count c.loop-low.low blocks (inv.begun spans reads) none at from less))
+    (λ from. subst (λ (p : Perm). Decides spans count at p) (inv.same at from)
+    (given spans count c.loop-low.low blocks (inv.begun spans reads) none at from less))
     (cases_lt at c.loop-low.page))
     c.agreed-2.ensures.differs
     (λ differs all.

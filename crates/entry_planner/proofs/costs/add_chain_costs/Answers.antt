@@ -51,4 +51,5 @@ returns-clause-own c = λ tree is.
 pub returns-clause-costs : goal.returns-clause-costs
 returns-clause-costs c = λ tree first is all.
     let r = c.loop-level.invariant.raised in
-    r.costs_are tree first is all ∙ ap (λ t. first ++ reverse (costs_in t)) (raised_whole _ _ _ _ _ _ _ c.loop-level.auto.level-end c.loop-level-test.false c.requires.chain.place r tree)
+    r.costs_are tree first is all ∙ ap (λ t. first ++ reverse (costs_in t))
+    (raised_whole _ _ _ _ _ _ _ c.loop-level.auto.level-end c.loop-level-test.false c.requires.chain.place r tree)

@@ -1,12 +1,14 @@
 -- The costs of the split blocks come last, and the entries are those that are placed.
-use Rattle.std.proofs.Common.{◌≡◌, ℕ, ◌+◌, ◌-◌, ◌*◌, ◌%◌, ◌^◌, ◌≤◌, eq-zero-or-pos, inl, inr, pow_mono, Fits as FitsWidth, w64, rules, length, length-take, take, refl, ◌++◌, ◌∙◌, reverse, ap, sym, subst, arith}
+use Rattle.std.proofs.Common.{◌≡◌, ℕ, ◌+◌, ◌-◌, ◌*◌, ◌%◌, ◌^◌, ◌≤◌, eq-zero-or-pos, inl, inr, pow_mono, Fits as FitsWidth, w64, rules, length, length-take}
+use Rattle.std.proofs.Common.{take, refl, ◌++◌, ◌∙◌, reverse, ap, sym, subst, arith}
 use Rattle.std.proofs.lemmas.List.{append-nil}
 use Rattle.prefix_tree.specs.Counts.{splits}
 use Rattle.prefix_tree.specs.Trees.{PermTree, Uniform, Fits}
 use Rattle.prefix_tree.proofs.Nested.{splits-chained}
 use Rattle.entry_planner.specs.Placement.{place_at}
 use Rattle.entry_planner.specs.Plans.{costs_in}
-use Rattle.entry_planner.proofs.ChainWalked.{all_costs, IsStep, begun_at, beside_small, cost_left, ended, left_at, place_small, split_at_lower, split_at_upper, stepped_lower, stepped_upper}
+use Rattle.entry_planner.proofs.ChainWalked.{all_costs, IsStep, begun_at, beside_small, cost_left, ended, left_at, place_small, split_at_lower, split_at_upper}
+use Rattle.entry_planner.proofs.ChainWalked.{stepped_lower, stepped_upper}
 use Rattle.entry_planner.proofs.ChainKept.{kept_chosen, smallest_costs, smallest_fits}
 use Rattle.entry_planner.proofs.SamePerm.{same_perm}
 use Rattle.entry_planner.proofs.Walked.{halves_fit_in, last_is, lower_ends, upper_ends, rest_is, split_chosen, uniform_chosen}
@@ -27,18 +29,33 @@ place-place_chain-requires g t c = λ κs lives.
         lives,
         (
           is.0.place,
-          (is.0.most, (subst F is.1 c.requires.fits, (c.requires.pages, (c.requires.costs.0, c.requires.costs.1 ∙ ap (λ t. c.requires.costs.0 ++ reverse (costs_in t)) is.1)))),
+          (
+            is.0.most,
+            (
+              subst F is.1 c.requires.fits,
+              (
+                c.requires.pages,
+                (
+                  c.requires.costs.0,
+                  c.requires.costs.1
+                      ∙ ap (λ t. c.requires.costs.0 ++ reverse (costs_in t)) is.1,
+                ),
+              ),
+            ),
+          ),
         ),
       ),
     )
 
 pub place-slice_bounds-others-count : goal.place-slice_bounds-others-count
 place-slice_bounds-others-count g t c =
-    (smallest_costs c.args.costs.now c.in-Some-chain.chain (g.H.Halving.shape c.args.block.now) (g.H.Halving.shape c.in-Some-chain.smallest) c.in-Some-chain.ensures.1 c.requires.costs).levels
+    (smallest_costs c.args.costs.now c.in-Some-chain.chain (g.H.Halving.shape c.args.block.now)
+    (g.H.Halving.shape c.in-Some-chain.smallest) c.in-Some-chain.ensures.1 c.requires.costs).levels
 
 pub place-part-block-requires-clause-levels : goal.place-part-block-requires-clause-levels
 place-part-block-requires-clause-levels g t c =
-    (smallest_fits (g.H.Halving.shape c.args.block.now) (g.H.Halving.shape c.in-Some-chain.smallest) c.in-Some-chain.chain c.args.pages.log2 c.in-Some-chain.ensures.1 c.requires.fits).0
+    (smallest_fits (g.H.Halving.shape c.args.block.now) (g.H.Halving.shape c.in-Some-chain.smallest) c.in-Some-chain.chain c.args.pages.log2
+    c.in-Some-chain.ensures.1 c.requires.fits).0
 
 pub place-place-requires : goal.place-place-requires
 place-place-requires g t c = λ κs lives.
@@ -52,14 +69,19 @@ place-place-requires g t c = λ κs lives.
         lives,
         (
           subst F high inside.1,
-          (c.part-block.ensures.pages, (smallest_costs c.args.costs.now c.in-Some-chain.chain (g.H.Halving.shape c.args.block.now) tree is.1 c.requires.costs).ends),
+          (
+            c.part-block.ensures.pages,
+            (smallest_costs c.args.costs.now c.in-Some-chain.chain
+                (g.H.Halving.shape c.args.block.now) tree is.1 c.requires.costs).ends,
+          ),
         ),
       ),
     )
 
 pub place-returns-then-eq-2-clause-rest : goal.place-returns-then-eq-2-clause-rest
 place-returns-then-eq-2-clause-rest g t c =
-    (smallest_costs c.args.costs.now c.in-Some-chain.chain (g.H.Halving.shape c.args.block.now) (g.H.Halving.shape c.in-Some-chain.smallest) c.in-Some-chain.ensures.1 c.requires.costs).back
+    (smallest_costs c.args.costs.now c.in-Some-chain.chain (g.H.Halving.shape c.args.block.now)
+    (g.H.Halving.shape c.in-Some-chain.smallest) c.in-Some-chain.ensures.1 c.requires.costs).back
     _ c.in_ok-rest.ensures.rest
 
 pub place-returns-then-eq-2-clause-placed : goal.place-returns-then-eq-2-clause-placed
@@ -67,7 +89,8 @@ place-returns-then-eq-2-clause-placed g t c =
     let is = c.in-Some-chain.ensures in
     kept_chosen (g.H.Halving.shape c.args.block.now) (g.H.Halving.shape c.in-Some-chain.smallest) c.in-Some-chain.chain _ _ _ _ _ _ _ is.1
     (same_perm c.in-Some-chain.chain.before c.args.inherited c.eq.result c.eq.ensures c.if-eq.true)
-    (same_perm c.in-Some-chain.chain.behind c.args.inherited c.eq-then-eq.result c.eq-then-eq.ensures c.if-eq-2.true) is.0.place c.part-block.ensures.log2 c.part-block.ensures.first
+    (same_perm c.in-Some-chain.chain.behind c.args.inherited c.eq-then-eq.result c.eq-then-eq.ensures c.if-eq-2.true) is.0.place c.part-block.ensures.log2
+    c.part-block.ensures.first
     c.in_ok-rest.ensures.placed
 
 pub place-place-requires-2 : goal.place-place-requires-2
@@ -99,8 +122,10 @@ place-returns-clause-rest g t c = rest_is _ _ _ _ _ _ c.halves-lower.ensures c.r
 
 pub place-returns-clause-placed : goal.place-returns-clause-placed
 place-returns-clause-placed g t c =
-    let handed = c.chosen-perm.ensures (g.H.Halving.shape c.halves-lower.result.0) (g.H.Halving.shape c.halves-lower.result.1) (c.cost.ensures ∙ c.packed-item.is ∙ last_is _ _ _ _ _ c.halves-lower.ensures c.requires.costs) in
-    split_chosen _ _ _ _ _ _ _ _ _ _ _ _ _ _ _ c.halves-lower.ensures c.lower.ensures.log2 c.upper.ensures.log2 c.lower.ensures.first c.upper.ensures.first handed
+    let handed = c.chosen-perm.ensures (g.H.Halving.shape c.halves-lower.result.0) (g.H.Halving.shape c.halves-lower.result.1)
+    (c.cost.ensures ∙ c.packed-item.is ∙ last_is _ _ _ _ _ c.halves-lower.ensures c.requires.costs) in
+    split_chosen _ _ _ _ _ _ _ _ _ _ _ _ _ _ _ c.halves-lower.ensures c.lower.ensures.log2 c.upper.ensures.log2 c.lower.ensures.first c.upper.ensures.first
+    handed
     c.in_ok-rest-3.ensures.placed c.in_ok-rest-4.ensures.placed c.in_ok-turn-2.ensures
 
 -- ---- of a chain
@@ -117,7 +142,12 @@ place_chain-loop-depth-init g t c =
 
 pub place_chain-unreachable-requires : goal.place_chain-unreachable-requires
 place_chain-unreachable-requires g t c =
-    omega (arith, c.in_default.len_below, cost_left _ c.args.chain (g.H.Halving.shape c.args.smallest.now) c.loop-depth.depth c.loop-depth-test.true c.loop-depth.invariant.ends)
+    omega (
+      arith,
+      c.in_default.len_below,
+      cost_left _ c.args.chain (g.H.Halving.shape c.args.smallest.now) c.loop-depth.depth c.loop-depth-test.true
+          c.loop-depth.invariant.ends,
+    )
 
 pub place_chain-offset_bounds-left-left : goal.place_chain-offset_bounds-left-left
 place_chain-offset_bounds-left-left g t c =
@@ -161,7 +191,8 @@ place_chain-loop-depth-preserved g t c =
     let i = l.invariant in
     let some = c.loop-depth-test.true in
     let at = c.place_at-place.ensures in
-    let few : length (take (length l.left.now - 1) l.left.now) ≤ length c.args.costs.now = omega (arith, i.few, length-take (length l.left.now - 1) l.left.now) in
+    let few : length (take (length l.left.now - 1) l.left.now) ≤ length c.args.costs.now = omega
+    (arith, i.few, length-take (length l.left.now - 1) l.left.now) in
     let step : IsStep c.args.pages.log2 c.args.pages.first c.args.chain l.depth l.from c.chosen-perm.result c.beside-own.result l.entries c.turn.new.entries c.turn_beside.new.entries =
     record {
       k = c.part.result.log2;
@@ -181,7 +212,8 @@ place_chain-loop-depth-preserved g t c =
       | inl even ↦
           let s = split_at_lower c.args.chain tree l.depth some even in
           let parity = ap (λ n. n % 2) at ∙ even in
-          let handed = c.chosen-perm.ensures (left_at c.args.chain (l.depth + 1) tree) (Uniform c.args.chain.behind) (c.cost.ensures ∙ c.packed-item.is ∙ last_is _ _ _ _ _ s i.ends) in (record {
+          let handed = c.chosen-perm.ensures (left_at c.args.chain (l.depth + 1) tree) (Uniform c.args.chain.behind)
+          (c.cost.ensures ∙ c.packed-item.is ∙ last_is _ _ _ _ _ s i.ends) in (record {
             few = few;
             ends = lower_ends _ _ _ _ s i.ends;
             back = λ rest same. i.back rest (rest_is _ _ _ _ _ _ s i.ends same (sym (append-nil _)));
@@ -192,7 +224,8 @@ place_chain-loop-depth-preserved g t c =
           let odd : place_at c.args.chain (l.depth + 1) % 2 ≡ 1 = omega (arith, more) in
           let s = split_at_upper c.args.chain tree l.depth some odd in
           let parity = ap (λ n. n % 2) at ∙ odd in
-          let handed = c.chosen-perm.ensures (Uniform c.args.chain.before) (left_at c.args.chain (l.depth + 1) tree) (c.cost.ensures ∙ c.packed-item.is ∙ last_is _ _ _ _ _ s i.ends) in (record {
+          let handed = c.chosen-perm.ensures (Uniform c.args.chain.before) (left_at c.args.chain (l.depth + 1) tree)
+          (c.cost.ensures ∙ c.packed-item.is ∙ last_is _ _ _ _ _ s i.ends) in (record {
             few = few;
             ends = upper_ends _ _ _ _ _ s i.ends (sym (append-nil _));
             back = λ rest same. i.back rest (rest_is _ _ _ _ _ _ s i.ends (sym (append-nil _)) same);
@@ -204,4 +237,5 @@ place_chain-loop-depth-preserved g t c =
 pub place_chain-returns-clause-placed : goal.place_chain-returns-clause-placed
 place_chain-returns-clause-placed g t c =
     let end : c.loop-depth.depth ≡ c.args.chain.levels = omega (arith, c.loop-depth-test.false, c.loop-depth.auto.depth-end) in
-    ended _ _ _ c.args.chain (g.H.Halving.shape c.args.smallest.now) _ _ _ _ _ _ _ end c.loop-depth.invariant.walked c.part-block.ensures.log2 c.part-block.ensures.first c.in_ok-others.ensures.placed
+    ended _ _ _ c.args.chain (g.H.Halving.shape c.args.smallest.now) _ _ _ _ _ _ _ end c.loop-depth.invariant.walked c.part-block.ensures.log2
+    c.part-block.ensures.first c.in_ok-others.ensures.placed

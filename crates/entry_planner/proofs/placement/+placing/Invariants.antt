@@ -20,6 +20,7 @@ invariant-place_chain-loop-depth g l =
     record {
       few : length l.left ≤ length l.fn.costs;
       ends : (rest : List SplitCost) × (l.left ≡ rest ++ reverse (costs_in (left_at l.fn.chain l.depth tree)));
-      back : (rest : List SplitCost) → l.left ≡ rest ++ reverse (costs_in (left_at l.fn.chain l.depth tree)) → l.fn.costs ≡ rest ++ reverse (costs_in (chained l.fn.chain tree));
+      back : (rest : List SplitCost) → l.left ≡ rest ++ reverse (costs_in (left_at l.fn.chain l.depth tree))
+          → l.fn.costs ≡ rest ++ reverse (costs_in (chained l.fn.chain tree));
       walked : WalkedTo l.fn.pages.log2 l.fn.pages.first l.fn.inherited l.fn.chain tree l.depth l.from l.fn.entries l.entries;
     }

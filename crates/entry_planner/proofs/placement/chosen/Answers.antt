@@ -8,7 +8,8 @@ returns-then-contains c = λ low high are. kept_handed low high c.args.cost c.ar
 
 pub returns-in-Some : goal.returns-in-Some
 returns-in-Some c =
-    λ low high are. first_handed low high c.args.cost c.args.inherited c.in-Some.perm are (sym c.contains.ensures ∙ c.if-contains.false) c.in-Some.ensures.some c.in-Some.ensures.first
+    λ low high are. first_handed low high c.args.cost c.args.inherited c.in-Some.perm are
+    (sym c.contains.ensures ∙ c.if-contains.false) c.in-Some.ensures.some c.in-Some.ensures.first
 
 pub returns-in-None : goal.returns-in-None
 returns-in-None c = λ low high are. none_handed low high c.args.cost c.args.inherited are c.in-None.ensures.none

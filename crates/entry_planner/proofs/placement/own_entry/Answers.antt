@@ -8,8 +8,11 @@ abbrev unless : Bool → ℕ
 unless t = if t then 0 else 1
 
 pub returns-then-ne-clause-some : goal.returns-then-ne-clause-some
-returns-then-ne-clause-some c =
-    (inr (c.new.result, (rw (sym c.new.ensures) at c.entry_of.ensures), refl), sym (ap unless (perm_eq-other c.args.perm c.args.inherited c.ne.result c.ne.ensures c.if-ne.true)))
+returns-then-ne-clause-some c = (
+  inr (c.new.result, (rw (sym c.new.ensures) at c.entry_of.ensures), refl),
+  sym
+      (ap unless (perm_eq-other c.args.perm c.args.inherited c.ne.result c.ne.ensures c.if-ne.true)),
+)
 
 pub returns-clause-none : goal.returns-clause-none
 returns-clause-none c =

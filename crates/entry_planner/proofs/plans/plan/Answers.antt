@@ -6,7 +6,8 @@ use Rattle.entry_planner.proofs.plans.plan.Goals as goal
 
 pub returns : goal.returns
 returns c =
-    let p = promised (view_of_tree c.args.tree.now) c.args.tree.now _ _ (own_means c.args.tree.now c.root.ensures.fits) c.root.ensures.shape (made_is _ _ _ c.in_ok-plan.ensures c.in_ok-packed.ensures) in
+    let p = promised (view_of_tree c.args.tree.now) c.args.tree.now _ _ (own_means c.args.tree.now c.root.ensures.fits) c.root.ensures.shape
+    (made_is _ _ _ c.in_ok-plan.ensures c.in_ok-packed.ensures) in
     record {
       fewest = p.fewest;
       pages = p.pages;

@@ -22,4 +22,5 @@ new-requires g c =
 
 pub returns : goal.returns
 returns g c =
-    made_is _ _ _ c.new.ensures (made _ _ _ _ c.in_ok-entries.ensures.chosen c.in_ok-entries.ensures.order c.in_ok-costs.ensures.items c.in_ok-cost.ensures.costs)
+    made_is _ _ _ c.new.ensures (made _ _ _ _ c.in_ok-entries.ensures.chosen c.in_ok-entries.ensures.order c.in_ok-costs.ensures.items
+    c.in_ok-cost.ensures.costs)

@@ -23,7 +23,8 @@ pub returns : goal.returns
 returns g c =
     let bytes_of = g.P.Pages.bytes_of c.args.pages.now in
     let parts = c.args.parts.now in
-    let count : c.private_pages-range.result.count ≡ parts.text_pages + parts.data_pages = ap (λ (r : PageRange). r.count) c.private_pages-range.ensures.value in
+    let count : c.private_pages-range.result.count ≡ parts.text_pages + parts.data_pages = ap
+    (λ (r : PageRange). r.count) c.private_pages-range.ensures.value in
     let all : c.loop-i.i ≡ parts.text_pages + parts.data_pages = omega (arith, count, c.loop-i-test.false, c.loop-i.auto.i-end) in
     c.finish.ensures (layout_of parts) (pages_from bytes_of (parts.base / 4096) c.loop-i.i) c.loop-i.invariant
     ∙ ap (λ n. digest_of (layout_of parts) (pages_from bytes_of (parts.base / 4096) n)) all

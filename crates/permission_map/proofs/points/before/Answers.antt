@@ -6,7 +6,8 @@ use Rattle.permission_map.proofs.points.before.Goals as goal
 pub returns-then-page-clause-front : goal.returns-then-page-clause-front
 returns-then-page-clause-front c =
     let is = c.in-Some.ensures.cases in
-    front_to c.args.points.now c.in-Some.others.now [] c.in-Some.last.now (length c.args.points.now) c.args.page c.requires.points is.0 (sym is.1) (omega (arith, c.page.ensures, c.if-page.true))
+    front_to c.args.points.now c.in-Some.others.now [] c.in-Some.last.now (length c.args.points.now) c.args.page c.requires.points is.0 (sym is.1)
+    (omega (arith, c.page.ensures, c.if-page.true))
 
 pub returns-in-Some-split_last-clause-front : goal.returns-in-Some-split_last-clause-front
 returns-in-Some-split_last-clause-front c =

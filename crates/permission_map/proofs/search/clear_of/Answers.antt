@@ -10,11 +10,15 @@ use Rattle.permission_map.proofs.search.clear_of.Goals as goal
 pub returns-clause-front : goal.returns-clause-front
 returns-clause-front c =
     let parted = IsPartitionedBy-ltb end_of c.args.runs.now c.args.first (ends_rise 0 NoAccess c.args.runs.now c.requires) in
-    let point = IsPartitionPoint-from_clause (λ (run : Run). nat_lt (end_of run) c.args.first) _ _ c.partition_point.ensures.partitioned parted (λ a r q k. search rules) in
-    λ k d h. ltb-true _ _ (point_front (λ run. nat_lt (end_of run) c.args.first ≡ true) (λ run. nat_lt (end_of run) c.args.first ≡ false) c.args.runs.now c.partition_point.result c.partition_point.ensures.bound point k d h)
+    let point = IsPartitionPoint-from_clause (λ (run : Run). nat_lt (end_of run) c.args.first) _ _ c.partition_point.ensures.partitioned parted
+    (λ a r q k. search rules) in
+    λ k d h. ltb-true _ _ (point_front (λ run. nat_lt (end_of run) c.args.first ≡ true)
+    (λ run. nat_lt (end_of run) c.args.first ≡ false) c.args.runs.now c.partition_point.result c.partition_point.ensures.bound point k d h)
 
 pub returns-clause-rest : goal.returns-clause-rest
 returns-clause-rest c =
     let parted = IsPartitionedBy-ltb end_of c.args.runs.now c.args.first (ends_rise 0 NoAccess c.args.runs.now c.requires) in
-    let point = IsPartitionPoint-from_clause (λ (run : Run). nat_lt (end_of run) c.args.first) _ _ c.partition_point.ensures.partitioned parted (λ a r q k. search rules) in
-    λ k d h. ltb-false _ _ (point_rest (λ run. nat_lt (end_of run) c.args.first ≡ true) (λ run. nat_lt (end_of run) c.args.first ≡ false) c.args.runs.now c.partition_point.result c.partition_point.ensures.bound point k d h)
+    let point = IsPartitionPoint-from_clause (λ (run : Run). nat_lt (end_of run) c.args.first) _ _ c.partition_point.ensures.partitioned parted
+    (λ a r q k. search rules) in
+    λ k d h. ltb-false _ _ (point_rest (λ run. nat_lt (end_of run) c.args.first ≡ true)
+    (λ run. nat_lt (end_of run) c.args.first ≡ false) c.args.runs.now c.partition_point.result c.partition_point.ensures.bound point k d h)

@@ -12,7 +12,8 @@ returns-clause-bytes g c =
     let items : Vec ℕ Global → List ℕ = λ v. v.items in
     let none : items (inner_of c.new-sink.result) ≡ [] = ap items c.new-sink.ensures.inner ∙ c.in_ok-with_capacity.ensures.items in
     let tree = costed (g.P.WrittenPlan.planned c.args.plan.now).costs 0 (g.H.Halving.shape c.args.root.now) in
-    ap items c.into_inner.ensures ∙ c.in-Ok.ensures.prints.whole ∙ ap (λ (xs : List ℕ). xs ++ certificate_bytes (version_for c.args.limit) (g.P.WrittenPlan.planned c.args.plan.now).entries tree) none
+    ap items c.into_inner.ensures ∙ c.in-Ok.ensures.prints.whole ∙ ap (λ (xs : List ℕ). xs ++ certificate_bytes (version_for c.args.limit)
+    (g.P.WrittenPlan.planned c.args.plan.now).entries tree) none
 
 pub returns-clause-spells : goal.returns-clause-spells
 returns-clause-spells g c =

@@ -16,8 +16,21 @@ loop-rest-preserved c =
         most = omega (arith, i.most);
         from = omega (arith, i.from);
         counted = omega (arith, i.counted, some);
-        room = omega (arith, i.room, some, ap length c.hold.ensures, length-append l.piece.items c.as_slice.result.now, ap length c.as_slice.ensures, c.front_of-front.ensures.size, ap length w.hold-then-goes_up.ensures, length-append c.hold.new.piece.items c.as_slice-bytes.result.now, ap length c.as_slice-bytes.ensures);
-        held = held_up _ _ l.rest c.args.chain.before l.piece.items c.hold.new.piece.items _ _ some (sym c.goes_up.ensures ∙ w.if-goes_up.true) (c.hold.ensures ∙ ap (λ x. l.piece.items ++ x) front) (w.hold-then-goes_up.ensures ∙ ap (λ x. c.hold.new.piece.items ++ x) leaf) i.held;
+        room = omega (
+          arith,
+          i.room,
+          some,
+          ap length c.hold.ensures,
+          length-append l.piece.items c.as_slice.result.now,
+          ap length c.as_slice.ensures,
+          c.front_of-front.ensures.size,
+          ap length w.hold-then-goes_up.ensures,
+          length-append c.hold.new.piece.items c.as_slice-bytes.result.now,
+          ap length
+              c.as_slice-bytes.ensures,
+        );
+        held = held_up _ _ l.rest c.args.chain.before l.piece.items c.hold.new.piece.items _ _ some (sym c.goes_up.ensures ∙ w.if-goes_up.true)
+            (c.hold.ensures ∙ ap (λ x. l.piece.items ++ x) front) (w.hold-then-goes_up.ensures ∙ ap (λ x. c.hold.new.piece.items ++ x) leaf) i.held;
         tails = λ b. tails_up l.rest b _ _ some (sym c.goes_up.ensures ∙ w.if-goes_up.true) (i.tails b);
         few = omega (arith, i.few, some);
         fits = fits_more _ _ _ i.fits c.costs_of.ensures.fits;
@@ -27,8 +40,17 @@ loop-rest-preserved c =
         most = omega (arith, i.most);
         from = omega (arith, i.from);
         counted = omega (arith, i.counted, some);
-        room = omega (arith, i.room, some, ap length c.hold.ensures, length-append l.piece.items c.as_slice.result.now, ap length c.as_slice.ensures, c.front_of-front.ensures.size);
-        held = held_down _ _ l.rest c.args.chain.before l.piece.items _ _ some (sym c.goes_up.ensures ∙ w.if-goes_up.false) (c.hold.ensures ∙ ap (λ x. l.piece.items ++ x) front) i.held;
+        room = omega (
+          arith,
+          i.room,
+          some,
+          ap length c.hold.ensures,
+          length-append l.piece.items c.as_slice.result.now,
+          ap length c.as_slice.ensures,
+          c.front_of-front.ensures.size,
+        );
+        held = held_down _ _ l.rest c.args.chain.before l.piece.items _ _ some (sym c.goes_up.ensures ∙ w.if-goes_up.false)
+            (c.hold.ensures ∙ ap (λ x. l.piece.items ++ x) front) i.held;
         tails = λ b. tails_down l.rest b _ _ _ some (sym c.goes_up.ensures ∙ w.if-goes_up.false) (leaves_more l.behind b) (i.tails b);
         few = omega (arith, i.few, some);
         fits = fits_more _ _ _ i.fits c.costs_of.ensures.fits;

@@ -12,7 +12,8 @@ invariant-loop-rest l = record {
   from : l.fn.i ≤ l.next;
   counted : l.next + l.rest.levels ≡ l.fn.i + l.fn.chain.levels;
   room : length l.piece.items + 27 * l.rest.levels ≤ 16384;
-  held : l.piece.items ++ head_bytes l.fn.costs l.next l.rest.levels l.rest.place l.fn.chain.before ≡ l.fn.piece.items ++ head_bytes l.fn.costs l.fn.i l.fn.chain.levels l.fn.chain.place l.fn.chain.before;
+  held : l.piece.items ++ head_bytes l.fn.costs l.next l.rest.levels l.rest.place l.fn.chain.before ≡ l.fn.piece.items
+      ++ head_bytes l.fn.costs l.fn.i l.fn.chain.levels l.fn.chain.place l.fn.chain.before;
   tails : (behind : Perm) → leaves_bytes l.behind behind ++ tail_bytes l.rest.levels l.rest.place behind ≡ tail_bytes l.fn.chain.levels l.fn.chain.place behind;
   few : l.behind + l.rest.levels ≤ l.fn.chain.levels;
   fits : (m : ℕ) → l.fn.i ≤ m → m < l.next → (perm : Perm) → cost_in l.fn.costs m perm < 2 ^ 32;

@@ -7,7 +7,8 @@ use Rattle.plan_certificate.proofs.Sent.{put_then, cut_then, cut_more, entries_m
 use Rattle.plan_certificate.proofs.pieces.put_entries.Goals as goal
 
 -- the bytes of the entries up to one and those of that one are those up to the next
-step : (es : List Entry) (i : ℕ) (piece : List ℕ) → i < length es → ((d : Entry) → piece ≡ entry_bytes (get_or es i d)) → flat_map entry_bytes (take i es) ++ piece ≡ flat_map entry_bytes (take (i + 1) es)
+step : (es : List Entry) (i : ℕ) (piece : List ℕ) → i < length es → ((d : Entry) → piece ≡ entry_bytes (get_or es i d))
+    → flat_map entry_bytes (take i es) ++ piece ≡ flat_map entry_bytes (take (i + 1) es)
 step [] i piece inside is = absurd (omega arith)
 step (e ∷ es) i piece inside is = ap (λ (xs : List ℕ). flat_map entry_bytes (take i (e ∷ es)) ++ xs) (is e) ∙ sym (entries_more (e ∷ es) i e inside)
 

@@ -18,9 +18,11 @@ front count version = header_bytes (record { version = version; count = count })
 parts :
     (held : List ℕ) (count n : ℕ) (version v : Version) (entries : List Entry) (listed costs : List SplitCost) (tree : PermTree) → held ≡ front count version
     → count ≡ n → version ≡ v → listed ≡ costs
-    → held ++ (flat_map entry_bytes entries ++ node_bytes (costed listed 0 tree)) ≡ front n v ++ (flat_map entry_bytes entries ++ node_bytes (costed costs 0 tree))
+    → held ++ (flat_map entry_bytes entries ++ node_bytes (costed listed 0 tree)) ≡ front n v ++
+    (flat_map entry_bytes entries ++ node_bytes (costed costs 0 tree))
 parts held count n version v entries listed costs tree is_held is_count is_version is_listed =
-    ap₂ (λ (a : List ℕ) (cs : List SplitCost). a ++ (flat_map entry_bytes entries ++ node_bytes (costed cs 0 tree))) (is_held ∙ ap₂ front is_count is_version) is_listed
+    ap₂ (λ (a : List ℕ) (cs : List SplitCost). a ++ (flat_map entry_bytes entries ++ node_bytes (costed cs 0 tree)))
+    (is_held ∙ ap₂ front is_count is_version) is_listed
 
 pub returns-in_default-clause-prints : goal.returns-in_default-clause-prints
 unfolding front
@@ -55,4 +57,5 @@ returns-in_default-write_whole-clause-prints g c =
     (subst (λ (b : List ℕ). IsCut [] (now c.args.sink.now) (now c.write_whole.new.sink) b)
     (parts _ _ _ _ _ _ _ _ _ c.header_piece-piece.ensures c.count.ensures c.version_for.ensures c.split_costs.ensures)
     (cut_whole _ _ _ _
-    (subst (λ (b : List ℕ). IsCut c.header_piece-piece.result.items (now c.args.sink.now) (now c.write_whole.new.sink) b) (append-nil (flat_map entry_bytes (g.P.WrittenPlan.planned c.args.plan.now).entries ++ nodes)) (cut_then _ _ _ _ _ _ _ put cut))))
+    (subst (λ (b : List ℕ). IsCut c.header_piece-piece.result.items (now c.args.sink.now) (now c.write_whole.new.sink) b)
+    (append-nil (flat_map entry_bytes (g.P.WrittenPlan.planned c.args.plan.now).entries ++ nodes)) (cut_then _ _ _ _ _ _ _ put cut))))

@@ -17,7 +17,8 @@ returns-in-Ok-clause-judged c =
     let list = subst (λ n. MeansList (pairs_to c.args.registers.now n) c.in-Ok.list.items) count c.in-Ok.ensures.list in
     let own = c.judged.ensures in
     let judges = subst (λ es. Judges es c.in-Some.access own.0) c.deref.ensures.0 own.1 in
-    rw (crosses c.judged.result (answer_code own.0) own.2 c.judged.type_inv) (judged c.in-Some.access c.in-Ok.list.items own.0 c.in-Some.ensures.some list judges)
+    rw (crosses c.judged.result (answer_code own.0) own.2 c.judged.type_inv)
+    (judged c.in-Some.access c.in-Ok.list.items own.0 c.in-Some.ensures.some list judges)
 
 pub returns-in-Ok-clause-listed : goal.returns-in-Ok-clause-listed
 returns-in-Ok-clause-listed c = λ a entries answer says means judges.
@@ -26,7 +27,8 @@ returns-in-Ok-clause-listed c = λ a entries answer says means judges.
     let own = c.judged.ensures in
     let known = subst (λ es. Judges es c.in-Some.access own.0) c.deref.ensures.0 own.1 in
     crosses c.judged.result (answer_code own.0) own.2 c.judged.type_inv
-    ∙ ap answer_code (one_judgement c.args.registers.now (min c.args.entries 64) c.args.access.now c.in-Some.access a c.in-Ok.list.items entries own.0 answer c.in-Some.ensures.some says list means known judges)
+    ∙ ap answer_code (one_judgement c.args.registers.now (min c.args.entries 64) c.args.access.now c.in-Some.access a c.in-Ok.list.items entries own.0 answer
+    c.in-Some.ensures.some says list means known judges)
 
 pub returns-in-Ok-clause-faulty : goal.returns-in-Ok-clause-faulty
 returns-in-Ok-clause-faulty c = λ a fault says h.
@@ -38,7 +40,8 @@ pub returns-in-Err-clause-judged : goal.returns-in-Err-clause-judged
 returns-in-Err-clause-judged c =
     let count : c.min.result ≡ min c.args.entries 64 = omega (arith, c.min.ensures) in
     let own = subst (λ n. HasFault c.args.registers.now n c.in-Err.fault) count c.in-Err.ensures.fault in
-    rw (crosses c.code_of.result (pair_code c.in-Err.fault) c.code_of.ensures c.code_of.type_inv) (faulty c.in-Some.access c.in-Err.fault c.in-Some.ensures.some own)
+    rw (crosses c.code_of.result (pair_code c.in-Err.fault) c.code_of.ensures c.code_of.type_inv)
+    (faulty c.in-Some.access c.in-Err.fault c.in-Some.ensures.some own)
 
 pub returns-in-Err-clause-listed : goal.returns-in-Err-clause-listed
 returns-in-Err-clause-listed c = λ a entries answer says means judges.
@@ -50,4 +53,5 @@ pub returns-in-Err-clause-faulty : goal.returns-in-Err-clause-faulty
 returns-in-Err-clause-faulty c = λ a fault says h.
     let count : c.min.result ≡ min c.args.entries 64 = omega (arith, c.min.ensures) in
     let own = subst (λ n. HasFault c.args.registers.now n c.in-Err.fault) count c.in-Err.ensures.fault in
-    crosses c.code_of.result (pair_code c.in-Err.fault) c.code_of.ensures c.code_of.type_inv ∙ ap pair_code (one_pair_fault c.args.registers.now (min c.args.entries 64) c.in-Err.fault fault own h)
+    crosses c.code_of.result (pair_code c.in-Err.fault) c.code_of.ensures c.code_of.type_inv
+    ∙ ap pair_code (one_pair_fault c.args.registers.now (min c.args.entries 64) c.in-Err.fault fault own h)

@@ -19,9 +19,11 @@ loop-rest-preserved c =
     let sets = c.in-Ok.ensures.done in
     record {
       led = λ runs l. c.loop-rest.invariant.led runs (subst (λ xs. LeadTo c.loop-rest.map xs runs) (sym split) (next sets l));
-      fault = fault_more c.args.settings.now c.loop-rest.rest.now _ c.loop-rest.map c.set.new.map c.in-len1-up.len_at_least c.loop-rest.invariant.shorter c.loop-rest.invariant.fault sets;
+      fault = fault_more c.args.settings.now c.loop-rest.rest.now _ c.loop-rest.map c.set.new.map c.in-len1-up.len_at_least c.loop-rest.invariant.shorter
+          c.loop-rest.invariant.fault sets;
       shorter = shorter_more c.args.settings.now c.loop-rest.rest.now c.loop-rest.invariant.shorter;
     }
 
 pub returns-clause-made : goal.returns-clause-made
-returns-clause-made c = c.loop-rest.invariant.led c.loop-rest.map (subst (λ xs. LeadTo c.loop-rest.map xs c.loop-rest.map) (sym (none_left c.loop-rest.rest.now c.in_default.len_below)) done)
+returns-clause-made c = c.loop-rest.invariant.led c.loop-rest.map (subst (λ xs. LeadTo c.loop-rest.map xs c.loop-rest.map)
+    (sym (none_left c.loop-rest.rest.now c.in_default.len_below)) done)

@@ -22,13 +22,16 @@ loop-i-preserved c =
     let before : SameView (view_of_runs c.loop-i.perms) (device_perm (drop (i + 1) devices)) = rw next c.loop-i.invariant.view in
     let pages : PageRange = c.of_bytes.result in
     let begun : SameView (view_of_runs c.set_pages.new.map) (overwritten (view_of_runs c.loop-i.perms) (d.0 / 4096) pages.count d.2) =
-    subst (λ first. SameView (view_of_runs c.set_pages.new.map) (overwritten (view_of_runs c.loop-i.perms) first pages.count d.2)) c.of_bytes.ensures.first c.in_ok-set_pages.ensures.view
+    subst (λ first. SameView (view_of_runs c.set_pages.new.map) (overwritten (view_of_runs c.loop-i.perms) first pages.count d.2)) c.of_bytes.ensures.first
+    c.in_ok-set_pages.ensures.view
     in
     let set : SameView (view_of_runs c.set_pages.new.map) (overwritten (view_of_runs c.loop-i.perms) (d.0 / 4096) (d.1 / 4096) d.2) =
-    subst (λ count. SameView (view_of_runs c.set_pages.new.map) (overwritten (view_of_runs c.loop-i.perms) (d.0 / 4096) count d.2)) c.of_bytes.ensures.count begun
+    subst (λ count. SameView (view_of_runs c.set_pages.new.map) (overwritten (view_of_runs c.loop-i.perms) (d.0 / 4096) count d.2)) c.of_bytes.ensures.count
+    begun
     in
     record {
       inside = omega (arith, inside);
       few = omega (arith, c.loop-i.invariant.few, c.in_ok-set_pages.ensures.few, next);
-      view = device_set devices i d (view_of_runs c.loop-i.perms) (view_of_runs c.set_pages.new.map) inside (get_or_default devices i nothing d inside) before set;
+      view = device_set devices i d (view_of_runs c.loop-i.perms) (view_of_runs c.set_pages.new.map) inside
+          (get_or_default devices i nothing d inside) before set;
     }

@@ -6,11 +6,13 @@ use Rattle.platforms.proofs.ranges.devices_apart.Goals as goal
 
 pub returns-then-not-is_clear_of_devices : goal.returns-then-not-is_clear_of_devices
 returns-then-not-is_clear_of_devices c = never (λ each.
-    false≢true (c.if-not-is_clear_of_devices.ensures.1 (of_devices _ _ (rw (rest_is c.loop-i.i c.args.devices.now) (device_at c.args.devices.now c.loop-i.i _ c.loop-i-test.true each)))))
+    false≢true (c.if-not-is_clear_of_devices.ensures.1 (of_devices _ _ (rw (rest_is c.loop-i.i c.args.devices.now)
+    (device_at c.args.devices.now c.loop-i.i _ c.loop-i-test.true each)))))
 
 pub loop-i-preserved : goal.loop-i-preserved
 loop-i-preserved c =
-    one_more (λ k x. All (AreRangesApart (device_range x)) (map device_range (drop (k + 1) c.args.devices.now))) c.args.devices.now c.loop-i.i _ c.loop-i-test.true
+    one_more (λ k x. All (AreRangesApart (device_range x)) (map device_range (drop (k + 1) c.args.devices.now))) c.args.devices.now c.loop-i.i _
+    c.loop-i-test.true
     c.loop-i.invariant (of_ranges _ _ (rw (rest_is c.loop-i.i c.args.devices.now) at (c.if-not-is_clear_of_devices.ensures.0 refl)))
 
 pub returns : goal.returns

@@ -3,7 +3,8 @@ use Rattle.std.proofs.lemmas.Bool.{false≢true}
 use Rattle.platforms.specs.Ranges.{AreRangesApart, device_range}
 use Rattle.platforms.proofs.Apart.{never, of_ranges, of_devices, each_from, apart_at, rest_apart, one_more, rest_is}
 use Rattle.platforms.proofs.ranges.each_apart.Goals as goal
-use Rattle.platforms.proofs.ranges.each_apart.Goals.{then-not-is_clear-via-then-not-is_clear, then-not-is_clear-via-else-not-is_clear+then-not-is_clear_of_devices}
+use Rattle.platforms.proofs.ranges.each_apart.Goals.{then-not-is_clear-via-then-not-is_clear}
+use Rattle.platforms.proofs.ranges.each_apart.Goals.{then-not-is_clear-via-else-not-is_clear+then-not-is_clear_of_devices}
 
 pub returns-then-not-is_clear : goal.returns-then-not-is_clear
 returns-then-not-is_clear c = never (λ each.
@@ -15,8 +16,13 @@ returns-then-not-is_clear c = never (λ each.
 
 pub loop-i-preserved : goal.loop-i-preserved
 loop-i-preserved c =
-    one_more (λ k x. All (AreRangesApart x) (drop (k + 1) c.args.ranges.now) × All (AreRangesApart x) (map device_range c.args.devices.now)) c.args.ranges.now c.loop-i.i _ c.loop-i-test.true
-    c.loop-i.invariant (rw (rest_is c.loop-i.i c.args.ranges.now) at (c.if-not-is_clear.ensures.0 refl), of_ranges _ _ (c.if-not-is_clear_of_devices.ensures.0 refl))
+    one_more (λ k x. All (AreRangesApart x) (drop (k + 1) c.args.ranges.now) × All (AreRangesApart x) (map device_range c.args.devices.now)) c.args.ranges.now
+    c.loop-i.i _ c.loop-i-test.true
+    c.loop-i.invariant (
+      rw (rest_is c.loop-i.i c.args.ranges.now) at (c.if-not-is_clear.ensures.0 refl),
+      of_ranges _ _
+          (c.if-not-is_clear_of_devices.ensures.0 refl),
+    )
 
 pub returns : goal.returns
 returns c = (

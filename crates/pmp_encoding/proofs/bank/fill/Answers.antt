@@ -8,7 +8,13 @@ use Rattle.pmp_encoding.proofs.bank.fill.Goals.{then-i-eq0, else-i-eq0}
 use Rattle.pmp_encoding.proofs.bank.fill.Goals as goal
 
 pub loop-i-init : goal.loop-i-init
-loop-i-init c = record { filled = filled_zeros c.args.entries.now c.args.addresses.now c.requires.cleared; begun = λ some. refl; room = c.told-extents; in_order = refl }
+loop-i-init c = record {
+  filled = filled_zeros c.args.entries.now c.args.addresses.now c.requires.cleared;
+  begun = λ some. refl;
+  room = c.told-extents;
+  in_order
+      = refl;
+}
 
 pub loop-i-preserved : goal.loop-i-preserved
 loop-i-preserved c =
@@ -22,14 +28,17 @@ loop-i-preserved c =
     ] in
     record {
       filled = rw c.encode-cfg.ensures.address
-          (filled_more c.args.entries.now c.loop-i.words c.loop-i.addresses c.loop-i.i now.filled (omega (arith, c.requires.few, c.loop-i-test.true)) entry next c.with_byte-word.result (c.with_byte-word.ensures.here ∙ c.encode-cfg.ensures.cfg)
+          (filled_more c.args.entries.now c.loop-i.words c.loop-i.addresses c.loop-i.i now.filled
+          (omega (arith, c.requires.few, c.loop-i-test.true)) entry next c.with_byte-word.result (c.with_byte-word.ensures.here ∙ c.encode-cfg.ensures.cfg)
           (rw was at c.with_byte-word.ensures.others) c.with_byte-word.ensures.small);
       begun = λ some. same_word c.loop-i.words c.loop-i.i c.with_byte-word.result (omega (arith, now.filled.eight, c.requires.few, c.loop-i-test.true)) some;
       room = length-set c.loop-i.extents c.loop-i.i c.put.new.self ∙ now.room;
       in_order =
-          take_more_set c.loop-i.extents c.loop-i.i c.put.new.self (omega (arith, now.room, c.requires.few, c.loop-i-test.true)) ∙ ap (λ xs. xs ++ c.put.new.self ∷ []) now.in_order
+          take_more_set c.loop-i.extents c.loop-i.i c.put.new.self (omega (arith, now.room, c.requires.few, c.loop-i-test.true))
+          ∙ ap (λ xs. xs ++ c.put.new.self ∷ []) now.in_order
           ∙ ap (λ x. map extent_of (take c.loop-i.i c.args.entries.now) ++ x ∷ []) (c.put.ensures ∙ ap extent_of here)
-          ∙ sym (ap (map extent_of) (take_more c.args.entries.now c.loop-i.i entry c.loop-i-test.true) ∙ map-append extent_of (take c.loop-i.i c.args.entries.now) _);
+          ∙ sym (ap (map extent_of) (take_more c.args.entries.now c.loop-i.i entry c.loop-i-test.true)
+          ∙ map-append extent_of (take c.loop-i.i c.args.entries.now) _);
     }
 
 pub returns-clause-registers : goal.returns-clause-registers
@@ -38,4 +47,5 @@ returns-clause-registers c = filled_all c.args.entries.now c.loop-i.words c.loop
 pub returns-clause-in_order : goal.returns-clause-in_order
 returns-clause-in_order c =
     let all : c.loop-i.i ≡ length c.args.entries.now = omega (arith, c.loop-i-test.false, c.loop-i.auto.i-end) in
-    ap (λ n. take n c.loop-i.extents) (sym all) ∙ c.loop-i.invariant.in_order ∙ ap (map extent_of) (ap (λ n. take n c.args.entries.now) all ∙ take_all (length c.args.entries.now) c.args.entries.now (omega arith))
+    ap (λ n. take n c.loop-i.extents) (sym all) ∙ c.loop-i.invariant.in_order
+    ∙ ap (map extent_of) (ap (λ n. take n c.args.entries.now) all ∙ take_all (length c.args.entries.now) c.args.entries.now (omega arith))

@@ -11,5 +11,6 @@ unreachable-requires c = no_reserved (cfg_at c.args.registers.now c.args.place) 
 
 pub returns : goal.returns
 returns c =
-    let mode : unlocked (cfg_at c.args.registers.now c.args.place) ≡ 1 * 8 + bits_of c.in-Some.perm = omega (arith, c.requires.cfg, c.requires.tor, c.in-Some.ensures.some) in
+    let mode : unlocked (cfg_at c.args.registers.now c.args.place) ≡ 1 * 8 + bits_of c.in-Some.perm = omega
+    (arith, c.requires.cfg, c.requires.tor, c.in-Some.ensures.some) in
     rw (c.tor_extent.ensures, c.bottom_of-bottom.ensures.value, c.requires.top) (tor c.in-Some.perm mode)

@@ -9,5 +9,7 @@ use Rattle.prefix_tree.proofs.map_blocks.begun_before.Goals as goal
 pub returns-then-runs-gt-FEW-clause-count : goal.returns-then-runs-gt-FEW-clause-count
 returns-then-runs-gt-FEW-clause-count c =
     let passes = λ (run : Run). nat_lt run.first c.args.page in
-    let point = IsPartitionPoint-from_clause passes _ _ c.partition_point.ensures.partitioned (IsPartitionedBy-ltb (λ (run : Run). run.first) c.args.runs.now c.args.page (firsts_rise 0 NoAccess c.args.runs.now c.requires)) (λ a r q k. search rules) in
+    let point = IsPartitionPoint-from_clause passes _ _ c.partition_point.ensures.partitioned
+    (IsPartitionedBy-ltb (λ (run : Run). run.first) c.args.runs.now c.args.page (firsts_rise 0 NoAccess c.args.runs.now c.requires))
+    (λ a r q k. search rules) in
     sym (point_counts passes c.args.runs.now c.partition_point.result c.partition_point.ensures.bound point)

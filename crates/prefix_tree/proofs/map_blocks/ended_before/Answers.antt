@@ -12,11 +12,13 @@ pub returns-then-saturating_sub-last : goal.returns-then-saturating_sub-last
 returns-then-saturating_sub-last c =
     let d : Run = record { first = 0; count = 0; perm = NoAccess } in
     let some : suc (c.args.begun - 1) ≡ c.args.begun = omega (arith, c.if-begun-eq0.false) in
-    last_goes_on c.args.runs.now c.args.page (c.args.begun - 1) d c.requires.runs (some ∙ c.requires.begun) (omega (arith, c.saturating_sub.ensures, c.if-saturating_sub-last.true))
+    last_goes_on c.args.runs.now c.args.page (c.args.begun - 1) d c.requires.runs (some ∙ c.requires.begun)
+    (omega (arith, c.saturating_sub.ensures, c.if-saturating_sub-last.true))
 
 pub returns : goal.returns
 returns c =
     let d : Run = record { first = 0; count = 0; perm = NoAccess } in
     let some : suc (c.args.begun - 1) ≡ c.args.begun = omega (arith, c.if-begun-eq0.false) in
     sym some
-    ∙ last_ended c.args.runs.now c.args.page (c.args.begun - 1) d c.requires.runs (some ∙ c.requires.begun) (omega (arith, c.saturating_sub.ensures, c.if-saturating_sub-last.false))
+    ∙ last_ended c.args.runs.now c.args.page (c.args.begun - 1) d c.requires.runs (some ∙ c.requires.begun)
+    (omega (arith, c.saturating_sub.ensures, c.if-saturating_sub-last.false))

@@ -12,7 +12,8 @@ pub returns-in-Apart-clause-means : goal.returns-in-Apart-clause-means
 returns-in-Apart-clause-means t c =
     let run = c.args.run.now in
     IfOk-weaker c.share.result _ _
-    (λ b shape view means. rw shape (apart_means view c.args.height c.args.first c.args.run.now.first c.args.run.now.count c.args.run.now.perm (shape_of c.args.block.now) c.in-Apart.ensures means))
+    (λ b shape view means. rw shape (apart_means view c.args.height c.args.first c.args.run.now.first c.args.run.now.count c.args.run.now.perm
+    (shape_of c.args.block.now) c.in-Apart.ensures means))
     c.share.ensures.shape
 
 pub overwritten_block-requires : goal.overwritten_block-requires
@@ -81,11 +82,13 @@ returns-clause-fits t c =
     let some : 0 < c.args.height = c.in-Partly.ensures in
     let e : c.args.height ≡ suc (c.args.height - 1) = omega arith in
     IfOk-weaker c.join.result _ _
-    (λ b shape. rw shape (joined_fits c.args.height (c.args.height - 1) (shape_of c.in_ok-lower.lower) (shape_of c.in_ok-upper.upper) e c.in_ok-lower.ensures.fits c.in_ok-upper.ensures.fits))
+    (λ b shape. rw shape (joined_fits c.args.height (c.args.height - 1) (shape_of c.in_ok-lower.lower)
+    (shape_of c.in_ok-upper.upper) e c.in_ok-lower.ensures.fits c.in_ok-upper.ensures.fits))
     c.join.ensures.shape
 
 pub returns-clause-canonical : goal.returns-clause-canonical
 returns-clause-canonical t c =
     IfOk-weaker c.join.result _ _
-    (λ b shape. rw shape (joined_canonical (shape_of c.in_ok-lower.lower) (shape_of c.in_ok-upper.upper) c.in_ok-lower.ensures.canonical c.in_ok-upper.ensures.canonical))
+    (λ b shape. rw shape (joined_canonical (shape_of c.in_ok-lower.lower)
+    (shape_of c.in_ok-upper.upper) c.in_ok-lower.ensures.canonical c.in_ok-upper.ensures.canonical))
     c.join.ensures.shape

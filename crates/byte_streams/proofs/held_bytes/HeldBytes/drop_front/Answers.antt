@@ -8,4 +8,5 @@ returns c =
     let len = c.self.inside.len in
     let held : take len all ≡ c.args.self.now = ap (take len) c.deref_mut.ensures.value ∙ c.self.view_is in
     let order : c.args.count ≤ len = omega (arith, c.requires, ap length held, length-take len all) in
-    ap (take (len - c.args.count)) c.copy_within.ensures.after ∙ take-moved all c.args.count len order (omega (arith, c.self.invariant)) ∙ ap (drop c.args.count) held
+    ap (take (len - c.args.count)) c.copy_within.ensures.after ∙ take-moved all c.args.count len order (omega (arith, c.self.invariant))
+    ∙ ap (drop c.args.count) held

@@ -6,7 +6,8 @@ use Rattle.certificate_check.proofs.Spanned.{bounded, rest_from, span_inside}
 use Rattle.certificate_check.proofs.entries.Entries.bounds.Goals as goal
 
 pub overflow_mul-at : goal.overflow_mul-at
-overflow_mul-at c = let less : c.args.i < count_in c.self.inside.bytes.now = subst (λ (xs : List ℕ). c.args.i < count_in xs) (sym c.self.view_is) c.requires in let told = c.self.told.0 in omega (arith, less, told)
+overflow_mul-at c = let less : c.args.i < count_in c.self.inside.bytes.now = subst (λ (xs : List ℕ). c.args.i < count_in xs)
+    (sym c.self.view_is) c.requires in let told = c.self.told.0 in omega (arith, less, told)
 
 pub returns-clause-some : goal.returns-clause-some
 returns-clause-some c =
@@ -32,7 +33,8 @@ returns-clause-first c =
     let bytes : List ℕ = c.self.inside.bytes.now in
     let address : c.read_u64.result ≡ little_number 8 (drop (9 * c.args.i + 1) bytes) =
     c.read_u64.ensures ∙ ap (λ xs. little_number 8 xs) (rest_from (9 * c.args.i + 1) bytes) in
-    (bounded bytes c.args.i c.read_u64.result s c.bounds_of.result address (subst (λ (xs : List ℕ). IsSpanAt xs c.args.i s) (sym c.self.view_is) there) c.bounds_of.ensures).0
+    (bounded bytes c.args.i c.read_u64.result s c.bounds_of.result address
+    (subst (λ (xs : List ℕ). IsSpanAt xs c.args.i s) (sym c.self.view_is) there) c.bounds_of.ensures).0
 
 pub returns-clause-end : goal.returns-clause-end
 returns-clause-end c =
@@ -40,4 +42,5 @@ returns-clause-end c =
     let bytes : List ℕ = c.self.inside.bytes.now in
     let address : c.read_u64.result ≡ little_number 8 (drop (9 * c.args.i + 1) bytes) =
     c.read_u64.ensures ∙ ap (λ xs. little_number 8 xs) (rest_from (9 * c.args.i + 1) bytes) in
-    (bounded bytes c.args.i c.read_u64.result s c.bounds_of.result address (subst (λ (xs : List ℕ). IsSpanAt xs c.args.i s) (sym c.self.view_is) there) c.bounds_of.ensures).1
+    (bounded bytes c.args.i c.read_u64.result s c.bounds_of.result address
+    (subst (λ (xs : List ℕ). IsSpanAt xs c.args.i s) (sym c.self.view_is) there) c.bounds_of.ensures).1

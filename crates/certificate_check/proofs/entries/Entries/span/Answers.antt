@@ -5,7 +5,8 @@ use Rattle.certificate_check.proofs.Spanned.{perm_by_bits, same_span, size_by_pa
 use Rattle.certificate_check.proofs.entries.Entries.span.Goals as goal
 
 pub overflow_mul-i : goal.overflow_mul-i
-overflow_mul-i c = let less : c.args.i < count_in c.self.inside.bytes.now = subst (λ (xs : List ℕ). c.args.i < count_in xs) (sym c.self.view_is) c.requires in let told = c.self.told.0 in omega (arith, less, told)
+overflow_mul-i c = let less : c.args.i < count_in c.self.inside.bytes.now = subst (λ (xs : List ℕ). c.args.i < count_in xs)
+    (sym c.self.view_is) c.requires in let told = c.self.told.0 in omega (arith, less, told)
 
 pub unreachable-requires : goal.unreachable-requires
 unreachable-requires c =
@@ -18,7 +19,8 @@ returns-clause-small c =
     let bytes : List ℕ = c.self.inside.bytes.now in
     let at = c.self.invariant c.args.i (subst (λ (xs : List ℕ). c.args.i < count_in xs) (sym c.self.view_is) c.requires) in
     let there : IsSpanAt c.args.self.now c.args.i at.0 = subst (λ (xs : List ℕ). IsSpanAt xs c.args.i at.0) c.self.view_is at.1 in
-    let size = size_by_pages bytes c.args.i (c.bounds-first.result.end - c.bounds-first.result.first) at.0 at.1 (omega (arith, c.bounds-first.ensures.first at.0 there, c.bounds-first.ensures.end at.0 there)) in
+    let size = size_by_pages bytes c.args.i (c.bounds-first.result.end - c.bounds-first.result.first) at.0 at.1
+    (omega (arith, c.bounds-first.ensures.first at.0 there, c.bounds-first.ensures.end at.0 there)) in
     omega (arith, size, (span_inside bytes c.args.i at.0 at.1).2)
 
 pub returns-clause-value : goal.returns-clause-value

@@ -5,7 +5,8 @@ use Rattle.certificate_format.proofs.CostBytes.{same_costs, short_costs, front_a
 use Rattle.certificate_format.proofs.reader.Reader.costs.Goals as goal
 
 pub returns-in_default-clause-whole : goal.returns-in_default-clause-whole
-returns-in_default-clause-whole c = λ costs rest fits e. absurd (short_costs c.rest.result.now c.args.self.now rest costs c.rest.ensures c.in_default.ensures.cases e)
+returns-in_default-clause-whole c = λ costs rest fits e. absurd (short_costs c.rest.result.now c.args.self.now rest costs c.rest.ensures
+    c.in_default.ensures.cases e)
 
 pub returns-clause-whole : goal.returns-clause-whole
 returns-clause-whole c = λ costs rest fits e.

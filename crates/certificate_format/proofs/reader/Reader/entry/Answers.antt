@@ -4,7 +4,8 @@ use Rattle.certificate_format.proofs.CostBytes.{same_pair, short_pair, front_and
 use Rattle.certificate_format.proofs.reader.Reader.entry.Goals as goal
 
 pub returns-in_default-clause-whole : goal.returns-in_default-clause-whole
-returns-in_default-clause-whole c = λ pair rest fits e. absurd (short_pair c.rest.result.now c.args.self.now rest pair c.rest.ensures c.in_default.ensures.cases e)
+returns-in_default-clause-whole c = λ pair rest fits e. absurd (short_pair c.rest.result.now c.args.self.now rest pair c.rest.ensures c.in_default.ensures.cases
+    e)
 
 pub returns-clause-whole : goal.returns-clause-whole
 returns-clause-whole c = λ pair rest fits e.

@@ -30,10 +30,12 @@ returns-in_err-host-clause-refused g c =
     let parts : Create = c.kept-parts.result in
     let range : PageRange = c.private_pages.result in
     let free = c.in_ok-id.ensures.next.free in
-    handed_on c.from_residual-in_err-host.result c.in_err-host.field-0.0 (RefusesBy (create_checks old c.args.world (parts_of c.args.asked)) (OutgrowsByCreate digests old c.args.asked)) c.from_residual-in_err-host.ensures.1
+    handed_on c.from_residual-in_err-host.result c.in_err-host.field-0.0 (RefusesBy (create_checks old c.args.world (parts_of c.args.asked))
+    (OutgrowsByCreate digests old c.args.asked)) c.from_residual-in_err-host.ensures.1
     (host_want digests old c.args.world c.args.asked parts c.in_ok-id.id (overwritten (host_view old) range.first range.count NoAccess) c.in_err-host.field-0.0
     c.kept-parts.ensures c.in_ok-id.ensures.passes c.in_ok-id.ensures.next
-    (along (host_view old) (host_view (with_enclave old c.in_ok-id.id (Some (fresh digests parts)))) range (private_range parts) NoAccess c.private_pages.ensures.value
+    (along (host_view old) (host_view (with_enclave old c.in_ok-id.id (Some (fresh digests parts)))) range
+    (private_range parts) NoAccess c.private_pages.ensures.value
     (host_added old c.in_ok-id.id (fresh digests parts) (free_place old c.in_ok-id.id c.cite_invariant.ensures.table free.0 free.1) free.2))
     c.in_err-host.ensures.want)
 
@@ -41,7 +43,8 @@ pub returns-in_err-list-clause-refused : goal.returns-in_err-list-clause-refused
 returns-in_err-list-clause-refused g c =
     let old : EnclaveTable = c.args.self.now.table in
     let digests : Create → List ℕ = g.D.Digests.digest_of c.args.digests.now in
-    handed_on c.from_residual-in_err-list.result c.in_err-list.field-0.0 (RefusesBy (create_checks old c.args.world (parts_of c.args.asked)) (OutgrowsByCreate digests old c.args.asked)) c.from_residual-in_err-list.ensures.1
+    handed_on c.from_residual-in_err-list.result c.in_err-list.field-0.0 (RefusesBy (create_checks old c.args.world (parts_of c.args.asked))
+    (OutgrowsByCreate digests old c.args.asked)) c.from_residual-in_err-list.ensures.1
     (enclave_want digests old c.args.world c.args.asked c.kept-parts.result c.limit.result c.in_err-list.field-0.0 c.kept-parts.ensures c.limit.ensures
     c.in_ok-id.ensures.passes c.in_err-list.ensures.want)
 
@@ -54,9 +57,11 @@ place-requires-clause-kept g c =
     let e : Enclave = record { parts = parts; state = Fresh; digest = c.digest_by-digest.result } in
     let L : Limit → Type 0 = λ l. IsListOf l (enclave_view parts) c.in_ok-list.list in
     rw c.digest_by-digest.ensures.kept
-    (added_kept c.args.self.now c.in_ok-id.id e c.in_ok-host.host.list c.in_ok-list.list (free_place old c.in_ok-id.id c.cite_invariant.ensures.table free.0 free.1) c.cite_invariant.ensures.kept
+    (added_kept c.args.self.now c.in_ok-id.id e c.in_ok-host.host.list c.in_ok-list.list
+    (free_place old c.in_ok-id.id c.cite_invariant.ensures.table free.0 free.1) c.cite_invariant.ensures.kept
     (sound_from old c.args.world parts c.in_ok-id.ensures.passes) (apart_from old c.args.world parts c.in_ok-id.ensures.passes)
-    (list_same old.layout.limit (overwritten (host_view old) range.first range.count NoAccess) (host_view (with_enclave old c.in_ok-id.id (Some e))) c.in_ok-host.host.list
+    (list_same old.layout.limit (overwritten (host_view old) range.first range.count NoAccess)
+    (host_view (with_enclave old c.in_ok-id.id (Some e))) c.in_ok-host.host.list
     (along (host_view old) (host_view (with_enclave old c.in_ok-id.id (Some e))) range (private_range parts) NoAccess c.private_pages.ensures.value
     (host_added old c.in_ok-id.id e (free_place old c.in_ok-id.id c.cite_invariant.ensures.table free.0 free.1) free.2))
     c.in_ok-host.ensures.list)
@@ -71,7 +76,8 @@ place-requires-clause-tree g c =
     let e : Enclave = record { parts = parts; state = Fresh; digest = c.digest_by-digest.result } in
     rw c.digest_by-digest.ensures.kept
     (record {
-      means = tree_same (overwritten (host_view old) range.first range.count NoAccess) (host_view (with_enclave old c.in_ok-id.id (Some e))) c.in_ok-host.host.tree
+      means = tree_same (overwritten (host_view old) range.first range.count NoAccess)
+          (host_view (with_enclave old c.in_ok-id.id (Some e))) c.in_ok-host.host.tree
           (along (host_view old) (host_view (with_enclave old c.in_ok-id.id (Some e))) range (private_range parts) NoAccess c.private_pages.ensures.value
           (host_added old c.in_ok-id.id e (free_place old c.in_ok-id.id c.cite_invariant.ensures.table free.0 free.1) free.2))
           c.in_ok-host.ensures.means;
@@ -87,8 +93,10 @@ returns-clause-done g c =
     let e : Enclave = fresh (g.D.Digests.digest_of c.args.digests.now) parts in
     let L : Limit → Type 0 = λ l. IsListOf l (enclave_view parts) c.in_ok-list.list in
     let added : c.place.new.self.table ≡ with_enclave old c.in_ok-id.id (Some e) =
-    ap (λ (k : Kept). k.table) (rw c.digest_by-digest.ensures.kept at c.place.ensures) ∙ ap (λ (d : List ℕ). with_enclave old c.in_ok-id.id (Some (record { parts = parts; state = Fresh; digest = d }))) c.digest_by-digest.ensures.value in
-    creates (g.D.Digests.digest_of c.args.digests.now) old c.args.world c.args.asked parts c.in_ok-id.id c.place.new.self.table c.kept-parts.ensures c.in_ok-id.ensures.passes c.in_ok-id.ensures.next added
+    ap (λ (k : Kept). k.table) (rw c.digest_by-digest.ensures.kept at c.place.ensures)
+    ∙ ap (λ (d : List ℕ). with_enclave old c.in_ok-id.id (Some (record { parts = parts; state = Fresh; digest = d }))) c.digest_by-digest.ensures.value in
+    creates (g.D.Digests.digest_of c.args.digests.now) old c.args.world c.args.asked parts c.in_ok-id.id c.place.new.self.table c.kept-parts.ensures
+    c.in_ok-id.ensures.passes c.in_ok-id.ensures.next added
     (fits_same old.layout.limit (overwritten (host_view old) range.first range.count NoAccess) (host_view (with_enclave old c.in_ok-id.id (Some e)))
     (along (host_view old) (host_view (with_enclave old c.in_ok-id.id (Some e))) range (private_range parts) NoAccess c.private_pages.ensures.value
     (host_added old c.in_ok-id.id e (free_place old c.in_ok-id.id c.cite_invariant.ensures.table free.0 free.1) free.2))

@@ -25,8 +25,10 @@ returns-in_err-host-clause-refused c =
     let old : EnclaveTable = c.args.self.now.table in
     let e : Enclave = c.in_ok-enclave.enclave in
     let range : PageRange = c.private_pages-range.result in
-    handed_on c.from_residual-in_err-host.result c.in_err-host.field-0.0 (RefusesBy (host_checks MayDestroy old c.args.world c.args.id) (NeedsMore old.layout.limit (host_view (with_enclave old c.args.id None)))) c.from_residual-in_err-host.ensures.1
-    (destroy_want old c.args.world c.args.id (overwritten (host_view old) range.first range.count ReadWriteExecute) c.in_err-host.field-0.0 c.in_ok-enclave.ensures.passes
+    handed_on c.from_residual-in_err-host.result c.in_err-host.field-0.0 (RefusesBy (host_checks MayDestroy old c.args.world c.args.id)
+    (NeedsMore old.layout.limit (host_view (with_enclave old c.args.id None)))) c.from_residual-in_err-host.ensures.1
+    (destroy_want old c.args.world c.args.id (overwritten (host_view old) range.first range.count ReadWriteExecute) c.in_err-host.field-0.0
+    c.in_ok-enclave.ensures.passes
     (along (host_view old) (host_view (with_enclave old c.args.id None)) range (private_range e) ReadWriteExecute c.private_pages-range.ensures.value
     (host_removed old c.args.id e c.cite_invariant.ensures.table c.in_ok-enclave.ensures.live))
     c.in_err-host.ensures.want)
@@ -38,7 +40,8 @@ place-requires-clause-kept c =
     let range : PageRange = c.private_pages-range.result in
     removed_kept c.args.self.now c.args.id c.in_ok-host.host.list c.empty-list.result
     (c.in_ok-enclave.ensures.above, live_inside old.enclaves c.args.id e c.in_ok-enclave.ensures.live) c.cite_invariant.ensures.kept
-    (list_same old.layout.limit (overwritten (host_view old) range.first range.count ReadWriteExecute) (host_view (with_enclave old c.args.id None)) c.in_ok-host.host.list
+    (list_same old.layout.limit (overwritten (host_view old) range.first range.count ReadWriteExecute)
+    (host_view (with_enclave old c.args.id None)) c.in_ok-host.host.list
     (along (host_view old) (host_view (with_enclave old c.args.id None)) range (private_range e) ReadWriteExecute c.private_pages-range.ensures.value
     (host_removed old c.args.id e c.cite_invariant.ensures.table c.in_ok-enclave.ensures.live))
     c.in_ok-host.ensures.list)
@@ -49,7 +52,8 @@ place-requires-clause-tree c =
     let e : Enclave = c.in_ok-enclave.enclave in
     let range : PageRange = c.private_pages-range.result in
     record {
-      means = tree_same (overwritten (host_view old) range.first range.count ReadWriteExecute) (host_view (with_enclave old c.args.id None)) c.in_ok-host.host.tree
+      means = tree_same (overwritten (host_view old) range.first range.count ReadWriteExecute)
+          (host_view (with_enclave old c.args.id None)) c.in_ok-host.host.tree
           (along (host_view old) (host_view (with_enclave old c.args.id None)) range (private_range e) ReadWriteExecute c.private_pages-range.ensures.value
           (host_removed old c.args.id e c.cite_invariant.ensures.table c.in_ok-enclave.ensures.live))
           c.in_ok-host.ensures.means;

@@ -11,7 +11,8 @@ use Rattle.enclave_table.proofs.table.Table.host_plan.Goals as goal
 
 pub returns-clause-means : goal.returns-clause-means
 returns-clause-means c =
-    tree_overwritten (host_view c.args.self.now.table) c.host_tree.result.now c.in-Ok.tree c.args.pages.first c.args.pages.count c.args.perm c.host_tree.ensures.means c.in-Ok.ensures.means
+    tree_overwritten (host_view c.args.self.now.table) c.host_tree.result.now c.in-Ok.tree c.args.pages.first c.args.pages.count c.args.perm
+    c.host_tree.ensures.means c.in-Ok.ensures.means
 
 pub returns-clause-fewest : goal.returns-clause-fewest
 returns-clause-fewest c =
@@ -19,7 +20,8 @@ returns-clause-fewest c =
     let own : View = view_of_tree c.in-Ok.tree in
     let same : SameView own view =
     tree_view view c.in-Ok.tree
-    (tree_overwritten (host_view c.args.self.now.table) c.host_tree.result.now c.in-Ok.tree c.args.pages.first c.args.pages.count c.args.perm c.host_tree.ensures.means c.in-Ok.ensures.means) in
+    (tree_overwritten (host_view c.args.self.now.table) c.host_tree.result.now c.in-Ok.tree c.args.pages.first c.args.pages.count c.args.perm
+    c.host_tree.ensures.means c.in-Ok.ensures.means) in
     fewest_same own view c.in_ok-plan.plan.entries same c.in_ok-plan.ensures.fewest
 
 pub unreachable-requires : goal.unreachable-requires

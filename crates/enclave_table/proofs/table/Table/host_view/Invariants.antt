@@ -11,7 +11,8 @@ abbrev pub invariant-loop-id : goal.invariant-loop-id
 invariant-loop-id l = record {
   inside : l.id ≤ 64;
   few : length l.map + 2 * l.id ≤ 258;
-  view : SameView (view_of_runs l.map) (λ page. cond (has_page l.self.table.layout.monitor page || any_private (drop l.id l.self.table.enclaves) page) NoAccess (platform_perm l.self.table.layout page));
+  view : SameView (view_of_runs l.map) (λ page. cond (has_page l.self.table.layout.monitor page || any_private (drop l.id l.self.table.enclaves) page) NoAccess
+      (platform_perm l.self.table.layout page));
 }
 
 abbrev pub decreases-loop-id : goal.decreases-loop-id

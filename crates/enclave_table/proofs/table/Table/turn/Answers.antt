@@ -10,9 +10,18 @@ pub invariant_of-self : goal.invariant_of-self
 invariant_of-self c =
     let items = c.self.inside.enclaves.items in
     let e = c.requires.live.0 in
-    let kept : Kept = record { table = record { layout = c.self.inside.platform; enclaves = items }; host_list = c.self.inside.host_list; lists = c.self.inside.lists.items } in
+    let kept : Kept = record {
+      table = record { layout = c.self.inside.platform; enclaves = items };
+      host_list = c.self.inside.host_list;
+      lists =
+          c.self.inside.lists.items;
+    } in
     let live : Live kept.table c.args.id e = let P : Kept → Type 0 = λ v. Live v.table c.args.id e in subst P (sym c.self.view_is) c.requires.live.1 in
     let inside : c.args.id - 1 < length items = live_inside items c.args.id e live in
     let slot : c.put_state.new.place ≡ Some (in_state e c.args.state) =
     c.put_state.ensures e (c.index_mut.ensures.value ∙ get_or_default items (c.args.id - 1) _ None inside ∙ live_place items c.args.id e live) in
-    rw slot (turned_kept kept c.args.id e c.args.state live c.self.invariant.0, turned_tree kept.table c.self.inside.host_tree c.args.id e c.args.state live c.self.invariant.1)
+    rw slot (
+      turned_kept kept c.args.id e c.args.state live c.self.invariant.0,
+      turned_tree kept.table c.self.inside.host_tree c.args.id e c.args.state live
+          c.self.invariant.1,
+    )

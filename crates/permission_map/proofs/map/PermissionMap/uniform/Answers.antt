@@ -14,5 +14,6 @@ returns-then-run-first-clause-none c =
     let is_next : IsNext c.args.self.now c.args.first c.in-Some.run' = c.in-Some.ensures in
     elim c.then-run-first.branch [
       | then-run-first-via-then-run-first w ↦ begins_inside runs c.args.first (2 ^ c.args.log2) c.in-Some.run' is_next w.if-run-first.true (omega arith)
-      | then-run-first-via-else-run-first+then-run-end-2 w ↦ ends_inside runs c.args.first (2 ^ c.args.log2) c.in-Some.run' is_next w.if-run-first.false (omega arith)
+      | then-run-first-via-else-run-first+then-run-end-2 w ↦ ends_inside runs c.args.first (2 ^ c.args.log2) c.in-Some.run' is_next w.if-run-first.false
+          (omega arith)
     ]

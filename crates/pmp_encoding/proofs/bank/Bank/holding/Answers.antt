@@ -11,7 +11,9 @@ pub loop-i-init : goal.loop-i-init
 loop-i-init c = decoded_none c.args.words c.args.addresses _ refl
 
 pub offset_bounds-extents-used : goal.offset_bounds-extents-used
-offset_bounds-extents-used c = record { fits = omega (arith, c.loop-i.invariant.few, c.loop-i-test.true, limit_most c.args.limit, c.number-count.ensures.value) }
+offset_bounds-extents-used c = record {
+  fits = omega (arith, c.loop-i.invariant.few, c.loop-i-test.true, limit_most c.args.limit, c.number-count.ensures.value);
+}
 
 pub bounds-extents-used : goal.bounds-extents-used
 bounds-extents-used c = omega (arith, c.loop-i.invariant.few, c.loop-i-test.true, limit_most c.args.limit, c.number-count.ensures.value)
@@ -23,10 +25,12 @@ pub loop-i-preserved : goal.loop-i-preserved
 loop-i-preserved c =
     elim c.match-entry_of.branch [
       | in-Some w ↦ rw (w.extents-is, w.used-is, w.put.ensures)
-          (decoded_entry c.args.words c.args.addresses c.loop-i.i c.loop-i.extents c.loop-i.used c.loop-i.invariant (omega (arith, c.loop-i-test.true, limit_most c.args.limit, c.number-count.ensures.value))
+          (decoded_entry c.args.words c.args.addresses c.loop-i.i c.loop-i.extents c.loop-i.used c.loop-i.invariant
+          (omega (arith, c.loop-i-test.true, limit_most c.args.limit, c.number-count.ensures.value))
           w.in-Some.entry (rw c.byte_of-cfg.ensures at w.in-Some.ensures))
       | in_default w ↦ rw (w.extents-is, w.used-is)
-          (decoded_off c.args.words c.args.addresses c.loop-i.i c.loop-i.extents c.loop-i.used c.loop-i.invariant (rw c.byte_of-cfg.ensures at w.in_default.ensures))
+          (decoded_off c.args.words c.args.addresses c.loop-i.i c.loop-i.extents c.loop-i.used c.loop-i.invariant
+          (rw c.byte_of-cfg.ensures at w.in_default.ensures))
     ]
 
 pub invariant_of-result : goal.invariant_of-result
@@ -36,5 +40,6 @@ invariant_of-result c =
       registers = c.requires;
       decoded =
           subst (λ n. AreExtents c.args.words c.args.addresses n c.loop-i.extents c.loop-i.used) all
-          (decoded_extents c.args.words c.args.addresses c.loop-i.i c.loop-i.extents c.loop-i.used c.loop-i.invariant (omega (arith, all, limit_most c.args.limit)));
+          (decoded_extents c.args.words c.args.addresses c.loop-i.i c.loop-i.extents c.loop-i.used c.loop-i.invariant
+          (omega (arith, all, limit_most c.args.limit)));
     }

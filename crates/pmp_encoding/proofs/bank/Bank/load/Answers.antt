@@ -18,7 +18,8 @@ invariant_of-self c =
       registers = filled_registers c.args.entries.now words addresses whole limit c.requires;
       decoded = record {
         room = omega (arith, limit_most limit, c.requires, c.fill.ensures.room);
-        in_order = λ entries list. c.fill.ensures.in_order ∙ ap (map extent_of) (one_list _ c.args.entries.now entries (filled_list c.args.entries.now words addresses whole limit c.requires) list);
+        in_order = λ entries list. c.fill.ensures.in_order ∙ ap (map extent_of)
+            (one_list _ c.args.entries.now entries (filled_list c.args.entries.now words addresses whole limit c.requires) list);
       };
     }
 

@@ -16,7 +16,8 @@ edges_of-edges-requires-clause-block c =
 
 pub edges_of-edges-requires-clause-cut : goal.edges_of-edges-requires-clause-cut
 edges_of-edges-requires-clause-cut c =
-    ap (λ (runs : List Run). one_perm (tree_at (view_of_runs runs) c.self.inside.height c.self.inside.first)) (sym (one_run_is c.self.inside.runs.now _ c.in-len1.len_at_least c.in-len1.len_below))
+    ap (λ (runs : List Run). one_perm (tree_at (view_of_runs runs) c.self.inside.height c.self.inside.first))
+    (sym (one_run_is c.self.inside.runs.now _ c.in-len1.len_at_least c.in-len1.len_below))
     ∙ ap one_perm c.self.view_is
     ∙ c.requires
 
@@ -43,7 +44,8 @@ invariant_of-smallest c =
     let A : List Run → Type 0 = λ runs. AreBlockRuns runs c.self.inside.first c.self.inside.height in
     let B : List Run → Type 0 = λ runs. AreBlockRuns runs c.part_around-part.result.first (c.self.inside.height - c.part_around-part.result.levels) in
     subst B (sym (one_run_is c.self.inside.runs.now _ c.in-len1.len_at_least c.in-len1.len_below))
-    (part_runs _ _ _ c.edges_of-edges.result _ (subst A (one_run_is c.self.inside.runs.now _ c.in-len1.len_at_least c.in-len1.len_below) c.self.invariant) c.edges_of-edges.ensures.low c.edges_of-edges.ensures.high c.part_around-part.ensures)
+    (part_runs _ _ _ c.edges_of-edges.result _ (subst A (one_run_is c.self.inside.runs.now _ c.in-len1.len_at_least c.in-len1.len_below) c.self.invariant)
+    c.edges_of-edges.ensures.low c.edges_of-edges.ensures.high c.part_around-part.ensures)
 
 pub returns : goal.returns
 returns c =
@@ -51,9 +53,15 @@ returns c =
     let part = c.part_around-part.result in
     let edges = c.edges_of-edges.result in
     let one = one_run_is c.self.inside.runs.now _ c.in-len1.len_at_least c.in-len1.len_below in (
-      record { some = omega (arith, c.if-part-eq0.false); most = omega (arith, c.part_around-part.ensures.within, c.self.invariant.low); place = c.part_around-part.ensures.placed },
+      record {
+        some = omega (arith, c.if-part-eq0.false);
+        most = omega (arith, c.part_around-part.ensures.within, c.self.invariant.low);
+        place =
+            c.part_around-part.ensures.placed;
+      },
       sym c.self.view_is
           ∙ ap (λ (runs : List Run). tree_at (view_of_runs runs) height c.self.inside.first) one
           ∙ part_chained _ _ _ edges part c.edges_of-edges.ensures.edges c.part_around-part.ensures
-          ∙ ap (λ (runs : List Run). nested part.levels part.place edges.before edges.behind (tree_at (view_of_runs runs) (height - part.levels) part.first)) (sym one),
+          ∙ ap (λ (runs : List Run). nested part.levels part.place edges.before edges.behind (tree_at (view_of_runs runs) (height - part.levels) part.first))
+          (sym one),
     )

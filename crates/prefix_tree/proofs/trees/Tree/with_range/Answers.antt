@@ -37,5 +37,6 @@ returns-clause-few c = λ runs are.
     let own = own_means (shape_of c.self.inside.root) c.self.invariant.fits in
     let means = rw c.self.view_is at (c.in-Ok.ensures.means (view_of_tree (shape_of c.self.inside.root)) own) in
     let count =
-    runs_in-length (overwritten (view_of_tree c.args.self.now) c.args.first c.args.count c.args.perm) (shape_of c.in-Ok.root) runs means are.are_runs are.view_is in
+    runs_in-length (overwritten (view_of_tree c.args.self.now) c.args.first c.args.count c.args.perm)
+    (shape_of c.in-Ok.root) runs means are.are_runs are.view_is in
     omega (arith, c.run_count.ensures)
