@@ -14,7 +14,8 @@ use Rattle.trace_answers.specs.Reasons.{Decides, IsReason, misaligned, outside, 
 use Rattle.explained_runs.specs.Asked.{by_met}
 
 -- a reason by what decides is one by what that decides too
-reason_by : (decides also : Decides) (a : Access) (reason : Reason) → ((found : Option Decider) → decides a found → also a found) → IsReason decides a reason → IsReason also a reason
+reason_by : (decides also : Decides) (a : Access) (reason : Reason) → ((found : Option Decider) → decides a found → also a found) → IsReason decides a reason
+    → IsReason also a reason
 reason_by decides also a _ more (misaligned off) = misaligned off
 reason_by decides also a _ more (outside on far) = outside on far
 reason_by decides also a _ more (no_entry on near none) = no_entry on near (more _ none)
@@ -25,7 +26,8 @@ same a b e = cc
 
 -- each list that is met is that of the bank
 reason_met :
-    (machine : Machine) (hart : ℕ) (a : Access) (reason : Reason) (bank : Bank) → ((list : List Entry) → MeetsList (state_of machine) (kept_of machine) (bank_on machine) hart list → HasList bank list)
+    (machine : Machine) (hart : ℕ) (a : Access) (reason : Reason) (bank : Bank)
+    → ((list : List Entry) → MeetsList (state_of machine) (kept_of machine) (bank_on machine) hart list → HasList bank list)
     → IsReason (by_first bank) a reason → IsReason (by_met machine hart) a reason
 reason_met machine hart a reason bank its is = reason_by (by_first bank) (by_met machine hart) a reason (λ found by list met. by list (its list met)) is
 
@@ -39,7 +41,8 @@ reason_loaded machine hart a reason bank awake on is = reason_met machine hart a
     ]) is
 
 pub reason_woken :
-    (machine : Machine) (hart : ℕ) (a : Access) (reason : Reason) (bank : Bank) → (state_of machine).marked hart ≡ true → HasList bank (kept_of machine).host_list
+    (machine : Machine) (hart : ℕ) (a : Access) (reason : Reason) (bank : Bank) → (state_of machine).marked hart ≡ true
+    → HasList bank (kept_of machine).host_list
     → IsReason (by_first bank) a reason → IsReason (by_met machine hart) a reason
 reason_woken machine hart a reason bank asleep has is = reason_met machine hart a reason bank
     (λ list met. elim met [

@@ -10,7 +10,8 @@ use Rattle.explained_runs.specs.Accounts.{Account, AccountsLine, on_event}
 use Rattle.explained_runs.specs.Plain.{AreExplained, IsRunExplained}
 
 -- one line more
-explained-snoc : (answers said : List (List ℕ)) (text told comment : List ℕ) → told ≡ explained text comment → AreExplained answers said → AreExplained (answers ++ text ∷ []) (said ++ told ∷ [])
+explained-snoc : (answers said : List (List ℕ)) (text told comment : List ℕ) → told ≡ explained text comment → AreExplained answers said
+    → AreExplained (answers ++ text ∷ []) (said ++ told ∷ [])
 explained-snoc [] [] text told comment is h = ((comment, is), tt)
 explained-snoc [] (first ∷ said) text told comment is h = absurd h
 explained-snoc (first ∷ answers) [] text told comment is h = absurd h
@@ -27,14 +28,16 @@ same_text x y e = cc
 
 -- a line without an answer has none without comments either
 silently :
-    {S : Type 0} (does : Meaning S) (Is : List ℕ → List ℕ → Type 0) (mid new : S) (n : ℕ) (line : List ℕ) (said : Option (List ℕ)) → does mid n line said new → IsExplained Is said None
+    {S : Type 0} (does : Meaning S) (Is : List ℕ → List ℕ → Type 0) (mid new : S) (n : ℕ) (line : List ℕ) (said : Option (List ℕ)) → does mid n line said new
+    → IsExplained Is said None
     → does mid n line None new
 silently does Is mid new n line None d is = d
 silently does Is mid new n line (Some text) d is = let e = is.2 in cc
 
 -- and one with an answer has that one
 aloud :
-    {S : Type 0} (does : Meaning S) (Is : List ℕ → List ℕ → Type 0) (mid new : S) (n : ℕ) (line told : List ℕ) (said : Option (List ℕ)) → does mid n line said new → IsExplained Is said (Some told)
+    {S : Type 0} (does : Meaning S) (Is : List ℕ → List ℕ → Type 0) (mid new : S) (n : ℕ) (line told : List ℕ) (said : Option (List ℕ))
+    → does mid n line said new → IsExplained Is said (Some told)
     → (text : List ℕ) × does mid n line (Some text) new × (comment : List ℕ) × (told ≡ explained text comment)
 aloud does Is mid new n line told None d is = cc
 aloud does Is mid new n line told (Some text) d is = (text, d, is.0, same_text _ _ is.2)

@@ -7,7 +7,8 @@ use Rattle.text_lines.specs.Words.{content_of, is_allowed, split_words}
 use Rattle.hart_trace.specs.Events.{Word, ◌>>=◌, hart_of, said_by}
 use Rattle.hart_trace.specs.Answers.{only_access}
 use Rattle.file_lints.specs.declared.reason.Reason.{Reason}
-use Rattle.file_lints.specs.declared.reason.Reason.TheVariants.{LongLine, ByteOrderMark, NoText, NoHart, NoEvent, UnknownEvent, Misfit, Missing, Extra, HartOfRun, EventOfRun}
+use Rattle.file_lints.specs.declared.reason.Reason.TheVariants.{LongLine, ByteOrderMark, NoText, NoHart, NoEvent, UnknownEvent, Misfit, Missing, Extra}
+use Rattle.file_lints.specs.declared.reason.Reason.TheVariants.{HartOfRun, EventOfRun}
 use Rattle.file_lints.specs.Findings.{BreaksLine, is_line}
 use Rattle.lint_texts.specs.Columns.{PlacedWord, placed_at, placed_words}
 use Rattle.file_lints.specs.Takers.{BreaksAccess, is_access_line, reason_by}
@@ -37,11 +38,13 @@ without_words false text words none run judge = true≢false (sym run)
 
 pub never_without_words : (raw : List ℕ) → is_line 4 raw ≡ true → is_access_line raw ≡ false → split_words (content_of (without_return raw)) ≡ [] → ⊥
 never_without_words raw run judge none =
-    without_words (nat_le (length raw) 1023) (list_all is_allowed (content_of (without_return raw))) (split_words (content_of (without_return raw))) none run judge
+    without_words (nat_le (length raw) 1023) (list_all is_allowed (content_of (without_return raw)))
+    (split_words (content_of (without_return raw))) none run judge
 
 -- what is wrong with a line that only `run` takes
 pub for_run :
-    (raw text : List ℕ) (before : ℕ) (word : Word) (words : List PlacedWord) (named : Bool) → is_some (hart_of 4 word) ≡ named → is_line 4 raw ≡ true → is_access_line raw ≡ false
+    (raw text : List ℕ) (before : ℕ) (word : Word) (words : List PlacedWord) (named : Bool) → is_some (hart_of 4 word) ≡ named → is_line 4 raw ≡ true
+    → is_access_line raw ≡ false
     → text ≡ content_of (without_return raw) → placed_at text 0 ≡ (before, word) ∷ words → BreaksAccess raw before word (reason_by named)
 for_run raw text before word words true named run judge is found = (run, judge, ap (λ ws. slice_get ws 0) (ap placed_words (sym is) ∙ found), named)
 for_run raw text before word words false named run judge is found = (run, judge, ap (λ ws. slice_get ws 0) (ap placed_words (sym is) ∙ found), named)

@@ -41,6 +41,7 @@ no_more (y ∷ xs) (suc i) e few = ap suc (no_more xs i e (omega (arith, few)))
 
 -- a word more that is what should stand there
 pub fit_more :
-    (fewer : Bool) (slots rest : List Slot) (slot : Slot) (words more : List Word) (word : Word) → slots ≡ slot ∷ rest → words ≡ word ∷ more → fits slot word ≡ true
+    (fewer : Bool) (slots rest : List Slot) (slot : Slot) (words more : List Word) (word : Word) → slots ≡ slot ∷ rest → words ≡ word ∷ more
+    → fits slot word ≡ true
     → fit_all fewer rest more ≡ true → fit_all fewer slots words ≡ true
 fit_more fewer slots rest slot words more word e f here h = rw (e, f, here) h

@@ -19,7 +19,8 @@ paired P Q (Some x) p q = (p, q)
 
 -- a range and a permission are a device
 pub device_found :
-    (t : Members) (range : ℕ × ℕ) (perm : Perm) → has_only (codes "base" ∷ codes "size" ∷ codes "perm" ∷ []) t ≡ true → range_in t ≡ Some range → perm_at t ≡ Some perm
+    (t : Members) (range : ℕ × ℕ) (perm : Perm) → has_only (codes "base" ∷ codes "size" ∷ codes "perm" ∷ []) t ≡ true → range_in t ≡ Some range
+    → perm_at t ≡ Some perm
     → device_of t ≡ Some (range.0, range.1, perm)
 device_found t range perm keys is_range is_perm =
     ap (λ b. if b then device_in t else None) keys

@@ -13,7 +13,8 @@ Makes {X} f vs i = (xs : List X) × (each f (items_view (drop i vs)) ≡ Some xs
 
 -- of an item, and of each after it: so of each from its place on
 pub makes_from :
-    {X : Type 0} (f : Members → Option X) (vs : List Value) (i : ℕ) (d : Value) (x : X) → i < length vs → option_and_then f (as_table (view (get_or vs i d))) ≡ Some x
+    {X : Type 0} (f : Members → Option X) (vs : List Value) (i : ℕ) (d : Value) (x : X) → i < length vs
+    → option_and_then f (as_table (view (get_or vs i d))) ≡ Some x
     → Makes f vs (i + 1) → Makes f vs i
 makes_from f vs i d x h one rest =
     let found =

@@ -20,7 +20,8 @@ drop_behind k x xs = simp unary_clauses
 
 -- each is apart from those behind it
 pub each_apart :
-    (xs : List PlacedRange) → ((k : ℕ) (d : PlacedRange) → k < length xs → All (λ (other : PlacedRange). AreRangesApart (get_or xs k d).bounds other.bounds) (drop (k + 1) xs)) → EachApart (map bounds_of xs)
+    (xs : List PlacedRange) → ((k : ℕ) (d : PlacedRange) → k < length xs → All (λ (other : PlacedRange). AreRangesApart (get_or xs k d).bounds other.bounds)
+    (drop (k + 1) xs)) → EachApart (map bounds_of xs)
 each_apart [] here = tt
 each_apart (x ∷ xs) here = (
   All-map (AreRangesApart x.bounds) bounds_of xs (here 0 x (omega arith)),
@@ -31,17 +32,20 @@ bounds_from : (place : ℕ → Place) (n : ℕ) (ranges : List (ℕ × ℕ)) →
 bounds_from place n [] = refl
 bounds_from place n (range ∷ ranges) = ap (λ xs. range ∷ xs) (bounds_from place (n + 1) ranges)
 
-both : (place : ℕ → Place) (n : ℕ) (ranges : List (ℕ × ℕ)) (more : List PlacedRange) → map bounds_of (placed_from place n ranges ++ more) ≡ ranges ++ map bounds_of more
+both : (place : ℕ → Place) (n : ℕ) (ranges : List (ℕ × ℕ)) (more : List PlacedRange)
+    → map bounds_of (placed_from place n ranges ++ more) ≡ ranges ++ map bounds_of more
 both place n [] more = refl
 both place n (range ∷ ranges) more = ap (λ xs. range ∷ xs) (both place (n + 1) ranges more)
 
 -- the ranges alone
 pub bounds_are : (ram : List (ℕ × ℕ)) (devices : List (ℕ × ℕ × Perm)) → map bounds_of (placed_ranges ram devices) ≡ ram ++ map device_range devices
-bounds_are ram devices = both Ram 1 ram (placed_from Device 1 (map device_range devices)) ∙ ap (λ xs. ram ++ xs) (bounds_from Device 1 (map device_range devices))
+bounds_are ram devices = both Ram 1 ram (placed_from Device 1 (map device_range devices))
+    ∙ ap (λ xs. ram ++ xs) (bounds_from Device 1 (map device_range devices))
 
 -- where the rule on pages in common is the first that is broken, two ranges have one
 pub not_apart :
-    (monitor : ℕ × ℕ) (ram : List (ℕ × ℕ)) (devices : List (ℕ × ℕ × Perm)) (harts entries : ℕ) (fault : PlatformFault) → fault ≡ Overlap → BreaksRule monitor ram devices harts entries fault
+    (monitor : ℕ × ℕ) (ram : List (ℕ × ℕ)) (devices : List (ℕ × ℕ × Perm)) (harts entries : ℕ) (fault : PlatformFault) → fault ≡ Overlap
+    → BreaksRule monitor ram devices harts entries fault
     → EachApart (ram ++ map device_range devices) → ⊥
 not_apart monitor ram devices harts entries fault is (inl first) each = cc
 not_apart monitor ram devices harts entries fault is (inr (ranges, inl here)) each = here.1 each

@@ -1,5 +1,6 @@
 -- In which part of a file a breach is found.
-use Rattle.std.proofs.Common.{◌≡◌, ◌≢◌, ◌⊎◌, ◌∙◌, ℕ, zero, suc, ◌+◌, ◌<◌, ◌≤◌, List, length, true, false, Option, Some, None, ap, arith, refl, subst, sym, inl, inr}
+use Rattle.std.proofs.Common.{◌≡◌, ◌≢◌, ◌⊎◌, ◌∙◌, ℕ, zero, suc, ◌+◌, ◌<◌, ◌≤◌, List, length, true, false, Option, Some, None, ap, arith, refl, subst, sym, inl}
+use Rattle.std.proofs.Common.{inr}
 use Rattle.std.specs.Prelude.{codes}
 use Rattle.std.specs.Option.{option_and_then}
 use Rattle.std.proofs.lemmas.Bool.{cases_lt}
@@ -18,7 +19,8 @@ use Rattle.file_lints.specs.declared.breach.Place.TheVariants.{File, Monitor, Ra
 use Rattle.file_lints.specs.declared.breach.Breach.{Breach}
 use Rattle.file_lints.specs.declared.breach.Breach.TheVariants.{Unknown, Missing, NoNumber, NoPages, NoPerm, NoTable, NoTables, Overlap, Rule}
 use Rattle.file_lints.specs.Breaches.{key_name, needed_of, numbered, numbers_of, value_of, at_place, no_array, rule, Breaks, BreaksAt, IsBreach, IsBroken}
-use Rattle.file_lints.specs.Order.{file_part, key_part, place_part, part_of, item_of, step_of, BreaksNoItem, BreaksNoItemBefore, BreaksNoneBelowAt, BreaksNoneOf, ComesBefore, IsFirstBreach, IsFirstOf, IsOfRules, first_breach}
+use Rattle.file_lints.specs.Order.{file_part, key_part, place_part, part_of, item_of, step_of, BreaksNoItem, BreaksNoItemBefore, BreaksNoneBelowAt}
+use Rattle.file_lints.specs.Order.{BreaksNoneOf, ComesBefore, IsFirstBreach, IsFirstOf, IsOfRules, first_breach}
 use Rattle.file_lints.proofs.FoundInPlatforms.{at_array}
 use Rattle.file_lints.proofs.Steps.{only_known, placed_at, step_small}
 
@@ -29,16 +31,19 @@ pub data Found (document : Members) (b : Breach) : Type 0 where
   of_monitor : (value : Data) → part_of b ≡ 1 → item_of b ≡ 0 → get_member (codes "monitor") document ≡ Some value → BreaksAt value Monitor b → Found document b
   of_no_ram : part_of b ≡ 2 → get_member (codes "ram") document ≡ None → Found document b
   of_ram_value : (value : Data) → part_of b ≡ 2 → get_member (codes "ram") document ≡ Some value → as_array value ≡ None → Found document b
-  of_ram : (i : ℕ) (value one : Data) → part_of b ≡ 2 → item_of b ≡ i + 1 → get_member (codes "ram") document ≡ Some value → at i value ≡ Some one → BreaksAt one (Ram (i + 1)) b → Found document b
+  of_ram : (i : ℕ) (value one : Data) → part_of b ≡ 2 → item_of b ≡ i + 1 → get_member (codes "ram") document ≡ Some value → at i value ≡ Some one
+      → BreaksAt one (Ram (i + 1)) b → Found document b
   of_device_value : (value : Data) → part_of b ≡ 3 → get_member (codes "device") document ≡ Some value → as_array value ≡ None → Found document b
   of_device :
-      (i : ℕ) (value one : Data) → part_of b ≡ 3 → item_of b ≡ i + 1 → get_member (codes "device") document ≡ Some value → at i value ≡ Some one → BreaksAt one (Device (i + 1)) b
+      (i : ℕ) (value one : Data) → part_of b ≡ 3 → item_of b ≡ i + 1 → get_member (codes "device") document ≡ Some value → at i value ≡ Some one
+      → BreaksAt one (Device (i + 1)) b
       → Found document b
   of_harts : (value : Data) → part_of b ≡ 4 → get_member (codes "harts") document ≡ Some value → number value ≡ None → Found document b
   of_entries : (value : Data) → part_of b ≡ 5 → get_member (codes "entries") document ≡ Some value → number value ≡ None → Found document b
   of_rules : part_of b ≡ 6 → Found document b
 
-wanting : (document : Members) (b : Breach) (key : Key) → part_of b ≡ file_part key → is_known (key_name key) (needed_of File) ≡ true → get_member (key_name key) document ≡ None → Found document b
+wanting : (document : Members) (b : Breach) (key : Key) → part_of b ≡ file_part key → is_known (key_name key) (needed_of File) ≡ true
+    → get_member (key_name key) document ≡ None → Found document b
 wanting document b keys.Monitor part one none = of_no_monitor part none
 wanting document b keys.Ram part one none = of_no_ram part none
 wanting document b keys.Device part one none = absurd (let h : false ≡ true = one in cc)
@@ -49,7 +54,8 @@ wanting document b keys.Size part one none = absurd (let h : false ≡ true = on
 wanting document b keys.Perm part one none = absurd (let h : false ≡ true = one in cc)
 
 counted :
-    (document : Members) (b : Breach) (key : Key) (value : Data) → part_of b ≡ file_part key → is_known (key_name key) (numbers_of File) ≡ true → get_member (key_name key) document ≡ Some value
+    (document : Members) (b : Breach) (key : Key) (value : Data) → part_of b ≡ file_part key → is_known (key_name key) (numbers_of File) ≡ true
+    → get_member (key_name key) document ≡ Some value
     → number value ≡ None → Found document b
 counted document b keys.Harts value part one is none = of_harts value part is none
 counted document b keys.Entries value part one is none = of_entries value part is none
@@ -71,7 +77,8 @@ of_file document (NoTables key) broken = absurd broken
 of_file document (Overlap one two) broken = absurd broken
 of_file document (Rule fault) broken = absurd broken
 
-item_found : (n : ℕ) (there : Option Data) (one : Data) → option_and_then (numbered n) there ≡ Some one → (i : ℕ) × (value : Data) × (n ≡ i + 1) × (there ≡ Some value) × (at i value ≡ Some one)
+item_found : (n : ℕ) (there : Option Data) (one : Data) → option_and_then (numbered n) there ≡ Some one
+    → (i : ℕ) × (value : Data) × (n ≡ i + 1) × (there ≡ Some value) × (at i value ≡ Some one)
 item_found zero None one is = absurd (let h : None ≡ Some one = is in cc)
 item_found zero (Some value) one is = absurd (let h : None ≡ Some one = is in cc)
 item_found (suc i) None one is = absurd (let h : None ≡ Some one = is in cc)
@@ -79,7 +86,8 @@ item_found (suc i) (Some value) one is = (i, value, (let same : suc i ≡ i + 1 
 
 found_at : (document : Members) (place : Place) (value : Data) (b : Breach) → value_of document place ≡ Some value → BreaksAt value place b → Found document b
 found_at document File value b is (inl (none, told)) = absurd (let h : Some document ≡ None = ap as_table (same_Some _ _ is) ∙ none in cc)
-found_at document File value b is (inr (fields, there, broken)) = of_file document b (rw (same_Some fields document (sym there ∙ ap as_table (sym (same_Some _ _ is)))) at broken)
+found_at document File value b is (inr (fields, there, broken)) = of_file document b
+    (rw (same_Some fields document (sym there ∙ ap as_table (sym (same_Some _ _ is)))) at broken)
 found_at document Monitor value b is broken =
     let here = placed_at value Monitor b (λ h. cc) broken in
     of_monitor value here.0 here.1 is broken
@@ -104,7 +112,8 @@ of_broken fault ram devices (NoTables key) told = absurd told
 of_broken fault ram devices (Overlap one two) told = record { part_is = refl; item_is = refl; step_is = refl }
 of_broken fault ram devices (Rule it) told = record { part_is = refl; item_is = refl; step_is = refl }
 
-no_table_array : (document : Members) (key : Key) (value : Data) → (key ≡ keys.Ram) ⊎ (key ≡ keys.Device) → get_member (key_name key) document ≡ Some value → as_array value ≡ None → Found document (NoTables key)
+no_table_array : (document : Members) (key : Key) (value : Data) → (key ≡ keys.Ram) ⊎ (key ≡ keys.Device) → get_member (key_name key) document ≡ Some value
+    → as_array value ≡ None → Found document (NoTables key)
 no_table_array document keys.Monitor value (inl one) is none = absurd cc
 no_table_array document keys.Monitor value (inr two) is none = absurd cc
 no_table_array document keys.Ram value which is none = of_ram_value value refl is none
@@ -138,10 +147,12 @@ in_keys document only other (of_harts value part is none) at_part = let h : 4 �
 in_keys document only other (of_entries value part is none) at_part = let h : 5 ≡ 0 = sym part ∙ at_part in cc
 in_keys document only other (of_rules part) at_part = let h : 6 ≡ 0 = sym part ∙ at_part in cc
 
-in_monitor : (document : Members) (found_value : Data) (step : ℕ) → get_member (codes "monitor") document ≡ Some found_value → BreaksNoneBelowAt found_value Monitor step → (other : Breach) → Found document other → part_of other ≡ 1 → step_of other < step → ⊥
+in_monitor : (document : Members) (found_value : Data) (step : ℕ) → get_member (codes "monitor") document ≡ Some found_value
+    → BreaksNoneBelowAt found_value Monitor step → (other : Breach) → Found document other → part_of other ≡ 1 → step_of other < step → ⊥
 in_monitor document found_value step there below other (of_keys key part present unknown) at_part low = let h : 0 ≡ 1 = sym part ∙ at_part in cc
 in_monitor document found_value step there below other (of_no_monitor part none) at_part low = let h : None ≡ Some found_value = sym none ∙ there in cc
-in_monitor document found_value step there below other (of_monitor value part item is broken) at_part low = below other (rw (same_Some _ _ (sym is ∙ there)) at broken) low
+in_monitor document found_value step there below other (of_monitor value part item is broken) at_part low = below other
+    (rw (same_Some _ _ (sym is ∙ there)) at broken) low
 in_monitor document found_value step there below other (of_no_ram part none) at_part low = let h : 2 ≡ 1 = sym part ∙ at_part in cc
 in_monitor document found_value step there below other (of_ram_value value part is none) at_part low = let h : 2 ≡ 1 = sym part ∙ at_part in cc
 in_monitor document found_value step there below other (of_ram i value one part item is here broken) at_part low = let h : 2 ≡ 1 = sym part ∙ at_part in cc
@@ -152,61 +163,92 @@ in_monitor document found_value step there below other (of_entries value part is
 in_monitor document found_value step there below other (of_rules part) at_part low = let h : 6 ≡ 1 = sym part ∙ at_part in cc
 
 in_ram :
-    (document : Members) (found_value : Data) (items : Items) (number_of step : ℕ) → get_member (codes "ram") document ≡ Some found_value → as_array found_value ≡ Some items
-    → BreaksNoItemBefore items Ram number_of step → (other : Breach) → Found document other → part_of other ≡ 2 → (item_of other < number_of) ⊎ ((item_of other ≡ number_of) × (step_of other < step)) → ⊥
-in_ram document found_value items number_of step there is_array before other (of_keys key part present unknown) at_part lower = let h : 0 ≡ 2 = sym part ∙ at_part in cc
+    (document : Members) (found_value : Data) (items : Items) (number_of step : ℕ) → get_member (codes "ram") document ≡ Some found_value
+    → as_array found_value ≡ Some items
+    → BreaksNoItemBefore items Ram number_of step → (other : Breach) → Found document other → part_of other ≡ 2
+    → (item_of other < number_of) ⊎ ((item_of other ≡ number_of) × (step_of other < step)) → ⊥
+in_ram document found_value items number_of step there is_array before other (of_keys key part present unknown) at_part lower = let h : 0 ≡ 2 = sym part
+    ∙ at_part in cc
 in_ram document found_value items number_of step there is_array before other (of_no_monitor part none) at_part lower = let h : 1 ≡ 2 = sym part ∙ at_part in cc
-in_ram document found_value items number_of step there is_array before other (of_monitor value part item is broken) at_part lower = let h : 1 ≡ 2 = sym part ∙ at_part in cc
-in_ram document found_value items number_of step there is_array before other (of_no_ram part none) at_part lower = let h : None ≡ Some found_value = sym none ∙ there in cc
-in_ram document found_value items number_of step there is_array before other (of_ram_value value part is none) at_part lower = let h : None ≡ Some items = sym none ∙ ap as_array (same_Some _ _ (sym is ∙ there)) ∙ is_array in cc
-in_ram document found_value items number_of step there is_array before other (of_ram i value one part item is here broken) at_part lower = before i one other (sym (at_array found_value items i is_array) ∙ ap (at i) (sym (same_Some _ _ (sym is ∙ there))) ∙ here) broken (rw item at lower)
-in_ram document found_value items number_of step there is_array before other (of_device_value value part is none) at_part lower = let h : 3 ≡ 2 = sym part ∙ at_part in cc
-in_ram document found_value items number_of step there is_array before other (of_device i value one part item is here broken) at_part lower = let h : 3 ≡ 2 = sym part ∙ at_part in cc
-in_ram document found_value items number_of step there is_array before other (of_harts value part is none) at_part lower = let h : 4 ≡ 2 = sym part ∙ at_part in cc
-in_ram document found_value items number_of step there is_array before other (of_entries value part is none) at_part lower = let h : 5 ≡ 2 = sym part ∙ at_part in cc
+in_ram document found_value items number_of step there is_array before other (of_monitor value part item is broken) at_part lower = let h : 1 ≡ 2 = sym part
+    ∙ at_part in cc
+in_ram document found_value items number_of step there is_array before other (of_no_ram part none) at_part lower = let h : None ≡ Some found_value = sym none
+    ∙ there in cc
+in_ram document found_value items number_of step there is_array before other
+    (of_ram_value value part is none) at_part lower = let h : None ≡ Some items = sym none ∙ ap as_array (same_Some _ _ (sym is ∙ there)) ∙ is_array in cc
+in_ram document found_value items number_of step there is_array before other (of_ram i value one part item is here broken) at_part lower = before i one other
+    (sym (at_array found_value items i is_array) ∙ ap (at i) (sym (same_Some _ _ (sym is ∙ there))) ∙ here) broken (rw item at lower)
+in_ram document found_value items number_of step there is_array before other (of_device_value value part is none) at_part lower = let h : 3 ≡ 2 = sym part
+    ∙ at_part in cc
+in_ram document found_value items number_of step there is_array before other
+    (of_device i value one part item is here broken) at_part lower = let h : 3 ≡ 2 = sym part ∙ at_part in cc
+in_ram document found_value items number_of step there is_array before other (of_harts value part is none) at_part lower = let h : 4 ≡ 2 = sym part
+    ∙ at_part in cc
+in_ram document found_value items number_of step there is_array before other (of_entries value part is none) at_part lower = let h : 5 ≡ 2 = sym part
+    ∙ at_part in cc
 in_ram document found_value items number_of step there is_array before other (of_rules part) at_part lower = let h : 6 ≡ 2 = sym part ∙ at_part in cc
 
 all_ram :
-    (document : Members) (found_value : Data) (items : Items) → get_member (codes "ram") document ≡ Some found_value → as_array found_value ≡ Some items → BreaksNoItem items Ram
+    (document : Members) (found_value : Data) (items : Items) → get_member (codes "ram") document ≡ Some found_value → as_array found_value ≡ Some items
+    → BreaksNoItem items Ram
     → (other : Breach) → Found document other → part_of other ≡ 2 → ⊥
 all_ram document found_value items there is_array clear other (of_keys key part present unknown) at_part = let h : 0 ≡ 2 = sym part ∙ at_part in cc
 all_ram document found_value items there is_array clear other (of_no_monitor part none) at_part = let h : 1 ≡ 2 = sym part ∙ at_part in cc
 all_ram document found_value items there is_array clear other (of_monitor value part item is broken) at_part = let h : 1 ≡ 2 = sym part ∙ at_part in cc
 all_ram document found_value items there is_array clear other (of_no_ram part none) at_part = let h : None ≡ Some found_value = sym none ∙ there in cc
-all_ram document found_value items there is_array clear other (of_ram_value value part is none) at_part = let h : None ≡ Some items = sym none ∙ ap as_array (same_Some _ _ (sym is ∙ there)) ∙ is_array in cc
-all_ram document found_value items there is_array clear other (of_ram i value one part item is here broken) at_part = clear i one other (sym (at_array found_value items i is_array) ∙ ap (at i) (sym (same_Some _ _ (sym is ∙ there))) ∙ here) broken
+all_ram document found_value items there is_array clear other (of_ram_value value part is none) at_part = let h : None ≡ Some items = sym none
+    ∙ ap as_array (same_Some _ _ (sym is ∙ there)) ∙ is_array in cc
+all_ram document found_value items there is_array clear other (of_ram i value one part item is here broken) at_part = clear i one other
+    (sym (at_array found_value items i is_array) ∙ ap (at i) (sym (same_Some _ _ (sym is ∙ there))) ∙ here) broken
 all_ram document found_value items there is_array clear other (of_device_value value part is none) at_part = let h : 3 ≡ 2 = sym part ∙ at_part in cc
-all_ram document found_value items there is_array clear other (of_device i value one part item is here broken) at_part = let h : 3 ≡ 2 = sym part ∙ at_part in cc
+all_ram document found_value items there is_array clear other (of_device i value one part item is here broken) at_part = let h : 3 ≡ 2 = sym part
+    ∙ at_part in cc
 all_ram document found_value items there is_array clear other (of_harts value part is none) at_part = let h : 4 ≡ 2 = sym part ∙ at_part in cc
 all_ram document found_value items there is_array clear other (of_entries value part is none) at_part = let h : 5 ≡ 2 = sym part ∙ at_part in cc
 all_ram document found_value items there is_array clear other (of_rules part) at_part = let h : 6 ≡ 2 = sym part ∙ at_part in cc
 
 in_device :
-    (document : Members) (found_value : Data) (items : Items) (number_of step : ℕ) → get_member (codes "device") document ≡ Some found_value → as_array found_value ≡ Some items
-    → BreaksNoItemBefore items Device number_of step → (other : Breach) → Found document other → part_of other ≡ 3 → (item_of other < number_of) ⊎ ((item_of other ≡ number_of) × (step_of other < step)) → ⊥
-in_device document found_value items number_of step there is_array before other (of_keys key part present unknown) at_part lower = let h : 0 ≡ 3 = sym part ∙ at_part in cc
-in_device document found_value items number_of step there is_array before other (of_no_monitor part none) at_part lower = let h : 1 ≡ 3 = sym part ∙ at_part in cc
-in_device document found_value items number_of step there is_array before other (of_monitor value part item is broken) at_part lower = let h : 1 ≡ 3 = sym part ∙ at_part in cc
+    (document : Members) (found_value : Data) (items : Items) (number_of step : ℕ) → get_member (codes "device") document ≡ Some found_value
+    → as_array found_value ≡ Some items
+    → BreaksNoItemBefore items Device number_of step → (other : Breach) → Found document other → part_of other ≡ 3
+    → (item_of other < number_of) ⊎ ((item_of other ≡ number_of) × (step_of other < step)) → ⊥
+in_device document found_value items number_of step there is_array before other (of_keys key part present unknown) at_part lower = let h : 0 ≡ 3 = sym part
+    ∙ at_part in cc
+in_device document found_value items number_of step there is_array before other (of_no_monitor part none) at_part lower = let h : 1 ≡ 3 = sym part
+    ∙ at_part in cc
+in_device document found_value items number_of step there is_array before other (of_monitor value part item is broken) at_part lower = let h : 1 ≡ 3 = sym part
+    ∙ at_part in cc
 in_device document found_value items number_of step there is_array before other (of_no_ram part none) at_part lower = let h : 2 ≡ 3 = sym part ∙ at_part in cc
-in_device document found_value items number_of step there is_array before other (of_ram_value value part is none) at_part lower = let h : 2 ≡ 3 = sym part ∙ at_part in cc
-in_device document found_value items number_of step there is_array before other (of_ram i value one part item is here broken) at_part lower = let h : 2 ≡ 3 = sym part ∙ at_part in cc
-in_device document found_value items number_of step there is_array before other (of_device_value value part is none) at_part lower = let h : None ≡ Some items = sym none ∙ ap as_array (same_Some _ _ (sym is ∙ there)) ∙ is_array in cc
-in_device document found_value items number_of step there is_array before other (of_device i value one part item is here broken) at_part lower = before i one other (sym (at_array found_value items i is_array) ∙ ap (at i) (sym (same_Some _ _ (sym is ∙ there))) ∙ here) broken (rw item at lower)
-in_device document found_value items number_of step there is_array before other (of_harts value part is none) at_part lower = let h : 4 ≡ 3 = sym part ∙ at_part in cc
-in_device document found_value items number_of step there is_array before other (of_entries value part is none) at_part lower = let h : 5 ≡ 3 = sym part ∙ at_part in cc
+in_device document found_value items number_of step there is_array before other (of_ram_value value part is none) at_part lower = let h : 2 ≡ 3 = sym part
+    ∙ at_part in cc
+in_device document found_value items number_of step there is_array before other
+    (of_ram i value one part item is here broken) at_part lower = let h : 2 ≡ 3 = sym part ∙ at_part in cc
+in_device document found_value items number_of step there is_array before other
+    (of_device_value value part is none) at_part lower = let h : None ≡ Some items = sym none ∙ ap as_array (same_Some _ _ (sym is ∙ there)) ∙ is_array in cc
+in_device document found_value items number_of step there is_array before other
+    (of_device i value one part item is here broken) at_part lower = before i one other
+    (sym (at_array found_value items i is_array) ∙ ap (at i) (sym (same_Some _ _ (sym is ∙ there))) ∙ here) broken (rw item at lower)
+in_device document found_value items number_of step there is_array before other (of_harts value part is none) at_part lower = let h : 4 ≡ 3 = sym part
+    ∙ at_part in cc
+in_device document found_value items number_of step there is_array before other (of_entries value part is none) at_part lower = let h : 5 ≡ 3 = sym part
+    ∙ at_part in cc
 in_device document found_value items number_of step there is_array before other (of_rules part) at_part lower = let h : 6 ≡ 3 = sym part ∙ at_part in cc
 
 all_device :
-    (document : Members) (found_value : Data) (items : Items) → get_member (codes "device") document ≡ Some found_value → as_array found_value ≡ Some items → BreaksNoItem items Device
+    (document : Members) (found_value : Data) (items : Items) → get_member (codes "device") document ≡ Some found_value → as_array found_value ≡ Some items
+    → BreaksNoItem items Device
     → (other : Breach) → Found document other → part_of other ≡ 3 → ⊥
 all_device document found_value items there is_array clear other (of_keys key part present unknown) at_part = let h : 0 ≡ 3 = sym part ∙ at_part in cc
 all_device document found_value items there is_array clear other (of_no_monitor part none) at_part = let h : 1 ≡ 3 = sym part ∙ at_part in cc
 all_device document found_value items there is_array clear other (of_monitor value part item is broken) at_part = let h : 1 ≡ 3 = sym part ∙ at_part in cc
 all_device document found_value items there is_array clear other (of_no_ram part none) at_part = let h : 2 ≡ 3 = sym part ∙ at_part in cc
 all_device document found_value items there is_array clear other (of_ram_value value part is none) at_part = let h : 2 ≡ 3 = sym part ∙ at_part in cc
-all_device document found_value items there is_array clear other (of_ram i value one part item is here broken) at_part = let h : 2 ≡ 3 = sym part ∙ at_part in cc
-all_device document found_value items there is_array clear other (of_device_value value part is none) at_part = let h : None ≡ Some items = sym none ∙ ap as_array (same_Some _ _ (sym is ∙ there)) ∙ is_array in cc
-all_device document found_value items there is_array clear other (of_device i value one part item is here broken) at_part = clear i one other (sym (at_array found_value items i is_array) ∙ ap (at i) (sym (same_Some _ _ (sym is ∙ there))) ∙ here) broken
+all_device document found_value items there is_array clear other (of_ram i value one part item is here broken) at_part = let h : 2 ≡ 3 = sym part
+    ∙ at_part in cc
+all_device document found_value items there is_array clear other (of_device_value value part is none) at_part = let h : None ≡ Some items = sym none
+    ∙ ap as_array (same_Some _ _ (sym is ∙ there)) ∙ is_array in cc
+all_device document found_value items there is_array clear other (of_device i value one part item is here broken) at_part = clear i one other
+    (sym (at_array found_value items i is_array) ∙ ap (at i) (sym (same_Some _ _ (sym is ∙ there))) ∙ here) broken
 all_device document found_value items there is_array clear other (of_harts value part is none) at_part = let h : 4 ≡ 3 = sym part ∙ at_part in cc
 all_device document found_value items there is_array clear other (of_entries value part is none) at_part = let h : 5 ≡ 3 = sym part ∙ at_part in cc
 all_device document found_value items there is_array clear other (of_rules part) at_part = let h : 6 ≡ 3 = sym part ∙ at_part in cc
@@ -224,7 +266,8 @@ no_device document absent other (of_harts value part is none) at_part = let h : 
 no_device document absent other (of_entries value part is none) at_part = let h : 5 ≡ 3 = sym part ∙ at_part in cc
 no_device document absent other (of_rules part) at_part = let h : 6 ≡ 3 = sym part ∙ at_part in cc
 
-in_harts : (document : Members) → ((value : Data) → get_member (codes "harts") document ≡ Some value → number value ≡ None → ⊥) → (other : Breach) → Found document other → part_of other ≡ 4 → ⊥
+in_harts : (document : Members) → ((value : Data) → get_member (codes "harts") document ≡ Some value → number value ≡ None → ⊥) → (other : Breach)
+    → Found document other → part_of other ≡ 4 → ⊥
 in_harts document right other (of_keys key part present unknown) at_part = let h : 0 ≡ 4 = sym part ∙ at_part in cc
 in_harts document right other (of_no_monitor part none) at_part = let h : 1 ≡ 4 = sym part ∙ at_part in cc
 in_harts document right other (of_monitor value part item is broken) at_part = let h : 1 ≡ 4 = sym part ∙ at_part in cc
@@ -237,7 +280,8 @@ in_harts document right other (of_harts value part is none) at_part = right valu
 in_harts document right other (of_entries value part is none) at_part = let h : 5 ≡ 4 = sym part ∙ at_part in cc
 in_harts document right other (of_rules part) at_part = let h : 6 ≡ 4 = sym part ∙ at_part in cc
 
-in_entries : (document : Members) → ((value : Data) → get_member (codes "entries") document ≡ Some value → number value ≡ None → ⊥) → (other : Breach) → Found document other → part_of other ≡ 5 → ⊥
+in_entries : (document : Members) → ((value : Data) → get_member (codes "entries") document ≡ Some value → number value ≡ None → ⊥) → (other : Breach)
+    → Found document other → part_of other ≡ 5 → ⊥
 in_entries document right other (of_keys key part present unknown) at_part = let h : 0 ≡ 5 = sym part ∙ at_part in cc
 in_entries document right other (of_no_monitor part none) at_part = let h : 1 ≡ 5 = sym part ∙ at_part in cc
 in_entries document right other (of_monitor value part item is broken) at_part = let h : 1 ≡ 5 = sym part ∙ at_part in cc
@@ -262,24 +306,29 @@ none_lower other b item step (inr (same, less)) = omega (arith, step, less)
 pub lowest : (document : Members) (part : ℕ) (b : Breach) → part_of b ≡ part → item_of b ≡ 0 → step_of b ≡ 0 → IsFirstOf document part b
 lowest document part b is item step = record { part_is = is; first = λ other broken at_part lower. none_lower other b item step lower }
 
-step_lower : (other b : Breach) → item_of b ≡ 0 → (item_of other < item_of b) ⊎ ((item_of other ≡ item_of b) × (step_of other < step_of b)) → step_of other < step_of b
+step_lower : (other b : Breach) → item_of b ≡ 0 → (item_of other < item_of b) ⊎ ((item_of other ≡ item_of b) × (step_of other < step_of b))
+    → step_of other < step_of b
 step_lower other b item (inl less) = absurd (omega (arith, item, less))
 step_lower other b item (inr (same, less)) = less
 
 pub first_monitor :
-    (document : Members) (value : Data) (b : Breach) → get_member (codes "monitor") document ≡ Some value → BreaksAt value Monitor b → BreaksNoneBelowAt value Monitor (step_of b) → IsFirstOf document 1 b
+    (document : Members) (value : Data) (b : Breach) → get_member (codes "monitor") document ≡ Some value → BreaksAt value Monitor b
+    → BreaksNoneBelowAt value Monitor (step_of b) → IsFirstOf document 1 b
 first_monitor document value b is broken below =
     let here = placed_at value Monitor b (λ h. cc) broken in
     record {
       part_is = here.0;
-      first = λ other other_broken at_part lower. in_monitor document value (step_of b) is below other (found document other_broken) at_part (step_lower other b here.1 lower);
+      first = λ other other_broken at_part lower. in_monitor document value (step_of b) is below other (found document other_broken) at_part
+          (step_lower other b here.1 lower);
     }
 
-pub clear_monitor : (document : Members) (value : Data) → get_member (codes "monitor") document ≡ Some value → BreaksNoneBelowAt value Monitor 5 → BreaksNoneOf document 1
+pub clear_monitor : (document : Members) (value : Data) → get_member (codes "monitor") document ≡ Some value → BreaksNoneBelowAt value Monitor 5
+    → BreaksNoneOf document 1
 clear_monitor document value is below = λ other broken at_part. in_monitor document value 5 is below other (found document broken) at_part (step_small other)
 
 pub first_ram :
-    (document : Members) (value : Data) (items : Items) (b : Breach) → get_member (codes "ram") document ≡ Some value → as_array value ≡ Some items → part_of b ≡ 2
+    (document : Members) (value : Data) (items : Items) (b : Breach) → get_member (codes "ram") document ≡ Some value → as_array value ≡ Some items
+    → part_of b ≡ 2
     → BreaksNoItemBefore items Ram (item_of b) (step_of b) → IsFirstOf document 2 b
 first_ram document value items b is is_array part before =
     record {
@@ -287,27 +336,33 @@ first_ram document value items b is is_array part before =
       first = λ other broken at_part lower. in_ram document value items (item_of b) (step_of b) is is_array before other (found document broken) at_part lower;
     }
 
-pub clear_ram : (document : Members) (value : Data) (items : Items) → get_member (codes "ram") document ≡ Some value → as_array value ≡ Some items → BreaksNoItem items Ram → BreaksNoneOf document 2
+pub clear_ram : (document : Members) (value : Data) (items : Items) → get_member (codes "ram") document ≡ Some value → as_array value ≡ Some items
+    → BreaksNoItem items Ram → BreaksNoneOf document 2
 clear_ram document value items is is_array clear = λ other broken at_part. all_ram document value items is is_array clear other (found document broken) at_part
 
 pub first_device :
-    (document : Members) (value : Data) (items : Items) (b : Breach) → get_member (codes "device") document ≡ Some value → as_array value ≡ Some items → part_of b ≡ 3
+    (document : Members) (value : Data) (items : Items) (b : Breach) → get_member (codes "device") document ≡ Some value → as_array value ≡ Some items
+    → part_of b ≡ 3
     → BreaksNoItemBefore items Device (item_of b) (step_of b) → IsFirstOf document 3 b
 first_device document value items b is is_array part before =
     record {
       part_is = part;
-      first = λ other broken at_part lower. in_device document value items (item_of b) (step_of b) is is_array before other (found document broken) at_part lower;
+      first = λ other broken at_part lower. in_device document value items (item_of b) (step_of b) is is_array before other
+          (found document broken) at_part lower;
     }
 
-pub clear_device : (document : Members) (value : Data) (items : Items) → get_member (codes "device") document ≡ Some value → as_array value ≡ Some items → BreaksNoItem items Device → BreaksNoneOf document 3
-clear_device document value items is is_array clear = λ other broken at_part. all_device document value items is is_array clear other (found document broken) at_part
+pub clear_device : (document : Members) (value : Data) (items : Items) → get_member (codes "device") document ≡ Some value → as_array value ≡ Some items
+    → BreaksNoItem items Device → BreaksNoneOf document 3
+clear_device document value items is is_array clear = λ other broken at_part. all_device document value items is is_array clear other
+    (found document broken) at_part
 
 pub clear_no_device : (document : Members) → get_member (codes "device") document ≡ None → BreaksNoneOf document 3
 clear_no_device document absent = λ other broken at_part. no_device document absent other (found document broken) at_part
 
 -- a number that is right, or is not there, breaks nothing
 pub clear_count :
-    (document : Members) (key : Key) → is_known (key_name key) (numbers_of File) ≡ true → ((value : Data) → get_member (key_name key) document ≡ Some value → number value ≡ None → ⊥)
+    (document : Members) (key : Key) → is_known (key_name key) (numbers_of File) ≡ true
+    → ((value : Data) → get_member (key_name key) document ≡ Some value → number value ≡ None → ⊥)
     → BreaksNoneOf document (file_part key)
 clear_count document keys.Harts one right = λ other broken at_part. in_harts document right other (found document broken) at_part
 clear_count document keys.Entries one right = λ other broken at_part. in_entries document right other (found document broken) at_part
@@ -342,18 +397,23 @@ part_up document part before here = λ other broken low.
       | inr more ↦ here other broken (let same : part_of other ≡ part = omega (arith, low, more) in same)
     ]
 
-before_by : (document : Members) (part : ℕ) (b other : Breach) → IsFirstOf document part b → NonePartBefore document part → IsBreach document other → ComesBefore other b → ⊥
+before_by : (document : Members) (part : ℕ) (b other : Breach) → IsFirstOf document part b → NonePartBefore document part → IsBreach document other
+    → ComesBefore other b → ⊥
 before_by document part b other first before broken (inl less) = before other broken (rw first.part_is at less)
 before_by document part b other first before broken (inr (same, lower)) = first.first other broken (same ∙ first.part_is) lower
 
 -- the first of a part before which nothing is broken is the first
-pub first_of : (document : Members) (part : ℕ) (b : Breach) → IsBreach document b → IsFirstOf document part b → NonePartBefore document part → IsFirstBreach document b
-first_of document part b broken first before = first_breach b broken (λ other other_broken sooner. before_by document part b other first before other_broken sooner)
+pub first_of : (document : Members) (part : ℕ) (b : Breach) → IsBreach document b → IsFirstOf document part b → NonePartBefore document part
+    → IsFirstBreach document b
+first_of document part b broken first before = first_breach b broken (λ other other_broken sooner. before_by document part b other first before other_broken
+    sooner)
 
 -- a broken rule is the first where nothing else is broken
-pub first_rule : (document : Members) (b : Breach) → IsBreach document b → IsOfRules b → ((other : Breach) → IsBreach document other → 6 ≤ part_of other) → IsFirstBreach document b
+pub first_rule : (document : Members) (b : Breach) → IsBreach document b → IsOfRules b → ((other : Breach) → IsBreach document other → 6 ≤ part_of other)
+    → IsFirstBreach document b
 first_rule document b broken last all =
-    first_of document 6 b broken (lowest document 6 b last.part_is last.item_is last.step_is) (λ other other_broken low. omega (arith, all other other_broken, low))
+    first_of document 6 b broken (lowest document 6 b last.part_is last.item_is last.step_is)
+    (λ other other_broken low. omega (arith, all other other_broken, low))
 
 pub at_least : (document : Members) → NonePartBefore document 6 → (other : Breach) → IsBreach document other → 6 ≤ part_of other
 at_least document before other broken =
@@ -372,13 +432,15 @@ item_low vs i one is =
 
 -- an item after those that break nothing: what it breaks first is the first of all
 pub before_item :
-    (items : Items) (place : ℕ → Place) (i : ℕ) (value : Data) (b : Breach) → get_item i items ≡ Some value → item_of b ≡ i + 1 → BreaksNoneBelowAt value (place (i + 1)) (step_of b)
+    (items : Items) (place : ℕ → Place) (i : ℕ) (value : Data) (b : Breach) → get_item i items ≡ Some value → item_of b ≡ i + 1
+    → BreaksNoneBelowAt value (place (i + 1)) (step_of b)
     → ((j : ℕ) (earlier : Data) (other : Breach) → j < i → get_item j items ≡ Some earlier → BreaksAt earlier (place (j + 1)) other → ⊥)
     → BreaksNoItemBefore items place (item_of b) (step_of b)
 before_item items place i value b here item below before j earlier other is broken (inl less) = before j earlier other (omega (arith, item, less)) is broken
 before_item items place i value b here item below before j earlier other is broken (inr (same, less)) =
     let now : i ≡ j = omega (arith, item, same) in
-    below other (subst (λ (x : Data). BreaksAt x (place (i + 1)) other) (same_Some _ _ (sym is ∙ ap (λ k. get_item k items) (sym now) ∙ here)) (subst (λ k. BreaksAt earlier (place (k + 1)) other) (sym now) broken)) less
+    below other (subst (λ (x : Data). BreaksAt x (place (i + 1)) other) (same_Some _ _ (sym is ∙ ap (λ k. get_item k items) (sym now) ∙ here))
+    (subst (λ k. BreaksAt earlier (place (k + 1)) other) (sym now) broken)) less
 
 -- and where it breaks nothing, neither does any up to it
 pub next_item :
@@ -389,5 +451,6 @@ next_item items place i value here clear before j earlier other low is broken =
     elim (cases_lt j i) [
       | inl less ↦ before j earlier other less is broken
       | inr more ↦ let now : i ≡ j = omega (arith, low, more) in
-          clear other (subst (λ (x : Data). BreaksAt x (place (i + 1)) other) (same_Some _ _ (sym is ∙ ap (λ k. get_item k items) (sym now) ∙ here)) (subst (λ k. BreaksAt earlier (place (k + 1)) other) (sym now) broken))
+          clear other (subst (λ (x : Data). BreaksAt x (place (i + 1)) other) (same_Some _ _ (sym is ∙ ap (λ k. get_item k items) (sym now) ∙ here))
+          (subst (λ k. BreaksAt earlier (place (k + 1)) other) (sym now) broken))
     ]

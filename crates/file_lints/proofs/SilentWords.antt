@@ -18,20 +18,24 @@ none_of : {X Y : Type 0} (f : X → Y) (o : Option X) → option_map f o ≡ Non
 none_of f None h = refl
 none_of f (Some x) h = cc
 
-no_event_by : (hart : Option ℕ) (first : Word) (words : List Word) → option_map {U = Option (ℕ × Event)} Some (on_hart hart first words) ≡ None → is_some hart ≡ true → event_of words ≡ None
+no_event_by : (hart : Option ℕ) (first : Word) (words : List Word) → option_map {U = Option (ℕ × Event)} Some (on_hart hart first words) ≡ None
+    → is_some hart ≡ true → event_of words ≡ None
 no_event_by None first words h named = absurd (true≢false (sym named))
 no_event_by (Some hart) first words h named = none_of (λ event. (hart, event)) (event_of words) (none_of Some (on_hart (Some hart) first words) h)
 
-no_event_without : (hart : Option ℕ) (first : Word) (words : List Word) → option_map {U = Option (ℕ × Event)} Some (on_hart hart first words) ≡ None → is_some hart ≡ false → event_of (first ∷ words) ≡ None
+no_event_without : (hart : Option ℕ) (first : Word) (words : List Word) → option_map {U = Option (ℕ × Event)} Some (on_hart hart first words) ≡ None
+    → is_some hart ≡ false → event_of (first ∷ words) ≡ None
 no_event_without None first words h named = none_of (λ event. (0, event)) (event_of (first ∷ words)) (none_of Some (on_hart None first words) h)
 no_event_without (Some hart) first words h named = absurd (true≢false named)
 
 -- words that say nothing, the first of which names a hart
-pub no_event_on : (harts : ℕ) (text : List ℕ) (first : Word) (words : List Word) → said_by harts (split_words text) ≡ None → split_words text ≡ first ∷ words → is_some (hart_of harts first) ≡ true → event_of words ≡ None
+pub no_event_on : (harts : ℕ) (text : List ℕ) (first : Word) (words : List Word) → said_by harts (split_words text) ≡ None → split_words text ≡ first ∷ words
+    → is_some (hart_of harts first) ≡ true → event_of words ≡ None
 no_event_on harts text first words none e named = no_event_by (hart_of harts first) first words (sym (ap (said_by harts) e) ∙ none) named
 
 -- and none
-pub no_event : (harts : ℕ) (text : List ℕ) (first : Word) (words : List Word) → said_by harts (split_words text) ≡ None → split_words text ≡ first ∷ words → is_some (hart_of harts first) ≡ false → event_of (first ∷ words) ≡ None
+pub no_event : (harts : ℕ) (text : List ℕ) (first : Word) (words : List Word) → said_by harts (split_words text) ≡ None → split_words text ≡ first ∷ words
+    → is_some (hart_of harts first) ≡ false → event_of (first ∷ words) ≡ None
 no_event harts text first words none e named = no_event_without (hart_of harts first) first words (sym (ap (said_by harts) e) ∙ none) named
 
 -- a line without words is understood
@@ -43,7 +47,8 @@ is_none None h = refl
 is_none (Some x) h = absurd (true≢false h)
 
 -- the words of a short line of text that is none of a trace
-pub words_say_nothing : (harts : ℕ) (raw : List ℕ) → is_line harts raw ≡ false → length raw ≤ 1023 → list_all is_allowed (content_of (without_return raw)) ≡ true → said_by harts (split_words (content_of (without_return raw))) ≡ None
+pub words_say_nothing : (harts : ℕ) (raw : List ℕ) → is_line harts raw ≡ false → length raw ≤ 1023
+    → list_all is_allowed (content_of (without_return raw)) ≡ true → said_by harts (split_words (content_of (without_return raw))) ≡ None
 words_say_nothing harts raw h short allowed =
     let few : nat_le (length raw) 1023 ≡ true = le-leb (length raw) 1023 short in
     let none = is_none (raw_says harts raw) h in

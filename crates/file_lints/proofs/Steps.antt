@@ -1,5 +1,6 @@
 -- At which step of its table a breach is found.
-use Rattle.std.proofs.Common.{◌≡◌, ◌≢◌, ◌∙◌, ℕ, ◌+◌, ◌<◌, List, [], ◌∷◌, Bool, true, false, ◌&&◌, Option, Some, None, Ordering, Less, Equal, Greater, nat_cmp, ap, arith, refl, sym, inl, inr}
+use Rattle.std.proofs.Common.{◌≡◌, ◌≢◌, ◌∙◌, ℕ, ◌+◌, ◌<◌, List, [], ◌∷◌, Bool, true, false, ◌&&◌, Option, Some, None, Ordering, Less, Equal, Greater, nat_cmp}
+use Rattle.std.proofs.Common.{ap, arith, refl, sym, inl, inr}
 use Rattle.std.specs.Prelude.{codes}
 use Rattle.std.specs.Option.{option_and_then}
 use Rattle.std.specs.Ordering.{match_ordering}
@@ -26,11 +27,13 @@ both_true true false h = absurd (let g : false ≡ true = h in cc)
 both_true false b h = absurd (let g : false ≡ true = h in cc)
 
 skipped :
-    (o : Ordering) (key l : List ℕ) (names : List (List ℕ)) (d : Data) (found : Option Data) → slice_cmp nat_cmp key l ≡ o → is_known l names ≡ true → is_known key names ≡ false → found ≡ None
+    (o : Ordering) (key l : List ℕ) (names : List (List ℕ)) (d : Data) (found : Option Data) → slice_cmp nat_cmp key l ≡ o → is_known l names ≡ true
+    → is_known key names ≡ false → found ≡ None
     → match_ordering o found (Some d) found ≡ None
 skipped Less key l names d found is one other none = none
 skipped Greater key l names d found is one other none = none
-skipped Equal key l names d found is one other none = absurd (let same : is_known key names ≡ is_known l names = ap (λ k. is_known k names) (exact_bytes key l is) in cc)
+skipped Equal key l names d found is one other none = absurd (let same : is_known key names ≡ is_known l names = ap (λ k. is_known k names)
+    (exact_bytes key l is) in cc)
 
 -- a table of known keys alone has no other
 pub only_known : (key : List ℕ) (names : List (List ℕ)) (ms : Members) → has_only names ms ≡ true → is_known key names ≡ false → get_member key ms ≡ None
@@ -97,7 +100,8 @@ no_file_number (Device n) keys.Perm table zero here = let h : 4 ≡ 0 = zero in 
 pub below_first : (fields : Members) (place : Place) → place ≢ File → has_only (keys_of place) fields ≡ true → BreaksNoneBelow fields place 1
 below_first fields place table only (Unknown spot key) broken low = broken.1 (only_known key.now (keys_of place) fields only broken.2)
 below_first fields place table only (Missing spot key) broken low = no_file_key place key table (let h : key_step key < 1 = low in omega (arith, h)) broken.1
-below_first fields place table only (NoNumber spot key) broken low = no_file_number place key table (let h : key_step key < 1 = low in omega (arith, h)) broken.1
+below_first fields place table only (NoNumber spot key) broken low = no_file_number place key table
+    (let h : key_step key < 1 = low in omega (arith, h)) broken.1
 below_first fields place table only (NoPages spot) broken low = let h : 3 < 1 = low in omega (arith, h)
 below_first fields place table only (NoPerm spot) broken low = let h : 4 < 1 = low in omega (arith, h)
 below_first fields place table only (NoTable spot) broken low = broken
@@ -106,7 +110,8 @@ below_first fields place table only (Overlap one two) broken low = broken
 below_first fields place table only (Rule fault) broken low = broken
 
 -- nothing below a step and nothing at it is nothing below the next
-pub step_up : (fields : Members) (place : Place) (step : ℕ) → BreaksNoneBelow fields place step → ((other : Breach) → Breaks fields place other → step_of other ≡ step → ⊥) → BreaksNoneBelow fields place (step + 1)
+pub step_up : (fields : Members) (place : Place) (step : ℕ) → BreaksNoneBelow fields place step
+    → ((other : Breach) → Breaks fields place other → step_of other ≡ step → ⊥) → BreaksNoneBelow fields place (step + 1)
 step_up fields place step before here other broken low =
     elim (cases_lt (step_of other) step) [
       | inl less ↦ before other broken less
@@ -114,7 +119,8 @@ step_up fields place step before here other broken low =
     ]
 
 -- a base that is a number breaks nothing at its step
-pub base_is : (fields : Members) (place : Place) (n : ℕ) → number_at (codes "base") fields ≡ Some n → (other : Breach) → Breaks fields place other → step_of other ≡ 1 → ⊥
+pub base_is : (fields : Members) (place : Place) (n : ℕ) → number_at (codes "base") fields ≡ Some n → (other : Breach) → Breaks fields place other
+    → step_of other ≡ 1 → ⊥
 base_is fields place n is (Unknown spot key) broken at_step = let h : 0 ≡ 1 = at_step in cc
 base_is fields place n is (Missing spot keys.Monitor) broken at_step = let h : 0 ≡ 1 = at_step in cc
 base_is fields place n is (Missing spot keys.Ram) broken at_step = let h : 0 ≡ 1 = at_step in cc
@@ -140,7 +146,8 @@ base_is fields place n is (Overlap one two) broken at_step = broken
 base_is fields place n is (Rule fault) broken at_step = broken
 
 -- a size that is a number breaks nothing at its step
-pub size_is : (fields : Members) (place : Place) (n : ℕ) → number_at (codes "size") fields ≡ Some n → (other : Breach) → Breaks fields place other → step_of other ≡ 2 → ⊥
+pub size_is : (fields : Members) (place : Place) (n : ℕ) → number_at (codes "size") fields ≡ Some n → (other : Breach) → Breaks fields place other
+    → step_of other ≡ 2 → ⊥
 size_is fields place n is (Unknown spot key) broken at_step = let h : 0 ≡ 2 = at_step in cc
 size_is fields place n is (Missing spot keys.Monitor) broken at_step = let h : 0 ≡ 2 = at_step in cc
 size_is fields place n is (Missing spot keys.Ram) broken at_step = let h : 0 ≡ 2 = at_step in cc
@@ -166,7 +173,8 @@ size_is fields place n is (Overlap one two) broken at_step = broken
 size_is fields place n is (Rule fault) broken at_step = broken
 
 -- whole pages break nothing at their step
-pub pages_are : (fields : Members) (place : Place) (range : ℕ × ℕ) → range_in fields ≡ Some range → IsRange range → (other : Breach) → Breaks fields place other → step_of other ≡ 3 → ⊥
+pub pages_are : (fields : Members) (place : Place) (range : ℕ × ℕ) → range_in fields ≡ Some range → IsRange range → (other : Breach) → Breaks fields place other
+    → step_of other ≡ 3 → ⊥
 pages_are fields place range is whole (Unknown spot key) broken at_step = let h : 0 ≡ 3 = at_step in cc
 pages_are fields place range is whole (Missing spot keys.Monitor) broken at_step = let h : 0 ≡ 3 = at_step in cc
 pages_are fields place range is whole (Missing spot keys.Ram) broken at_step = let h : 0 ≡ 3 = at_step in cc
@@ -192,7 +200,8 @@ pages_are fields place range is whole (Overlap one two) broken at_step = broken
 pages_are fields place range is whole (Rule fault) broken at_step = broken
 
 -- a permission breaks nothing at its step
-pub perm_is : (fields : Members) (place : Place) (perm : Perm) → place ≢ File → perm_at fields ≡ Some perm → (other : Breach) → Breaks fields place other → step_of other ≡ 4 → ⊥
+pub perm_is : (fields : Members) (place : Place) (perm : Perm) → place ≢ File → perm_at fields ≡ Some perm → (other : Breach) → Breaks fields place other
+    → step_of other ≡ 4 → ⊥
 perm_is fields place perm table is (Unknown spot key) broken at_step = let h : 0 ≡ 4 = at_step in cc
 perm_is fields place perm table is (Missing spot keys.Monitor) broken at_step = let h : 0 ≡ 4 = at_step in cc
 perm_is fields place perm table is (Missing spot keys.Ram) broken at_step = let h : 0 ≡ 4 = at_step in cc
@@ -201,7 +210,8 @@ perm_is fields place perm table is (Missing spot keys.Harts) broken at_step = le
 perm_is fields place perm table is (Missing spot keys.Entries) broken at_step = let h : 0 ≡ 4 = at_step in cc
 perm_is fields place perm table is (Missing spot keys.Base) broken at_step = let h : 1 ≡ 4 = at_step in cc
 perm_is fields place perm table is (Missing spot keys.Size) broken at_step = let h : 2 ≡ 4 = at_step in cc
-perm_is fields place perm table is (Missing spot keys.Perm) broken at_step = let none : None ≡ Some perm = sym (ap (option_and_then perm_of) broken.2) ∙ is in cc
+perm_is fields place perm table is (Missing spot keys.Perm) broken at_step = let none : None ≡ Some perm = sym (ap (option_and_then perm_of) broken.2)
+    ∙ is in cc
 perm_is fields place perm table is (NoNumber spot keys.Monitor) broken at_step = let h : 0 ≡ 4 = at_step in cc
 perm_is fields place perm table is (NoNumber spot keys.Ram) broken at_step = let h : 0 ≡ 4 = at_step in cc
 perm_is fields place perm table is (NoNumber spot keys.Device) broken at_step = let h : 0 ≡ 4 = at_step in cc
@@ -214,7 +224,8 @@ perm_is fields Monitor perm table is (NoNumber spot keys.Perm) broken at_step = 
 perm_is fields (Ram n) perm table is (NoNumber spot keys.Perm) broken at_step = let h : false ≡ true = broken.1 in cc
 perm_is fields (Device n) perm table is (NoNumber spot keys.Perm) broken at_step = let h : false ≡ true = broken.1 in cc
 perm_is fields place perm table is (NoPages spot) broken at_step = let h : 3 ≡ 4 = at_step in cc
-perm_is fields place perm table is (NoPerm spot) broken at_step = let none : None ≡ Some perm = sym (ap (option_and_then perm_of) broken.3 ∙ broken.4) ∙ is in cc
+perm_is fields place perm table is (NoPerm spot) broken at_step = let none : None ≡ Some perm = sym (ap (option_and_then perm_of) broken.3 ∙ broken.4)
+    ∙ is in cc
 perm_is fields place perm table is (NoTable spot) broken at_step = broken
 perm_is fields place perm table is (NoTables key) broken at_step = broken
 perm_is fields place perm table is (Overlap one two) broken at_step = broken
@@ -278,7 +289,8 @@ pub below_none_at : (value : Data) (place : Place) → BreaksNoneBelowAt value p
 below_none_at value place other broken low = omega (arith, low)
 
 -- what a table does not break, what stands there does not
-pub in_table : (value : Data) (fields : Members) (place : Place) (step : ℕ) → as_table value ≡ Some fields → BreaksNoneBelow fields place step → BreaksNoneBelowAt value place step
+pub in_table : (value : Data) (fields : Members) (place : Place) (step : ℕ) → as_table value ≡ Some fields → BreaksNoneBelow fields place step
+    → BreaksNoneBelowAt value place step
 in_table value fields place step is below other (inl (none, told)) low = let h : None ≡ Some fields = sym none ∙ is in cc
 in_table value fields place step is below other (inr (found, there, broken)) low = below other (rw (same_Some _ _ (sym there ∙ is)) at broken) low
 
@@ -289,7 +301,8 @@ key_part_is (Ram n) key table = refl
 key_part_is (Device n) key table = refl
 
 -- a breach at the table of a range or of a device is of that place
-pub placed : (fields : Members) (place : Place) (other : Breach) → place ≢ File → Breaks fields place other → (part_of other ≡ place_part place) × (item_of other ≡ place_item place)
+pub placed : (fields : Members) (place : Place) (other : Breach) → place ≢ File → Breaks fields place other
+    → (part_of other ≡ place_part place) × (item_of other ≡ place_item place)
 placed fields place (Unknown spot key) table broken = (ap place_part broken.0, ap place_item broken.0)
 placed fields place (Missing spot key) table broken = (ap (λ p. key_part p key) broken.0 ∙ key_part_is place key table, ap place_item broken.0)
 placed fields place (NoNumber spot key) table broken = (ap (λ p. key_part p key) broken.0 ∙ key_part_is place key table, ap place_item broken.0)
@@ -300,7 +313,8 @@ placed fields place (NoTables key) table broken = absurd broken
 placed fields place (Overlap one two) table broken = absurd broken
 placed fields place (Rule fault) table broken = absurd broken
 
-pub placed_at : (value : Data) (place : Place) (other : Breach) → place ≢ File → BreaksAt value place other → (part_of other ≡ place_part place) × (item_of other ≡ place_item place)
+pub placed_at : (value : Data) (place : Place) (other : Breach) → place ≢ File → BreaksAt value place other
+    → (part_of other ≡ place_part place) × (item_of other ≡ place_item place)
 placed_at value place other table (inl (none, told)) = (ap part_of told, ap item_of told)
 placed_at value place other table (inr (fields, is, broken)) = placed fields place other table broken
 
@@ -327,17 +341,21 @@ step_small (Overlap one two) = let h : 0 < 5 = omega arith in h
 step_small (Rule fault) = let h : 0 < 5 = omega arith in h
 
 -- a base that is a number, a size that is one, and whole pages
-pub below_base : (fields : Members) (place : Place) (n : ℕ) → number_at (codes "base") fields ≡ Some n → BreaksNoneBelow fields place 1 → BreaksNoneBelow fields place 2
+pub below_base : (fields : Members) (place : Place) (n : ℕ) → number_at (codes "base") fields ≡ Some n → BreaksNoneBelow fields place 1
+    → BreaksNoneBelow fields place 2
 below_base fields place n is before = step_up fields place 1 before (base_is fields place n is)
 
-pub below_size : (fields : Members) (place : Place) (n : ℕ) → number_at (codes "size") fields ≡ Some n → BreaksNoneBelow fields place 2 → BreaksNoneBelow fields place 3
+pub below_size : (fields : Members) (place : Place) (n : ℕ) → number_at (codes "size") fields ≡ Some n → BreaksNoneBelow fields place 2
+    → BreaksNoneBelow fields place 3
 below_size fields place n is before = step_up fields place 2 before (size_is fields place n is)
 
-pub below_pages : (fields : Members) (place : Place) (range : ℕ × ℕ) → range_in fields ≡ Some range → IsRange range → BreaksNoneBelow fields place 3 → BreaksNoneBelow fields place 4
+pub below_pages : (fields : Members) (place : Place) (range : ℕ × ℕ) → range_in fields ≡ Some range → IsRange range → BreaksNoneBelow fields place 3
+    → BreaksNoneBelow fields place 4
 below_pages fields place range is whole before = step_up fields place 3 before (pages_are fields place range is whole)
 
 -- the last step
-pub below_perm : (fields : Members) (place : Place) (perm : Perm) → place ≢ File → perm_at fields ≡ Some perm → BreaksNoneBelow fields place 4 → BreaksNoneBelow fields place 5
+pub below_perm : (fields : Members) (place : Place) (perm : Perm) → place ≢ File → perm_at fields ≡ Some perm → BreaksNoneBelow fields place 4
+    → BreaksNoneBelow fields place 5
 below_perm fields place perm table is before = step_up fields place 4 before (perm_is fields place perm table is)
 
 pub below_no_perm : (fields : Members) (place : Place) → keys_of place ≡ keys_of Monitor → BreaksNoneBelow fields place 4 → BreaksNoneBelow fields place 5

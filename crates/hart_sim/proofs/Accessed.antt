@@ -28,21 +28,25 @@ use Rattle.hart_sim.proofs.Verdicts.{verdict_is}
 pub judged_once : (es : List Entry) (a : Access) (r s : Result (Unit {0}) Cause) → Judges es a r → Judges es a s → r ≡ s
 judged_once es a r s j k = sym ((judgement_law_proof es a r).0 j) ∙ (judgement_law_proof es a s).0 k
 
-no_fault : (kind : Kind) (old new : Memory) (a : Access) (value : ℕ) (reply : Reply) (cause : Cause) → ReachesMemory kind old a value reply new → reply ≡ replies.Fault cause → ⊥
+no_fault : (kind : Kind) (old new : Memory) (a : Access) (value : ℕ) (reply : Reply) (cause : Cause) → ReachesMemory kind old a value reply new
+    → reply ≡ replies.Fault cause → ⊥
 no_fault Fetch old new a value reply cause x e = let h = sym x.0 ∙ e in cc
 no_fault Load old new a value reply cause x e = let h = sym x.0 ∙ e in cc
 no_fault Store old new a value reply cause (inl x) e = let h = sym x.0 ∙ e in cc
 no_fault Store old new a value reply cause (inr x) e = let h = sym x.0 ∙ e in cc
 
 -- one that the list allows has no fault, and no cause
-pub no_cause : (es : List Entry) (old new : Memory) (a : Access) (value : ℕ) (reply : Reply) (cause : Cause) → Judges es a (Ok tt) → ReachesMemory a.kind old a value reply new → (reply ≡ replies.Fault cause → Judges es a (Err cause)) × (Judges es a (Err cause) → reply ≡ replies.Fault cause)
+pub no_cause : (es : List Entry) (old new : Memory) (a : Access) (value : ℕ) (reply : Reply) (cause : Cause) → Judges es a (Ok tt)
+    → ReachesMemory a.kind old a value reply new → (reply ≡ replies.Fault cause → Judges es a (Err cause))
+    × (Judges es a (Err cause) → reply ≡ replies.Fault cause)
 no_cause es old new a value reply cause j x = (
   (λ e. absurd (no_fault a.kind old new a value reply cause x e)),
   (λ k. let h : ◌≡◌ {A = Result (Unit {0}) Cause} (Ok tt) (Err cause) = judged_once es a (Ok tt) (Err cause) j k in absurd (let z = h in cc)),
 )
 
 -- one that the list refuses has that fault
-pub that_cause : (es : List Entry) (a : Access) (given cause : Cause) → Judges es a (Err given) → (replies.Fault given ≡ replies.Fault cause → Judges es a (Err cause)) × (Judges es a (Err cause) → replies.Fault given ≡ replies.Fault cause)
+pub that_cause : (es : List Entry) (a : Access) (given cause : Cause) → Judges es a (Err given)
+    → (replies.Fault given ≡ replies.Fault cause → Judges es a (Err cause)) × (Judges es a (Err cause) → replies.Fault given ≡ replies.Fault cause)
 that_cause es a given cause j = (
   (λ e. let same : given ≡ cause = cc in subst (λ x. Judges es a (Err x)) same j),
   (λ k. let h : ◌≡◌ {A = Result (Unit {0}) Cause} (Err given) (Err cause) = judged_once es a (Err given) (Err cause) j k in cc),
@@ -50,42 +54,65 @@ that_cause es a given cause j = (
 
 -- memory as it was shows the same state
 pub shows_same : (core : MonitorState) (old new : Memory) → SameMemory new old → shown core new ≡ shown core old
-shows_same core old new m = equal (record { table = refl; worlds = λ h. refl; registers = λ who. refl; bytes = m.bytes; written = m.written; marked = λ h. refl })
+shows_same core old new m = equal (record {
+  table = refl;
+  worlds = λ h. refl;
+  registers = λ who. refl;
+  bytes = m.bytes;
+  written = m.written;
+  marked = λ h. refl;
+})
 
-pub shows_store : (core : MonitorState) (old new : Memory) (address size value : ℕ) → Stores old address size value new → shown core new ≡ storing (shown core old) address size value
-shows_store core old new address size value m = equal (record { table = refl; worlds = λ h. refl; registers = λ who. refl; bytes = m.bytes; written = m.written; marked = λ h. refl })
+pub shows_store : (core : MonitorState) (old new : Memory) (address size value : ℕ) → Stores old address size value new
+    → shown core new ≡ storing (shown core old) address size value
+shows_store core old new address size value m = equal (record {
+  table = refl;
+  worlds = λ h. refl;
+  registers = λ who. refl;
+  bytes = m.bytes;
+  written = m.written;
+  marked = λ h. refl;
+})
 
-reaches : (kind : Kind) (core : MonitorState) (old new : Memory) (a : Access) (value : ℕ) (reply : Reply) → ReachesMemory kind old a value reply new → TakesEffect kind (shown core old) a value reply (shown core new)
+reaches : (kind : Kind) (core : MonitorState) (old new : Memory) (a : Access) (value : ℕ) (reply : Reply) → ReachesMemory kind old a value reply new
+    → TakesEffect kind (shown core old) a value reply (shown core new)
 reaches Fetch core old new a value reply x = (x.0, shows_same core old new x.1)
 reaches Load core old new a value reply x = (x.0, shows_same core old new x.1)
 reaches Store core old new a value reply (inl x) = inl (x.0, shows_store core old new a.address a.size value x.1)
 reaches Store core old new a value reply (inr x) = inr (x.0, x.1, shows_same core old new x.2)
 
 -- one that the list allows takes effect, whatever the list means
-pub effect_ok : (es : List Entry) (core : MonitorState) (old new : Memory) (a : Access) (value : ℕ) (reply : Reply) (said : Result (Unit {0}) Cause) → Judges es a (Ok tt) → ReachesMemory a.kind old a value reply new → Judges es a said → Accesses said (shown core old) a value reply (shown core new)
+pub effect_ok : (es : List Entry) (core : MonitorState) (old new : Memory) (a : Access) (value : ℕ) (reply : Reply) (said : Result (Unit {0}) Cause)
+    → Judges es a (Ok tt) → ReachesMemory a.kind old a value reply new → Judges es a said → Accesses said (shown core old) a value reply (shown core new)
 effect_ok es core old new a value reply said j x k =
     subst (λ v. Accesses v (shown core old) a value reply (shown core new)) (judged_once es a (Ok tt) said j k) (reaches a.kind core old new a value reply x)
 
 -- and one that it refuses is that fault, and nothing changes
-pub effect_err : (es : List Entry) (s : MachineState) (a : Access) (value : ℕ) (cause : Cause) (said : Result (Unit {0}) Cause) → Judges es a (Err cause) → Judges es a said → Accesses said s a value (replies.Fault cause) s
+pub effect_err : (es : List Entry) (s : MachineState) (a : Access) (value : ℕ) (cause : Cause) (said : Result (Unit {0}) Cause) → Judges es a (Err cause)
+    → Judges es a said → Accesses said s a value (replies.Fault cause) s
 effect_err es s a value cause said j k =
     let there : Accesses (Err cause) s a value (replies.Fault cause) s = (refl, refl) in
     subst (λ v. Accesses v s a value (replies.Fault cause) s) (judged_once es a (Err cause) said j k) there
 
 -- where another list is met only where this one is
-pub does_by : (Meets Other : List Entry → Type 0) (event : Event) (s : MachineState) (hart : ℕ) (reply : Reply) (new : MachineState) → ((list : List Entry) → Other list → Meets list) → DoesBy Meets event s hart reply new → DoesBy Other event s hart reply new
+pub does_by : (Meets Other : List Entry → Type 0) (event : Event) (s : MachineState) (hart : ℕ) (reply : Reply) (new : MachineState)
+    → ((list : List Entry) → Other list → Meets list) → DoesBy Meets event s hart reply new → DoesBy Other event s hart reply new
 does_by Meets Other (events.Access a value) s hart reply new so x = λ list said meets judged. x list said (so list meets) judged
 does_by Meets Other (events.Reg n value) s hart reply new so x = x
 does_by Meets Other (events.Ecall words) s hart reply new so x = x
 does_by Meets Other events.Irq s hart reply new so x = x
 
 -- an access that the list allows is one that the view allows
-pub accesses_ok : (view : ℕ → Perm) (es : List Entry) (core : MonitorState) (old new : Memory) (a : Access) (value : ℕ) (reply : Reply) → Means es view → a.mode ≢ Machine → Judges es a (Ok tt) → ReachesMemory a.kind old a value reply new → Accesses (verdict view a) (shown core old) a value reply (shown core new)
+pub accesses_ok : (view : ℕ → Perm) (es : List Entry) (core : MonitorState) (old new : Memory) (a : Access) (value : ℕ) (reply : Reply) → Means es view
+    → a.mode ≢ Machine → Judges es a (Ok tt) → ReachesMemory a.kind old a value reply new
+    → Accesses (verdict view a) (shown core old) a value reply (shown core new)
 accesses_ok view es core old new a value reply means mode j x =
-    subst (λ v. Accesses v (shown core old) a value reply (shown core new)) (sym (verdict_is view es a (Ok tt) means mode j)) (reaches a.kind core old new a value reply x)
+    subst (λ v. Accesses v (shown core old) a value reply (shown core new)) (sym (verdict_is view es a (Ok tt) means mode j))
+    (reaches a.kind core old new a value reply x)
 
 -- and one that it refuses one that the view refuses
-pub accesses_err : (view : ℕ → Perm) (es : List Entry) (core : MonitorState) (old : Memory) (a : Access) (value : ℕ) (cause : Cause) → Means es view → a.mode ≢ Machine → Judges es a (Err cause) → Accesses (verdict view a) (shown core old) a value (replies.Fault cause) (shown core old)
+pub accesses_err : (view : ℕ → Perm) (es : List Entry) (core : MonitorState) (old : Memory) (a : Access) (value : ℕ) (cause : Cause) → Means es view
+    → a.mode ≢ Machine → Judges es a (Err cause) → Accesses (verdict view a) (shown core old) a value (replies.Fault cause) (shown core old)
 accesses_err view es core old a value cause means mode j =
     let s = shown core old in
     let there : Accesses (Err cause) s a value (replies.Fault cause) s = (refl, refl) in

@@ -1,5 +1,6 @@
 -- Two states that an enclave cannot tell apart.
-use Rattle.std.proofs.Common.{◌≡◌, ◌≢◌, ◌∙◌, inl, inr, ℕ, ◌+◌, ◌-◌, ◌/◌, ◌<◌, ◌≤◌, [], ◌∷◌, Bool, true, false, ◌==◌, if◌then◌else◌, Result, Ok, Err, refl, ap, sym, subst, arith}
+use Rattle.std.proofs.Common.{◌≡◌, ◌≢◌, ◌∙◌, inl, inr, ℕ, ◌+◌, ◌-◌, ◌/◌, ◌<◌, ◌≤◌, [], ◌∷◌, Bool, true, false, ◌==◌, if◌then◌else◌, Result, Ok, Err, refl, ap}
+use Rattle.std.proofs.Common.{sym, subst, arith}
 use Rattle.std.proofs.lemmas.Bool.{eq-eqb, eqb-true, ne_eqb, leb-true, ltb-true, false_from_ne_true, and_parts}
 use Rattle.pmp_encoding.specs.Registers.{byte_of}
 use Rattle.pmp_encoding.specs.declared.perm.Perm.TheVariants.{NoAccess}
@@ -64,7 +65,8 @@ still_runs s new hart id e r ch = record {
 }
 
 -- both states as they were
-same_still : (s other new now : MachineState) (hart there id : ℕ) (e f : Enclave) → RunsOn s hart id e → RunsOn other there id f → LooksSame id e f s other → new ≡ awoken s hart → now ≡ awoken other there → LooksSame id e f new now
+same_still : (s other new now : MachineState) (hart there id : ℕ) (e f : Enclave) → RunsOn s hart id e → RunsOn other there id f → LooksSame id e f s other
+    → new ≡ awoken s hart → now ≡ awoken other there → LooksSame id e f new now
 same_still s other new now hart there id e f r q l is is' = record {
   parts = l.parts;
   registers = ap (λ x. x.registers (EnclaveOf id)) is ∙ l.registers ∙ sym (ap (λ x. x.registers (EnclaveOf id)) is');
@@ -73,7 +75,8 @@ same_still s other new now hart there id e f r q l is is' = record {
 }
 
 -- an address of an access that is allowed is in a page of the view
-reached : (e : Enclave) (a : Access) (byte : ℕ) → IsAllowed (enclave_view e.parts) a → a.address ≤ byte → byte < a.address + a.size → enclave_view e.parts (byte / 4096) ≢ NoAccess
+reached : (e : Enclave) (a : Access) (byte : ℕ) → IsAllowed (enclave_view e.parts) a → a.address ≤ byte → byte < a.address + a.size
+    → enclave_view e.parts (byte / 4096) ≢ NoAccess
 reached e a byte ok low high none =
     some_held (enclave_view e.parts (a.address / 4096)) a.kind ok.held (ap (enclave_view e.parts) (sym (page_of_byte a byte ok.aligned low high)) ∙ none)
 
@@ -81,38 +84,49 @@ within_parts : (first count n : ℕ) → in_range first count n ≡ true → (fi
 within_parts first count n e = let p = and_parts _ _ e in (leb-true _ _ p.0, ltb-true _ _ p.1)
 
 -- a byte outside the view is none that a store reaches
-untouched : (e : Enclave) (a : Access) (byte : ℕ) → IsAllowed (enclave_view e.parts) a → enclave_view e.parts (byte / 4096) ≡ NoAccess → in_range a.address a.size byte ≡ false
-untouched e a byte ok none = false_from_ne_true (in_range a.address a.size byte) (λ yes. let p = within_parts a.address a.size byte yes in reached e a byte ok p.0 p.1 none)
+untouched : (e : Enclave) (a : Access) (byte : ℕ) → IsAllowed (enclave_view e.parts) a → enclave_view e.parts (byte / 4096) ≡ NoAccess
+    → in_range a.address a.size byte ≡ false
+untouched e a byte ok none = false_from_ne_true (in_range a.address a.size byte)
+    (λ yes. let p = within_parts a.address a.size byte yes in reached e a byte ok p.0 p.1 none)
 
-loaded_same : (s other : MachineState) (id : ℕ) (e f : Enclave) (a : Access) → LooksSame id e f s other → IsAllowed (enclave_view e.parts) a → bytes_at s.bytes a.address a.size ≡ bytes_at other.bytes a.address a.size
+loaded_same : (s other : MachineState) (id : ℕ) (e f : Enclave) (a : Access) → LooksSame id e f s other → IsAllowed (enclave_view e.parts) a
+    → bytes_at s.bytes a.address a.size ≡ bytes_at other.bytes a.address a.size
 loaded_same s other id e f a l ok =
     bytes_moved s.bytes other.bytes a.address a.address a.size (λ k low. l.bytes (a.address + k) (reached e a (a.address + k) ok (omega arith) (omega arith)))
 
 -- the same store in both
-stored_same : (s other new now : MachineState) (hart there id : ℕ) (e f : Enclave) (a : Access) (value : ℕ) → RunsOn s hart id e → RunsOn other there id f → LooksSame id e f s other → new ≡ storing (awoken s hart) a.address a.size value → now ≡ storing (awoken other there) a.address a.size value → LooksSame id e f new now
+stored_same : (s other new now : MachineState) (hart there id : ℕ) (e f : Enclave) (a : Access) (value : ℕ) → RunsOn s hart id e → RunsOn other there id f
+    → LooksSame id e f s other → new ≡ storing (awoken s hart) a.address a.size value → now ≡ storing (awoken other there) a.address a.size value
+    → LooksSame id e f new now
 stored_same s other new now hart there id e f a value r q l is is' = record {
   parts = l.parts;
   registers = ap (λ x. x.registers (EnclaveOf id)) is ∙ l.registers ∙ sym (ap (λ x. x.registers (EnclaveOf id)) is');
-  bytes = λ b some. ap (λ x. x.bytes b) is ∙ ap (λ x. if in_range a.address a.size b then byte_of value (b - a.address) else x) (l.bytes b some) ∙ sym (ap (λ x. x.bytes b) is');
+  bytes = λ b some. ap (λ x. x.bytes b) is ∙ ap (λ x. if in_range a.address a.size b then byte_of value (b - a.address) else x) (l.bytes b some)
+      ∙ sym (ap (λ x. x.bytes b) is');
   written = λ p some. ap (λ x. x.written p) is ∙ ap (λ x. if p == a.address / 4096 then true else x) (l.written p some) ∙ sym (ap (λ x. x.written p) is');
 }
 
-stores_own : (s new : MachineState) (hart id : ℕ) (e : Enclave) (a : Access) (value : ℕ) → RunsOn s hart id e → IsAllowed (enclave_view e.parts) a → new ≡ storing (awoken s hart) a.address a.size value → ChangesOwn id e s new
+stores_own : (s new : MachineState) (hart id : ℕ) (e : Enclave) (a : Access) (value : ℕ) → RunsOn s hart id e → IsAllowed (enclave_view e.parts) a
+    → new ≡ storing (awoken s hart) a.address a.size value → ChangesOwn id e s new
 stores_own s new hart id e a value r ok is = subst (ChangesOwn id e s) (sym is) (record {
   table = refl;
   worlds = refl;
   registers = λ who other. refl;
   bytes = λ b none. ap (λ t. if t then byte_of value (b - a.address) else s.bytes b) (untouched e a b ok none);
-  written = λ p none. ap (λ t. if t then true else s.written p) (ne_eqb p (a.address / 4096) (λ same. some_held (enclave_view e.parts (a.address / 4096)) a.kind ok.held (ap (enclave_view e.parts) (sym same) ∙ none)));
+  written = λ p none. ap (λ t. if t then true else s.written p) (ne_eqb p (a.address / 4096)
+      (λ same. some_held (enclave_view e.parts (a.address / 4096)) a.kind ok.held (ap (enclave_view e.parts) (sym same) ∙ none)));
   marked = λ i h. unmarked s hart h r.unmarked i;
 })
 
 -- what may happen in the other state too
 abbrev Follows : MachineState → MachineState → MachineState → ℕ → ℕ → ℕ → Enclave → Enclave → Event → Reply → Type 0
-Follows s other new hart there id e f event reply = (now : MachineState) × Step other there event reply now × LooksSame id e f new now × ChangesOwn id e s new × ChangesOwn id f other now
+Follows s other new hart there id e f event reply = (now : MachineState) × Step other there event reply now × LooksSame id e f new now × ChangesOwn id e s new
+    × ChangesOwn id f other now
 
 -- accesses, by what the view says
-follow_access : (s other new : MachineState) (hart there id : ℕ) (e f : Enclave) (a : Access) (value : ℕ) (reply : Reply) (said : Result (Unit {0}) Cause) → RunsOn s hart id e → RunsOn other there id f → LooksSame id e f s other → verdict (enclave_view e.parts) a ≡ said → Accesses said (awoken s hart) a value reply new
+follow_access : (s other new : MachineState) (hart there id : ℕ) (e f : Enclave) (a : Access) (value : ℕ) (reply : Reply) (said : Result (Unit {0}) Cause)
+    → RunsOn s hart id e → RunsOn other there id f → LooksSame id e f s other → verdict (enclave_view e.parts) a ≡ said
+    → Accesses said (awoken s hart) a value reply new
     → (now : MachineState) × Accesses said (awoken other there) a value reply now × LooksSame id e f new now × ChangesOwn id e s new × ChangesOwn id f other now
 follow_access s other new hart there id e f a value reply (Err cause) r q l v x =
     let now = awoken other there in
@@ -128,7 +142,9 @@ follow_access s other new hart there id e f a value reply (Ok done) r q l v x = 
     now : MachineState
     now = awoken other there
 
-    by_kind : (kind : Kind) → TakesEffect kind (awoken s hart) a value reply new → (now : MachineState) × TakesEffect kind (awoken other there) a value reply now × LooksSame id e f new now × ChangesOwn id e s new × ChangesOwn id f other now
+    by_kind : (kind : Kind) → TakesEffect kind (awoken s hart) a value reply new
+        → (now : MachineState) × TakesEffect kind (awoken other there) a value reply now × LooksSame id e f new now × ChangesOwn id e s new
+        × ChangesOwn id f other now
     by_kind Fetch x =
         let now = awoken other there in
         (now, (x.0, refl), same_still s other new now hart there id e f r q l x.1 (refl), stays s new hart id e r x.1, stays other now there id f q (refl))
@@ -159,7 +175,9 @@ follow_access s other new hart there id e f a value reply (Ok done) r q l v x = 
         )
 
 -- a register set
-set_is : (s new : MachineState) (hart id n value : ℕ) (e : Enclave) → RunsOn s hart id e → new ≡ with_core (awoken s hart) (with_running (core_of (awoken s hart)) hart (with_x (s.registers (runner_of hart (s.worlds hart))) n value)) → new.registers (EnclaveOf id) ≡ with_x (s.registers (EnclaveOf id)) n value
+set_is : (s new : MachineState) (hart id n value : ℕ) (e : Enclave) → RunsOn s hart id e
+    → new ≡ with_core (awoken s hart) (with_running (core_of (awoken s hart)) hart (with_x (s.registers (runner_of hart (s.worlds hart))) n value))
+    → new.registers (EnclaveOf id) ≡ with_x (s.registers (EnclaveOf id)) n value
 set_is s new hart id n value e r is =
     let who = runner_is s hart id e r in
     let at : new.registers (EnclaveOf id) ≡ (if is_same (EnclaveOf id) (runner_of hart (s.worlds hart)) then with_x (s.registers (runner_of hart (s.worlds hart))) n value else s.registers (EnclaveOf id)) = ap (λ x. x.registers (EnclaveOf id)) is in
@@ -167,26 +185,32 @@ set_is s new hart id n value e r is =
     ap (λ w. if is_same (EnclaveOf id) w then with_x (s.registers w) n value else s.registers (EnclaveOf id)) who in
     at ∙ there ∙ ap (λ b. if b then with_x (s.registers (EnclaveOf id)) n value else s.registers (EnclaveOf id)) (eq-eqb id id refl)
 
-sets_own : (s new : MachineState) (hart id n value : ℕ) (e : Enclave) → RunsOn s hart id e → new ≡ with_core (awoken s hart) (with_running (core_of (awoken s hart)) hart (with_x (s.registers (runner_of hart (s.worlds hart))) n value)) → ChangesOwn id e s new
+sets_own : (s new : MachineState) (hart id n value : ℕ) (e : Enclave) → RunsOn s hart id e
+    → new ≡ with_core (awoken s hart) (with_running (core_of (awoken s hart)) hart (with_x (s.registers (runner_of hart (s.worlds hart))) n value))
+    → ChangesOwn id e s new
 sets_own s new hart id n value e r is = subst (ChangesOwn id e s) (sym is) (record {
   table = refl;
   worlds = refl;
-  registers = λ who other. ap (λ b. if b then with_x (s.registers (runner_of hart (s.worlds hart))) n value else s.registers who) (same_not who (runner_of hart (s.worlds hart)) (λ same. other (same ∙ runner_is s hart id e r)));
+  registers = λ who other. ap (λ b. if b then with_x (s.registers (runner_of hart (s.worlds hart))) n value else s.registers who)
+      (same_not who (runner_of hart (s.worlds hart)) (λ same. other (same ∙ runner_is s hart id e r)));
   bytes = λ b none. refl;
   written = λ p none. refl;
   marked = λ i h. unmarked s hart h r.unmarked i;
 })
 
 -- one event
-follow : (s other new : MachineState) (hart there id : ℕ) (e f : Enclave) (event : Event) (reply : Reply) → RunsOn s hart id e → RunsOn other there id f → LooksSame id e f s other → IsOwn event → Step s hart event reply new → Follows s other new hart there id e f event reply
+follow : (s other new : MachineState) (hart there id : ℕ) (e f : Enclave) (event : Event) (reply : Reply) → RunsOn s hart id e → RunsOn other there id f
+    → LooksSame id e f s other → IsOwn event → Step s hart event reply new → Follows s other new hart there id e f event reply
 follow s other new hart there id e f (events.Access a value) reply r q l own x =
     let here = view_is s hart id e r in
     let other_view : view_on other there ≡ enclave_view e.parts = view_is other there id f q ∙ ap enclave_view (sym l.parts) in
-    let x' : Accesses (verdict (enclave_view e.parts) a) (awoken s hart) a value reply new = subst (λ view. Accesses (verdict view a) (awoken s hart) a value reply new) here x in
+    let x' : Accesses (verdict (enclave_view e.parts) a) (awoken s hart) a value reply new = subst
+    (λ view. Accesses (verdict view a) (awoken s hart) a value reply new) here x in
     let t = follow_access s other new hart there id e f a value reply (verdict (enclave_view e.parts) a) r q l refl x' in
     (t.0, subst (λ view. Accesses (verdict view a) (awoken other there) a value reply t.0) (sym other_view) t.1, t.2, t.3, t.4)
 follow s other new hart there id e f (events.Reg n value) reply r q l own x =
-    let now = with_core (awoken other there) (with_running (core_of (awoken other there)) there (with_x (other.registers (runner_of there (other.worlds there))) n value)) in (
+    let now = with_core (awoken other there) (with_running (core_of (awoken other there)) there
+    (with_x (other.registers (runner_of there (other.worlds there))) n value)) in (
       now,
       (x.0, refl),
       record {
@@ -213,10 +237,18 @@ changes_on s mid new id e a b = record {
 }
 
 nothing : (s new : MachineState) (id : ℕ) (e : Enclave) → new ≡ s → ChangesOwn id e s new
-nothing s new id e is = subst (λ x. ChangesOwn id e s x) (sym is) (record { table = refl; worlds = refl; registers = λ who other. refl; bytes = λ x none. refl; written = λ p none. refl; marked = refl })
+nothing s new id e is = subst (λ x. ChangesOwn id e s x) (sym is) (record
+    { table = refl; worlds = refl; registers = λ who other. refl; bytes = λ x none. refl; written = λ p none. refl; marked = refl })
 
 pub private_run : IsPrivate
-private_run s other new hart there id e f [] [] r q l own x = (other, refl, subst (λ y. LooksSame id e f y other) (sym x) l, nothing s new id e x, nothing other other id f refl)
+private_run s other new hart there id e f [] [] r q l own x = (
+  other,
+  refl,
+  subst (λ y. LooksSame id e f y other)
+      (sym x) l,
+  nothing s new id e x,
+  nothing other other id f refl,
+)
 private_run s other new hart there id e f [] (reply ∷ replies) r q l own x = absurd x
 private_run s other new hart there id e f (event ∷ events) [] r q l own x = absurd x
 private_run s other new hart there id e f (event ∷ events) (reply ∷ replies) r q l own x =

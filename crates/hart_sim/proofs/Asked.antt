@@ -34,12 +34,14 @@ abbrev pub is_zeroed : Option PageRange → ℕ → Bool
 is_zeroed pages page = unwrap_or (option_map (λ range. in_range range.first range.count page) pages) false
 
 -- an access leaves the monitor's part
-pub core_effect : (kind : Kind) (s : MachineState) (a : Access) (value : ℕ) (reply : Reply) (new : MachineState) → TakesEffect kind s a value reply new → core_of new ≡ core_of s
+pub core_effect : (kind : Kind) (s : MachineState) (a : Access) (value : ℕ) (reply : Reply) (new : MachineState) → TakesEffect kind s a value reply new
+    → core_of new ≡ core_of s
 core_effect Fetch s a value reply new x = ap core_of x.1
 core_effect Load s a value reply new x = ap core_of x.1
 core_effect Store s a value reply new (inl x) = ap core_of x.1
 core_effect Store s a value reply new (inr x) = ap core_of x.2
 
-pub core_access : (said : Result (Unit {0}) Cause) (s : MachineState) (a : Access) (value : ℕ) (reply : Reply) (new : MachineState) → Accesses said s a value reply new → core_of new ≡ core_of s
+pub core_access : (said : Result (Unit {0}) Cause) (s : MachineState) (a : Access) (value : ℕ) (reply : Reply) (new : MachineState)
+    → Accesses said s a value reply new → core_of new ≡ core_of s
 core_access (Err cause) s a value reply new x = ap core_of x.1
 core_access (Ok done) s a value reply new x = core_effect a.kind s a value reply new x

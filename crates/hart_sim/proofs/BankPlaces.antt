@@ -1,5 +1,6 @@
 -- The bank of each hart, by the hart's place.
-use Rattle.std.proofs.Common.{◌≡◌, ◌≢◌, ◌∙◌, inl, inr, ℕ, zero, suc, ◌<◌, ◌==◌, true, false, List, [], ◌∷◌, length, Option, Some, slice_get, slice_set, slice_index_or, refl, ap, sym, subst, arith}
+use Rattle.std.proofs.Common.{◌≡◌, ◌≢◌, ◌∙◌, inl, inr, ℕ, zero, suc, ◌<◌, ◌==◌, true, false, List, [], ◌∷◌, length, Option, Some, slice_get, slice_set}
+use Rattle.std.proofs.Common.{slice_index_or, refl, ap, sym, subst, arith}
 use Rattle.std.proofs.lemmas.Bool.{eq-eqb, eqb-true, both_ways}
 use Rattle.std.proofs.lemmas.Option.{same_Some}
 use Rattle.pmp_encoding.specs.declared.bank.Bank.{Bank}
@@ -49,7 +50,8 @@ put_length (first ∷ banks) zero bank = refl
 put_length (first ∷ banks) (suc n) bank = ap suc (put_length banks n bank)
 
 -- the banks have their limit where the one that is put has it
-pub put_limited : (banks : List Bank) (limit : Limit) (n : ℕ) (bank : Bank) → n < 4 → AreBanks banks limit → limit_number bank.limit ≡ limit_number limit → AreBanks (slice_set banks n bank) limit
+pub put_limited : (banks : List Bank) (limit : Limit) (n : ℕ) (bank : Bank) → n < 4 → AreBanks banks limit → limit_number bank.limit ≡ limit_number limit
+    → AreBanks (slice_set banks n bank) limit
 put_limited banks limit n bank low all has = record {
   four = put_length banks n bank ∙ all.four;
   limited = λ i b at. both (i == n)
@@ -61,7 +63,8 @@ put_limited banks limit n bank low all has = record {
 }
 
 -- a hart of the platform has one
-pub some_bank : (m : Machine) (hart : ℕ) → IsLayout (state_of m).table.layout → hart < (state_of m).table.layout.harts → (bank : Bank) × (bank_on m hart ≡ Some bank)
+pub some_bank : (m : Machine) (hart : ℕ) → IsLayout (state_of m).table.layout → hart < (state_of m).table.layout.harts
+    → (bank : Bank) × (bank_on m hart ≡ Some bank)
 unfolding state_of bank_on
 some_bank m hart rules low = at_place m.parts.banks hart (omega (arith, low, rules.four_harts, m.limited.four))
 

@@ -18,25 +18,29 @@ same_view : (s new : MachineState) (i : ℕ) → new.table ≡ s.table → new.w
 same_view s new i table world = λ page small. ap₂ (λ t w. view_of t w page) (sym table) (sym world)
 
 -- banks that are right stay so where they, table, worlds and marks stay
-right_still : (s new : MachineState) (old now : ℕ → Option Bank) → new.table ≡ s.table → ((i : ℕ) → new.worlds i ≡ s.worlds i) → ((i : ℕ) → new.marked i ≡ s.marked i) → ((i : ℕ) → now i ≡ old i) → AreBanksRight s old → AreBanksRight new now
+right_still : (s new : MachineState) (old now : ℕ → Option Bank) → new.table ≡ s.table → ((i : ℕ) → new.worlds i ≡ s.worlds i)
+    → ((i : ℕ) → new.marked i ≡ s.marked i) → ((i : ℕ) → now i ≡ old i) → AreBanksRight s old → AreBanksRight new now
 right_still s new old now table worlds marks banks right = λ i b low off has.
     loads_same b (view_on s i) (view_on new i) (same_view s new i table (worlds i))
     (right i b (subst (λ t. i < t.layout.harts) table low) (sym (marks i) ∙ off) (sym (banks i) ∙ has))
 
 -- banks, table, worlds and marks stay
-pub frame_still : (old new : MachineParts) (hart : ℕ) → IsOn old hart → (state_in new).table ≡ (state_in old).table → ((i : ℕ) → (state_in new).worlds i ≡ (state_in old).worlds i) → ((i : ℕ) → (state_in new).marked i ≡ (state_in old).marked i)
+pub frame_still : (old new : MachineParts) (hart : ℕ) → IsOn old hart → (state_in new).table ≡ (state_in old).table
+    → ((i : ℕ) → (state_in new).worlds i ≡ (state_in old).worlds i) → ((i : ℕ) → (state_in new).marked i ≡ (state_in old).marked i)
     → kept_by new.monitor ≡ kept_by old.monitor → new.banks ≡ old.banks → KeepsFrame old new hart
 frame_still old new hart on table worlds marks kept banks = record {
   layout = ap (λ t. t.layout) table;
   limited = subst (λ t. AreBanks new.banks t.layout.limit) (sym table) (subst (λ bs. AreBanks bs (state_in old).table.layout.limit) (sym banks) on.limited);
-  banks = λ right. right_still (state_in old) (state_in new) (bank_in old) (bank_in new) table worlds marks (λ i. ap (λ bs. bank_in (record old { banks = bs }) i) banks) right;
+  banks = λ right. right_still (state_in old) (state_in new) (bank_in old) (bank_in new) table worlds marks
+      (λ i. ap (λ bs. bank_in (record old { banks = bs }) i) banks) right;
   others = λ i other. ap (λ bs. bank_in (record old { banks = bs }) i) banks;
   stays = λ off same world. ap (λ bs. bank_in (record old { banks = bs }) hart) banks;
   lists = λ same. kept;
 }
 
 -- after something that leaves table and world of the hart, and does not mark it
-pub frame_after : (old mid new : MachineParts) (hart : ℕ) → (state_in mid).table ≡ (state_in old).table → (state_in mid).worlds hart ≡ (state_in old).worlds hart → kept_by mid.monitor ≡ kept_by old.monitor
+pub frame_after : (old mid new : MachineParts) (hart : ℕ) → (state_in mid).table ≡ (state_in old).table
+    → (state_in mid).worlds hart ≡ (state_in old).worlds hart → kept_by mid.monitor ≡ kept_by old.monitor
     → ((state_in old).marked hart ≡ false → (state_in mid).marked hart ≡ false) → KeepsFrame old mid hart → KeepsFrame mid new hart → KeepsFrame old new hart
 frame_after old mid new hart same stood kept awake x y = record {
   layout = y.layout ∙ x.layout;
@@ -49,7 +53,8 @@ frame_after old mid new hart same stood kept awake x y = record {
 
 -- the hart whose mark was taken away has the fewest entries, and each other hart what it had
 pub frame_woken : (old new : MachineParts) (hart : ℕ) → (state_in old).marked hart ≡ true → AreBanks new.banks (state_in old).table.layout.limit
-    → (state_in new).table ≡ (state_in old).table → ((i : ℕ) → (state_in new).worlds i ≡ (state_in old).worlds i) → ((i : ℕ) → i ≢ hart → (state_in new).marked i ≡ (state_in old).marked i)
+    → (state_in new).table ≡ (state_in old).table → ((i : ℕ) → (state_in new).worlds i ≡ (state_in old).worlds i)
+    → ((i : ℕ) → i ≢ hart → (state_in new).marked i ≡ (state_in old).marked i)
     → kept_by new.monitor ≡ kept_by old.monitor → ((other : ℕ) → other ≢ hart → bank_in new other ≡ bank_in old other)
     → (bank : Bank) × (bank_in new hart ≡ Some bank) × LoadsFewest bank (view_on (state_in old) hart) → KeepsFrame old new hart
 frame_woken old new hart was limited table worlds marks kept others fewest = record {
@@ -67,9 +72,12 @@ frame_woken old new hart was limited table worlds marks kept others fewest = rec
     same i = same_view (state_in old) (state_in new) i table (worlds i)
 
 -- after the monitor served a call or an interrupt on a hart, and entries were loaded there where it asked for that
-pub frame_served : (old new : MachineParts) (hart : ℕ) (asked : Bool) → IsOn old hart → hart < 4 → (state_in old).marked hart ≡ false → KeepsOthers (core_of (state_in old)) (core_of (state_in new)) hart
-    → LoadsAnew asked (core_of (state_in old)) (core_of (state_in new)) hart → (state_in new).table.layout ≡ (state_in old).table.layout → AreBanks new.banks (state_in new).table.layout.limit
-    → ((state_in new).table ≡ (state_in old).table → kept_by new.monitor ≡ kept_by old.monitor) → ((other : ℕ) → other ≢ hart → bank_in new other ≡ bank_in old other)
+pub frame_served : (old new : MachineParts) (hart : ℕ) (asked : Bool) → IsOn old hart → hart < 4 → (state_in old).marked hart ≡ false
+    → KeepsOthers (core_of (state_in old)) (core_of (state_in new)) hart
+    → LoadsAnew asked (core_of (state_in old)) (core_of (state_in new)) hart → (state_in new).table.layout ≡ (state_in old).table.layout
+    → AreBanks new.banks (state_in new).table.layout.limit
+    → ((state_in new).table ≡ (state_in old).table → kept_by new.monitor ≡ kept_by old.monitor)
+    → ((other : ℕ) → other ≢ hart → bank_in new other ≡ bank_in old other)
     → (asked ≡ true → (bank : Bank) × (bank_in new hart ≡ Some bank) × LoadsFewest bank (view_on (state_in new) hart))
     → (asked ≡ false → new.banks ≡ old.banks) → KeepsFrame old new hart
 frame_served old new hart true on few awake keeps loads layout limited lists others fewest calm = record {
@@ -86,8 +94,12 @@ frame_served old new hart false on few awake keeps loads layout limited lists ot
   limited = limited;
   banks = λ right. banks_after (state_in old) (state_in new) (bank_in old) (bank_in new) hart (ap (λ l. l.harts) layout)
       (λ off.
-      let b = at_place old.banks hart (omega (arith, on.limited.four, few)) in
-      (b.0, ap (λ bs. slice_get bs hart) (calm refl) ∙ b.1, loads_same b.0 (view_on (state_in old) hart) (view_on (state_in new) hart) (same_view (state_in old) (state_in new) hart loads.0 loads.1) (right hart b.0 on.known awake b.1)))
+      let b = at_place old.banks hart (omega (arith, on.limited.four, few)) in (
+        b.0,
+        ap (λ bs. slice_get bs hart) (calm refl) ∙ b.1,
+        loads_same b.0 (view_on (state_in old) hart) (view_on (state_in new) hart)
+            (same_view (state_in old) (state_in new) hart loads.0 loads.1) (right hart b.0 on.known awake b.1),
+      ))
       others (λ i other low off. (keeps.awake i other off, keeps.views i other low off)) right;
   others = others;
   stays = λ off table world. ap (λ bs. slice_get bs hart) (calm refl);

@@ -1,5 +1,6 @@
 -- Pages of a group.
-use Rattle.std.proofs.Common.{◌≡◌, ℕ, zero, suc, ◌+◌, ◌-◌, ◌≤◌, ◌==◌, if◌then◌else◌, List, [], ◌∷◌, Option, None, Box, Global, slice_index_or, slice_set, replicate, arith, refl, ap, sym, ◌∙◌}
+use Rattle.std.proofs.Common.{◌≡◌, ℕ, zero, suc, ◌+◌, ◌-◌, ◌≤◌, ◌==◌, if◌then◌else◌, List, [], ◌∷◌, Option, None, Box, Global, slice_index_or, slice_set}
+use Rattle.std.proofs.Common.{replicate, arith, refl, ap, sym, ◌∙◌}
 use Rattle.std.specs.Box.{with_value}
 use Rattle.std.specs.Prelude.{Result, Ok, Err, OnErr}
 use Rattle.std.proofs.lemmas.Bool.Decides.{nat_tests}

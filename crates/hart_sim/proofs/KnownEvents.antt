@@ -1,5 +1,6 @@
 -- A line says only what may happen.
-use Rattle.std.proofs.Common.{◌≡◌, ◌≢◌, ◌∙◌, ℕ, ◌-◌, ◌<◌, ◌≤◌, ◌⊎◌, inl, inr, List, [], ◌∷◌, length, Bool, true, false, not, ◌&&◌, ◌==◌, if◌then◌else◌, nat_lt, nat_le, Option, Some, None, option_map, codes, bytes_eq, refl, ap, arith, sym, Result, Ok, Err}
+use Rattle.std.proofs.Common.{◌≡◌, ◌≢◌, ◌∙◌, ℕ, ◌-◌, ◌<◌, ◌≤◌, ◌⊎◌, inl, inr, List, [], ◌∷◌, length, Bool, true, false, not, ◌&&◌, ◌==◌, if◌then◌else◌, nat_lt}
+use Rattle.std.proofs.Common.{nat_le, Option, Some, None, option_map, codes, bytes_eq, refl, ap, arith, sym, Result, Ok, Err}
 use Rattle.std.specs.Prelude.{IfOk, IfSome}
 use Rattle.std.specs.Result.{result_ok}
 use Rattle.std.proofs.lemmas.Option.{same_Some}
@@ -15,7 +16,8 @@ use Rattle.hart_trace.specs.declared.event.Event.TheVariants as events
 use Rattle.text_lines.specs.declared.lexical.NotUnderstood.{NotUnderstood}
 use Rattle.text_lines.specs.Words.{words_of}
 use Rattle.text_lines.specs.Numbers.{numeral_of, number_of}
-use Rattle.hart_trace.specs.Events.{Word, ◌>>=◌, mode_of, sized, access_of, with_no_value, with_value, has_leading_zero, register_of, setting_of, numbers_of, call_in, interrupt_of, event_of, hart_of, on_hart, said_by, meaning_of}
+use Rattle.hart_trace.specs.Events.{Word, ◌>>=◌, mode_of, sized, access_of, with_no_value, with_value, has_leading_zero, register_of, setting_of, numbers_of}
+use Rattle.hart_trace.specs.Events.{call_in, interrupt_of, event_of, hart_of, on_hart, said_by, meaning_of}
 use Rattle.hart_sim.specs.Steps.{IsEvent}
 
 under : {A : Type 0} {x y : A} → Some x ≡ Some y → x ≡ y
@@ -46,7 +48,8 @@ mode_known word mode e = elim (chosen (bytes_eq word (codes "s")) (Some Supervis
   | inr q ↦ λ m. let g = guarded (bytes_eq word (codes "u")) User mode q in let h : User ≡ Machine = g.1 ∙ m in cc
 ]
 
-sized_mode : (mode : Mode) (kind : Kind) (size address : ℕ) (b : Bool) (fits : has_size kind size ≡ b) (a : Access) → sized mode kind size address b fits ≡ Some a → mode ≡ a.mode
+sized_mode : (mode : Mode) (kind : Kind) (size address : ℕ) (b : Bool) (fits : has_size kind size ≡ b) (a : Access)
+    → sized mode kind size address b fits ≡ Some a → mode ≡ a.mode
 sized_mode mode kind size address true fits a e = ap (λ x. x.mode) (under e)
 sized_mode mode kind size address false fits a e = absurd (let h : None ≡ Some a = e in cc)
 
@@ -69,7 +72,8 @@ no_value_known (access, word ∷ words) event known e = absurd (let h : None ≡
 
 value_known : (p : Access × List Word) (event : Event) → p.0.mode ≢ Machine → with_value p ≡ Some event → IsEvent event
 value_known (access, []) event known e = absurd (let h : None ≡ Some event = e in cc)
-value_known (access, word ∷ []) event known e = let m = mapped (number_of word) (events.Access access) event e in let is : events.Access access m.0 ≡ event = m.2 in rw (← is) known
+value_known (access, word ∷ []) event known e = let m = mapped (number_of word)
+    (events.Access access) event e in let is : events.Access access m.0 ≡ event = m.2 in rw (← is) known
 value_known (access, word ∷ next ∷ words) event known e = absurd (let h : None ≡ Some event = e in cc)
 
 register_known : (word : Word) (n : ℕ) → register_of word ≡ Some n → n < 32
@@ -132,7 +136,8 @@ hart_known harts hart (at ∷ digit ∷ []) e =
 hart_known harts hart (at ∷ digit ∷ next ∷ more) e = absurd (let h : None ≡ Some hart = e in cc)
 
 -- the hart is one of those that there are, and the event one that may happen
-on_hart_known : (harts : ℕ) (named : Option ℕ) (word : Word) (words : List Word) (hart : ℕ) (event : Event) → 0 < harts → ((h : ℕ) → named ≡ Some h → h < harts) → on_hart named word words ≡ Some (hart, event) → (hart < harts) × IsEvent event
+on_hart_known : (harts : ℕ) (named : Option ℕ) (word : Word) (words : List Word) (hart : ℕ) (event : Event) → 0 < harts → ((h : ℕ) → named ≡ Some h → h < harts)
+    → on_hart named word words ≡ Some (hart, event) → (hart < harts) × IsEvent event
 on_hart_known harts None word words hart event some low e =
     let m = mapped (event_of (word ∷ words)) _ (hart, event) e in
     let first : 0 ≡ hart = ap (λ p. p.0) m.2 in
@@ -145,28 +150,33 @@ on_hart_known harts (Some h) word words hart event some low e =
     let below = low h refl in
     (omega arith, event_known words event (m.1 ∙ ap Some second))
 
-said_known : (harts : ℕ) (words : List Word) (hart : ℕ) (event : Event) → 0 < harts → said_by harts words ≡ Some (Some (hart, event)) → (hart < harts) × IsEvent event
+said_known : (harts : ℕ) (words : List Word) (hart : ℕ) (event : Event) → 0 < harts → said_by harts words ≡ Some (Some (hart, event))
+    → (hart < harts) × IsEvent event
 said_known harts [] hart event some e = absurd (let h : None ≡ Some (hart, event) = under e in cc)
 said_known harts (word ∷ words) hart event some e =
     let m = mapped (on_hart (hart_of harts word) word words) Some (Some (hart, event)) e in
     let is : m.0 ≡ (hart, event) = under m.2 in
     on_hart_known harts (hart_of harts word) word words hart event some (λ h named. hart_known harts h word named) (m.1 ∙ ap Some is)
 
-pub line_known : (harts : ℕ) (line : List ℕ) (hart : ℕ) (event : Event) → 0 < harts → meaning_of harts line ≡ Some (Some (hart, event)) → (hart < harts) × IsEvent event
+pub line_known : (harts : ℕ) (line : List ℕ) (hart : ℕ) (event : Event) → 0 < harts → meaning_of harts line ≡ Some (Some (hart, event))
+    → (hart < harts) × IsEvent event
 line_known harts line hart event some e = let words = bound (words_of line) _ (Some (hart, event)) e in said_known harts words.0 hart event some words.2
 
 -- so it is of what a line is understood as
-pub hart_said : (harts : ℕ) (line : List ℕ) (said : Result (Option (ℕ × Event)) NotUnderstood) → 0 < harts → result_ok said ≡ meaning_of harts line → IfOk said (λ s. IfSome s (λ found. found.0 < harts))
+pub hart_said : (harts : ℕ) (line : List ℕ) (said : Result (Option (ℕ × Event)) NotUnderstood) → 0 < harts → result_ok said ≡ meaning_of harts line
+    → IfOk said (λ s. IfSome s (λ found. found.0 < harts))
 hart_said harts line (Err e) some is = tt
 hart_said harts line (Ok None) some is = tt
 hart_said harts line (Ok (Some found)) some is = (line_known harts line found.0 found.1 some (sym is)).0
 
-pub event_said : (harts : ℕ) (line : List ℕ) (said : Result (Option (ℕ × Event)) NotUnderstood) → 0 < harts → result_ok said ≡ meaning_of harts line → IfOk said (λ s. IfSome s (λ found. IsEvent found.1))
+pub event_said : (harts : ℕ) (line : List ℕ) (said : Result (Option (ℕ × Event)) NotUnderstood) → 0 < harts → result_ok said ≡ meaning_of harts line
+    → IfOk said (λ s. IfSome s (λ found. IsEvent found.1))
 event_said harts line (Err e) some is = tt
 event_said harts line (Ok None) some is = tt
 event_said harts line (Ok (Some found)) some is = (line_known harts line found.0 found.1 some (sym is)).1
 
-pub few_said : (harts : ℕ) (line : List ℕ) (said : Result (Option (ℕ × Event)) NotUnderstood) → 0 < harts → harts ≤ 4 → result_ok said ≡ meaning_of harts line → IfOk said (λ s. IfSome s (λ found. found.0 < 4))
+pub few_said : (harts : ℕ) (line : List ℕ) (said : Result (Option (ℕ × Event)) NotUnderstood) → 0 < harts → harts ≤ 4 → result_ok said ≡ meaning_of harts line
+    → IfOk said (λ s. IfSome s (λ found. found.0 < 4))
 few_said harts line (Err e) some few is = tt
 few_said harts line (Ok None) some few is = tt
 few_said harts line (Ok (Some found)) some few is = let known = (line_known harts line found.0 found.1 some (sym is)).0 in omega (arith, known, few)

@@ -1,5 +1,6 @@
 -- The lowest bytes of a number.
-use Rattle.std.proofs.Common.{◌≡◌, ℕ, zero, suc, ◌+◌, ◌-◌, ◌*◌, ◌/◌, ◌%◌, ◌^◌, ◌<◌, ◌≤◌, ◌∙◌, ⊎_elim, [], ◌∷◌, arith, ap, sym, mul_assoc, zero-add, pow_pos, pow-add, if◌then◌else◌, nat_lt, slice_index_or}
+use Rattle.std.proofs.Common.{◌≡◌, ℕ, zero, suc, ◌+◌, ◌-◌, ◌*◌, ◌/◌, ◌%◌, ◌^◌, ◌<◌, ◌≤◌, ◌∙◌, ⊎_elim, [], ◌∷◌, arith, ap, sym, mul_assoc, zero-add, pow_pos}
+use Rattle.std.proofs.Common.{pow-add, if◌then◌else◌, nat_lt, slice_index_or}
 use Rattle.std.specs.Int.Bits.{bit_and, and_mask}
 use Rattle.std.proofs.Math.Arith.{mod-mul}
 use Rattle.std.proofs.Math.Nat.{add-mul-div_right, add-mul-mod_self_right, div-div-eq-div-mul, div-eq_of_lt, div-lt_iff_lt-mul}
@@ -12,7 +13,8 @@ use Rattle.hart_sim.specs.Memory.{bytes_at, number_of_bytes, in_range}
 
 -- the table's mask of so many bytes keeps them
 pub masked : (number size : ℕ) → size ≤ 8
-    → bit_and number (slice_index_or {A = ℕ} (0 ∷ 255 ∷ 65535 ∷ 16777215 ∷ 4294967295 ∷ 1099511627775 ∷ 281474976710655 ∷ 72057594037927935 ∷ 18446744073709551615 ∷ []) size 0) ≡ number % 2 ^ (8 * size)
+    → bit_and number (slice_index_or {A = ℕ} (0 ∷ 255 ∷ 65535 ∷ 16777215 ∷ 4294967295 ∷ 1099511627775 ∷ 281474976710655 ∷ 72057594037927935
+    ∷ 18446744073709551615 ∷ []) size 0) ≡ number % 2 ^ (8 * size)
 masked number zero few = and_mask number 0
 masked number (suc zero) few = and_mask number 8
 masked number (suc (suc zero)) few = and_mask number 16
@@ -45,7 +47,8 @@ lowest_are memory address (suc count) (suc size) within bytes =
     omega (arith, parts, more, lowest)
 
 -- a byte of a number is the one that stands there
-byte_is : (memory : ℕ → ℕ) (address count k : ℕ) → k < count → ((a : ℕ) → memory a < 256) → byte_of (number_of_bytes (bytes_at memory address count)) k ≡ memory (address + k)
+byte_is : (memory : ℕ → ℕ) (address count k : ℕ) → k < count → ((a : ℕ) → memory a < 256)
+    → byte_of (number_of_bytes (bytes_at memory address count)) k ≡ memory (address + k)
 unfolding bytes_at
 byte_is memory address zero k within bytes = absurd (omega arith)
 byte_is memory address (suc count) zero within bytes =
@@ -78,17 +81,20 @@ low_byte low high size k below =
 -- nor do those below the place change one above it
 high_byte : (low high size k : ℕ) → low < 2 ^ (8 * size) → size ≤ k → byte_of (low + high * 2 ^ (8 * size)) k ≡ high / 2 ^ (8 * (k - size)) % 256
 high_byte low high size k small above =
-    let split : 2 ^ (8 * k) ≡ 2 ^ (8 * size) * 2 ^ (8 * (k - size)) = (let s : 8 * k ≡ 8 * size + 8 * (k - size) = omega arith in ap (λ n. 2 ^ n) s) ∙ pow-add 2 (8 * size) (8 * (k - size)) in
+    let split : 2 ^ (8 * k) ≡ 2 ^ (8 * size) * 2 ^ (8 * (k - size)) = (let s : 8 * k ≡ 8 * size + 8 * (k - size) = omega arith in ap (λ n. 2 ^ n) s)
+    ∙ pow-add 2 (8 * size) (8 * (k - size)) in
     let number = low + high * 2 ^ (8 * size) in
     let rest : number / 2 ^ (8 * size) ≡ high = add-mul-div_right low high (pow_pos (8 * size)) ∙ ap (λ n. n + high) (div-eq_of_lt small) ∙ zero-add high in
-    ap (λ n. number / n % 256) split ∙ ap (λ n. n % 256) (sym (div-div-eq-div-mul number (2 ^ (8 * size)) (2 ^ (8 * (k - size)))) ∙ ap (λ n. n / 2 ^ (8 * (k - size))) rest)
+    ap (λ n. number / n % 256) split ∙ ap (λ n. n % 256) (sym (div-div-eq-div-mul number (2 ^ (8 * size)) (2 ^ (8 * (k - size))))
+    ∙ ap (λ n. n / 2 ^ (8 * (k - size))) rest)
 
 -- a number is its lowest bytes and the rest
 in_parts : (number size : ℕ) → number ≡ number % 2 ^ (8 * size) + number / 2 ^ (8 * size) * 2 ^ (8 * size)
 in_parts number size = omega (arith, div-add-mod' number (2 ^ (8 * size)))
 
 -- the lowest bytes of a value in place of its own, and the same rest
-replaced : (number size value : ℕ) → number - number % 2 ^ (8 * size) + value % 2 ^ (8 * size) ≡ value % 2 ^ (8 * size) + number / 2 ^ (8 * size) * 2 ^ (8 * size)
+replaced : (number size value : ℕ) → number - number % 2 ^ (8 * size) + value % 2 ^ (8 * size) ≡ value % 2 ^ (8 * size) + number / 2 ^ (8 * size) * 2 ^
+    (8 * size)
 replaced number size value = omega (arith, in_parts number size)
 
 -- which is no larger than eight bytes hold
@@ -102,7 +108,8 @@ replaced_fits number size value few fits =
     omega (arith, replaced number size value, split, both)
 
 -- and has the value's lowest bytes, and the number's others
-pub replaced_bytes : (number size value k : ℕ) → byte_of (number - number % 2 ^ (8 * size) + value % 2 ^ (8 * size)) k ≡ (if nat_lt k size then byte_of value k else byte_of number k)
+pub replaced_bytes : (number size value k : ℕ) → byte_of (number - number % 2 ^ (8 * size) + value % 2 ^ (8 * size)) k ≡
+    (if nat_lt k size then byte_of value k else byte_of number k)
 replaced_bytes number size value k = ap (λ n. byte_of n k) (replaced number size value) ∙ ⊎_elim below above (cases_lt k size)
   where
     power : ℕ
@@ -114,14 +121,16 @@ replaced_bytes number size value k = ap (λ n. byte_of n k) (replaced number siz
     below : k < size → byte_of now k ≡ (if nat_lt k size then byte_of value k else byte_of number k)
     below h =
         let same : byte_of now k ≡ byte_of value k =
-        low_byte (value % power) (number / power) size k h ∙ sym (ap (λ n. byte_of n k) (in_parts value size) ∙ low_byte (value % power) (value / power) size k h) in
+        low_byte (value % power) (number / power) size k h ∙ sym (ap (λ n. byte_of n k) (in_parts value size)
+        ∙ low_byte (value % power) (value / power) size k h) in
         grind (arith, nat_tests, common_steps, same, h)
 
     above : size ≤ k → byte_of now k ≡ (if nat_lt k size then byte_of value k else byte_of number k)
     above h =
         let same : byte_of now k ≡ byte_of number k =
         high_byte (value % power) (number / power) size k (mod_below value power (pow_pos (8 * size))) h
-        ∙ sym (ap (λ n. byte_of n k) (in_parts number size) ∙ high_byte (number % power) (number / power) size k (mod_below number power (pow_pos (8 * size))) h) in
+        ∙ sym (ap (λ n. byte_of n k) (in_parts number size) ∙ high_byte (number % power) (number / power) size k
+        (mod_below number power (pow_pos (8 * size))) h) in
         grind (arith, nat_tests, common_steps, same, h)
 
 -- so eight bytes that are put change no more than the value's

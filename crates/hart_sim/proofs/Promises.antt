@@ -13,10 +13,13 @@ use Rattle.hart_sim.proofs.Layouts.{layout_stays}
 use Rattle.hart_sim.proofs.Switched.{keeps_registers, leaves_registers}
 use Rattle.enclave_table.specs.Tables.{IsTable}
 
-pub answers_by_view : (old : MachineState) (hart : ℕ) (event : Event) (reply : Reply) (new : MachineState) → Step old hart event reply new → AnswersByView old hart event reply
-answers_by_view old hart event reply new x = λ a value is aligned inside. allowed_by_view old hart a value reply new aligned inside (subst (λ e. Step old hart e reply new) is x)
+pub answers_by_view : (old : MachineState) (hart : ℕ) (event : Event) (reply : Reply) (new : MachineState) → Step old hart event reply new
+    → AnswersByView old hart event reply
+answers_by_view old hart event reply new x = λ a value is aligned inside. allowed_by_view old hart a value reply new aligned inside
+    (subst (λ e. Step old hart e reply new) is x)
 
-pub promised : (old : MachineState) (hart : ℕ) (event : Event) (reply : Reply) (new : MachineState) → IsTable old.table → Step old hart event reply new → Promises old hart event reply new
+pub promised : (old : MachineState) (hart : ℕ) (event : Event) (reply : Reply) (new : MachineState) → IsTable old.table → Step old hart event reply new
+    → Promises old hart event reply new
 promised old hart event reply new t x = record {
   allowed = answers_by_view old hart event reply new x;
   private = keeps_private old hart event reply new t x;

@@ -1,5 +1,6 @@
 -- The lines that were done are a run of the events that they say, and what was written tells its replies.
-use Rattle.std.proofs.Common.{◌≡◌, ◌≢◌, ◌⊎◌, ◌∙◌, inl, inr, ℕ, suc, ◌+◌, ◌==◌, List, [], ◌∷◌, ◌++◌, length, Some, None, refl, ap, sym, subst, arith, length-append, append_assoc, append-nil}
+use Rattle.std.proofs.Common.{◌≡◌, ◌≢◌, ◌⊎◌, ◌∙◌, inl, inr, ℕ, suc, ◌+◌, ◌==◌, List, [], ◌∷◌, ◌++◌, length, Some, None, refl, ap, sym, subst, arith}
+use Rattle.std.proofs.Common.{length-append, append_assoc, append-nil}
 use Rattle.std.specs.List.{concat}
 use Rattle.hart_trace.specs.declared.event.Event.{Event}
 use Rattle.hart_trace.specs.Events.{meaning_of}
@@ -25,7 +26,8 @@ abbrev pub harts_of : Machine → ℕ
 harts_of machine = (state_of machine).table.layout.harts
 
 -- one reply more
-lines_from-snoc : (n : ℕ) (replies : List Reply) (reply : Reply) → lines_from n (replies ++ reply ∷ []) ≡ lines_from n replies ++ reply_text (n + length replies) reply
+lines_from-snoc : (n : ℕ) (replies : List Reply) (reply : Reply) → lines_from n (replies ++ reply ∷ []) ≡ lines_from n replies ++ reply_text
+    (n + length replies) reply
 lines_from-snoc n [] reply =
     let e : n ≡ n + 0 = omega arith in append-nil (reply_text n reply) ∙ ap (λ k. reply_text k reply) e
 lines_from-snoc n (first ∷ replies) reply =
@@ -37,7 +39,8 @@ answered-snoc : (replies : List Reply) (reply : Reply) → AreAnswered replies �
 answered-snoc [] reply h a = (a, tt)
 answered-snoc (first ∷ replies) reply h a = (h.0, answered-snoc replies reply h.1 a)
 
-elsewhere_parts : (hart : ℕ) (events : List (ℕ × Event)) (there : ℕ) (event : Event) → AreElsewhere hart (events ++ (there, event) ∷ []) → AreElsewhere hart events × (hart ≢ there)
+elsewhere_parts : (hart : ℕ) (events : List (ℕ × Event)) (there : ℕ) (event : Event) → AreElsewhere hart (events ++ (there, event) ∷ [])
+    → AreElsewhere hart events × (hart ≢ there)
 elsewhere_parts hart [] there event e = (tt, e.0)
 elsewhere_parts hart (first ∷ events) there event e = let p = elsewhere_parts hart events there event e.1 in ((e.0, p.0), p.1)
 
@@ -46,7 +49,8 @@ concat-snoc [] text = append-nil text
 concat-snoc (first ∷ answers) text = ap (λ xs. first ++ xs) (concat-snoc answers text) ∙ sym (append_assoc first (concat answers) text)
 
 -- one event more, on another hart
-last_further : (old mid new : Machine) (hart : ℕ) (events : List (ℕ × Event)) (replies : List Reply) (there : ℕ) (event : Event) (reply : Reply) → hart ≢ there → Happens mid there event reply new
+last_further : (old mid new : Machine) (hart : ℕ) (events : List (ℕ × Event)) (replies : List Reply) (there : ℕ) (event : Event) (reply : Reply) → hart ≢ there
+    → Happens mid there event reply new
     → LastOwn old hart events replies mid → LastOwn old hart (events ++ (there, event) ∷ []) (replies ++ reply ∷ []) new
 last_further old mid new hart events replies there event reply other x l = record {
   before = l.before;
@@ -66,7 +70,8 @@ last_further old mid new hart events replies there event reply other x l = recor
 }
 
 -- one event more, on that hart
-last_here : (old mid new : Machine) (hart : ℕ) (events : List (ℕ × Event)) (replies : List Reply) (event : Event) (reply : Reply) → Run (state_of old) events replies (state_of mid) → Happens mid hart event reply new
+last_here : (old mid new : Machine) (hart : ℕ) (events : List (ℕ × Event)) (replies : List Reply) (event : Event) (reply : Reply)
+    → Run (state_of old) events replies (state_of mid) → Happens mid hart event reply new
     → LastOwn old hart (events ++ (hart, event) ∷ []) (replies ++ reply ∷ []) new
 last_here old mid new hart events replies event reply run x = record {
   before = events;
@@ -86,8 +91,10 @@ last_here old mid new hart events replies event reply run x = record {
 }
 
 -- the last event of each hart, with one event more
-last_then : (old mid new : Machine) (events : List (ℕ × Event)) (replies : List Reply) (there : ℕ) (event : Event) (reply : Reply) → Run (state_of old) events replies (state_of mid) → Happens mid there event reply new
-    → (hart : ℕ) → AreElsewhere hart events ⊎ LastOwn old hart events replies mid → AreElsewhere hart (events ++ (there, event) ∷ []) ⊎ LastOwn old hart (events ++ (there, event) ∷ []) (replies ++ reply ∷ []) new
+last_then : (old mid new : Machine) (events : List (ℕ × Event)) (replies : List Reply) (there : ℕ) (event : Event) (reply : Reply)
+    → Run (state_of old) events replies (state_of mid) → Happens mid there event reply new
+    → (hart : ℕ) → AreElsewhere hart events ⊎ LastOwn old hart events replies mid
+    → AreElsewhere hart (events ++ (there, event) ∷ []) ⊎ LastOwn old hart (events ++ (there, event) ∷ []) (replies ++ reply ∷ []) new
 last_then old mid new events replies there event reply run x hart was = both (hart == there)
     (λ yes.
     let is : there ≡ hart = sym (eqb-true hart there yes) in
@@ -101,11 +108,13 @@ last_then old mid new events replies there event reply run x hart was = both (ha
     ])
 
 -- the machine after one event more
-pub one_more : (platform : PlatformLayout) (before events : List (ℕ × Event)) (answered replies : List Reply) (mid new : Machine) (hart : ℕ) (event : Event) (reply : Reply) → After platform (before ++ events) (answered ++ replies) mid → Happens mid hart event reply new
+pub one_more : (platform : PlatformLayout) (before events : List (ℕ × Event)) (answered replies : List Reply) (mid new : Machine) (hart : ℕ) (event : Event)
+    (reply : Reply) → After platform (before ++ events) (answered ++ replies) mid → Happens mid hart event reply new
     → After platform (before ++ (events ++ (hart, event) ∷ [])) (answered ++ (replies ++ reply ∷ [])) new
 one_more platform before events answered replies mid new hart event reply a x =
     subst (λ rs. After platform (before ++ (events ++ (hart, event) ∷ [])) rs new) (append_assoc answered replies (reply ∷ []))
-    (subst (λ es. After platform es ((answered ++ replies) ++ reply ∷ []) new) (append_assoc before events ((hart, event) ∷ [])) (happened a hart event reply x))
+    (subst (λ es. After platform es ((answered ++ replies) ++ reply ∷ []) new) (append_assoc before events ((hart, event) ∷ []))
+    (happened a hart event reply x))
 
 -- what is known on the way: the harts are as many as at first, and there is an answer for each reply
 pub record Way (old : Machine) (lines answers : List (List ℕ)) (new : Machine) : Type 0 where
@@ -115,7 +124,19 @@ pub record Way (old : Machine) (lines answers : List (List ℕ)) (new : Machine)
 
 pub way : (old new : Machine) (lines answers : List (List ℕ)) → Does DoesLine old lines answers new → Way old lines answers new
 way old new _ _ loop.none = record {
-  report = record { events = []; replies = []; spelled = none; run = still; told = refl; each = tt; idle = λ hart other. refl; last = λ hart. inl tt; after = λ platform before answered a. subst (λ rs. After platform (before ++ []) rs old) (sym (append-nil answered)) (subst (λ es. After platform es answered old) (sym (append-nil before)) a) };
+  report = record {
+    events = [];
+    replies = [];
+    spelled = none;
+    run = still;
+    told = refl;
+    each = tt;
+    idle = λ hart other. refl;
+    last = λ hart. inl tt;
+    after =
+        λ platform before answered a. subst (λ rs. After platform (before ++ []) rs old) (sym (append-nil answered))
+        (subst (λ es. After platform es answered old) (sym (append-nil before)) a);
+  };
   counted = refl;
   harts = refl;
 }
@@ -132,7 +153,8 @@ way old new _ _ (loop.silent {lines} {answers} {mid} done line short _ x) =
         each = w.report.each;
         idle = λ hart other. subst (λ m. bank_on m hart ≡ bank_on old hart) (sym x.1) (w.report.idle hart other);
         last = λ hart. subst (λ m. AreElsewhere hart w.report.events ⊎ LastOwn old hart w.report.events w.report.replies m) (sym x.1) (w.report.last hart);
-        after = λ platform before answered a. subst (After platform (before ++ w.report.events) (answered ++ w.report.replies)) (sym x.1) (w.report.after platform before answered a);
+        after = λ platform before answered a. subst (After platform (before ++ w.report.events) (answered ++ w.report.replies)) (sym x.1)
+            (w.report.after platform before answered a);
       };
       counted = w.counted;
       harts = ap harts_of x.1 ∙ w.harts;
@@ -147,11 +169,13 @@ way old new _ _ (loop.answer {lines} {answers} {mid} done line short _ text x) =
         replies = w.report.replies ++ x.2 ∷ [];
         spelled = one w.report.spelled line short x.0 x.1 said;
         run = step w.report.run x.0 x.1 x.2 x.4.known x.4.possible x.4.happened;
-        told = concat-snoc answers text ∙ ap (λ xs. xs ++ text) w.report.told ∙ ap (λ xs. report_text w.report.replies ++ xs) (x.6 ∙ ap (λ k. reply_text k x.2) order) ∙ sym (lines_from-snoc 1 w.report.replies x.2);
+        told = concat-snoc answers text ∙ ap (λ xs. xs ++ text) w.report.told
+            ∙ ap (λ xs. report_text w.report.replies ++ xs) (x.6 ∙ ap (λ k. reply_text k x.2) order) ∙ sym (lines_from-snoc 1 w.report.replies x.2);
         each = answered-snoc w.report.replies x.2 w.report.each x.5;
         idle = λ hart other. let p = elsewhere_parts hart w.report.events x.0 x.1 other in x.4.others hart p.1 ∙ w.report.idle hart p.0;
         last = λ hart. last_then old mid new w.report.events w.report.replies x.0 x.1 x.2 w.report.run x.4 hart (w.report.last hart);
-        after = λ platform before answered a. one_more platform before w.report.events answered w.report.replies mid new x.0 x.1 x.2 (w.report.after platform before answered a) x.4;
+        after = λ platform before answered a. one_more platform before w.report.events answered w.report.replies mid new x.0 x.1 x.2
+            (w.report.after platform before answered a) x.4;
       };
       counted = length-append answers (text ∷ []) ∙ ap (λ n. n + 1) w.counted ∙ sym (length-append w.report.replies (x.2 ∷ []));
       harts = ap (λ l. l.harts) (layout_stays (state_of mid) x.0 x.1 x.2 (state_of new) x.4.happened) ∙ w.harts;

@@ -13,7 +13,8 @@ use Rattle.pmp_encoding.proofs.Pairs.{same_region, same_entry}
 same_power : (a b : ℕ) → 2 ^ a ≡ 2 ^ b → a ≡ b
 same_power a b same =
     ⊎_elim (λ is. is)
-    (⊎_elim (λ low. absurd (let less = pow_below a b low in omega (arith, less, same))) (λ high. absurd (let less = pow_below b a high in omega (arith, less, same)))) (cases_order a b)
+    (⊎_elim (λ low. absurd (let less = pow_below a b low in omega (arith, less, same)))
+    (λ high. absurd (let less = pow_below b a high in omega (arith, less, same)))) (cases_order a b)
 
 same_extent : (e f : Entry) → extent_of e ≡ extent_of f → e ≡ f
 same_extent e f same =
@@ -32,7 +33,8 @@ same_list (e ∷ es) (f ∷ fs) same =
     ap₂ (λ x xs. x ∷ xs) (same_extent e f first) (same_list es fs rest)
 
 -- the bank whose extents are those of these entries has these
-pub has_same : (bank : Bank) (extents : List Extent) (entries : List Entry) → ((list : List Entry) → HasList bank list → extents ≡ map extent_of list) → extents ≡ map extent_of entries
+pub has_same : (bank : Bank) (extents : List Extent) (entries : List Entry) → ((list : List Entry) → HasList bank list → extents ≡ map extent_of list)
+    → extents ≡ map extent_of entries
     → HasList bank entries
 has_same bank extents entries own same =
     let some = bank_some bank in

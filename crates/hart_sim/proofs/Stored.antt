@@ -1,5 +1,6 @@
 -- A value that is put into a page of one span.
-use Rattle.std.proofs.Common.{◌≡◌, ◌≢◌, ℕ, ◌+◌, ◌-◌, ◌/◌, ◌%◌, ◌≤◌, ◌∙◌, inl, inr, if◌then◌else◌, true, false, List, Option, None, Some, is_some, Box, Global, cond, arith, refl, ap, ap₂, sym}
+use Rattle.std.proofs.Common.{◌≡◌, ◌≢◌, ℕ, ◌+◌, ◌-◌, ◌/◌, ◌%◌, ◌≤◌, ◌∙◌, inl, inr, if◌then◌else◌, true, false, List, Option, None, Some, is_some, Box, Global}
+use Rattle.std.proofs.Common.{cond, arith, refl, ap, ap₂, sym}
 use Rattle.std.proofs.lemmas.Bool.Decides.{nat_tests, eqb_tells}
 use Rattle.std.proofs.lemmas.Grind.{common_steps}
 use Rattle.std.specs.Ordering.{nat_cmp, is_eq}
@@ -21,7 +22,8 @@ in_another address size a inside other = grind (arith, nat_tests, common_steps, 
 
 -- a value stands in one page, and all other pages are as they were
 stores : (old new : ℕ → Option (List ℕ)) (address size value : ℕ) → address % 4096 + size ≤ 4096
-    → ((k : ℕ) → byte_in (new (address / 4096)) k ≡ (if in_range (address % 4096) size k then byte_of value (k - address % 4096) else byte_in (old (address / 4096)) k))
+    → ((k : ℕ) → byte_in (new (address / 4096)) k ≡ (if in_range (address % 4096) size k then byte_of value (k - address % 4096) else byte_in
+    (old (address / 4096)) k))
     → ((page : ℕ) → page ≢ address / 4096 → new page ≡ old page)
     → (a : ℕ) → byte_in (new (a / 4096)) (a % 4096) ≡ (if in_range address size a then byte_of value (a - address) else byte_in (old (a / 4096)) (a % 4096))
 stores old new address size value inside here others a = elim (eqb_tells (a / 4096) (address / 4096)) [
@@ -62,8 +64,10 @@ stores_in old new before now address size value inside there put here others =
     stores (page_in old) (page_in new) address size value inside
     (λ k. ap (λ p. byte_in p k) its ∙ here k ∙ ap (λ p. if in_range (address % 4096) size k then byte_of value (k - address % 4096) else byte_in p k) (sym was))
     (λ q differs. elim (eqb_tells (q / 4096) (page / 4096)) [
-      | inl p ↦ ap (λ g. page_within g (q % 4096)) (in_new (q / 4096) p.1) ∙ others (q % 4096) (apart page q differs p.1) ∙ sym (ap (λ g. page_within g (q % 4096)) (in_old (q / 4096) p.1))
-      | inr p ↦ ap (λ g. page_within g (q % 4096)) (put (q / 4096) ∙ ap (λ t. cond t (Some now) (get nat_cmp old.spans (q / 4096))) (is_elsewhere (page / 4096) (q / 4096) p.1))
+      | inl p ↦ ap (λ g. page_within g (q % 4096)) (in_new (q / 4096) p.1) ∙ others (q % 4096) (apart page q differs p.1)
+          ∙ sym (ap (λ g. page_within g (q % 4096)) (in_old (q / 4096) p.1))
+      | inr p ↦ ap (λ g. page_within g (q % 4096)) (put (q / 4096) ∙ ap (λ t. cond t (Some now) (get nat_cmp old.spans (q / 4096)))
+          (is_elsewhere (page / 4096) (q / 4096) p.1))
     ])
 
 -- what is not there is `None`

@@ -31,7 +31,8 @@ abbrev Says : Answer → Refusal → Type 0
 Says answer refusal = answer.status ≡ below_zero (refusal_number refusal)
 
 -- the reply has the status of the answer
-to_reply : (new : MachineState) (hart : ℕ) (answer : Answer) (reply : Reply) (refusal : Refusal) → RepliesWith (replies.Call answer.status answer.value) new hart reply → Says answer refusal → IsAnsweredBy reply refusal
+to_reply : (new : MachineState) (hart : ℕ) (answer : Answer) (reply : Reply) (refusal : Refusal)
+    → RepliesWith (replies.Call answer.status answer.value) new hart reply → Says answer refusal → IsAnsweredBy reply refusal
 to_reply new hart answer reply refusal told is =
     let world = world_number (new.worlds hart) in
     (answer.value, world, told.0, told.2 ∙ ap (λ status. replies.Call status answer.value world told.0) is)
@@ -40,7 +41,8 @@ abbrev status_of : Reply → ℤ
 status_of (replies.Call status value world used) = status
 status_of _ = pos 0
 
-to_answer : (new : MachineState) (hart : ℕ) (answer : Answer) (reply : Reply) (refusal : Refusal) → RepliesWith (replies.Call answer.status answer.value) new hart reply → IsAnsweredBy reply refusal → Says answer refusal
+to_answer : (new : MachineState) (hart : ℕ) (answer : Answer) (reply : Reply) (refusal : Refusal)
+    → RepliesWith (replies.Call answer.status answer.value) new hart reply → IsAnsweredBy reply refusal → Says answer refusal
 to_answer new hart answer reply refusal told is = ap status_of (sym told.2 ∙ is.3)
 
 pub creates_by_need : CreatesByNeed
@@ -58,10 +60,16 @@ destroys_by_need id s hart reply new pass x =
     )
 
 -- said of the answer, so of the reply
-replied : (call : Option Call) (table : EnclaveTable) (world : World) (new : MachineState) (hart : ℕ) (answer : Answer) (reply : Reply) → RepliesWith (replies.Call answer.status answer.value) new hart reply → IsRefusedByNeed call table world (Says answer) → IsRefusedByNeed call table world (IsAnsweredBy reply)
+replied : (call : Option Call) (table : EnclaveTable) (world : World) (new : MachineState) (hart : ℕ) (answer : Answer) (reply : Reply)
+    → RepliesWith (replies.Call answer.status answer.value) new hart reply → IsRefusedByNeed call table world (Says answer)
+    → IsRefusedByNeed call table world (IsAnsweredBy reply)
 replied call table world new hart answer reply told n = record {
   entries = λ is. n.entries (to_answer new hart answer reply NoEntries told is);
-  outgrown = λ pass out. elim (n.outgrown pass out) [ inl is ↦ inl (to_reply new hart answer reply NoEntries told is) | inr is ↦ inr (to_reply new hart answer reply NoMemory told is) ];
+  outgrown = λ pass out. elim (n.outgrown pass out) [
+    | inl is ↦ inl (to_reply new hart answer reply NoEntries told is)
+    | inr is ↦ inr
+        (to_reply new hart answer reply NoMemory told is)
+  ];
   memory = λ is. n.memory (to_answer new hart answer reply NoMemory told is);
 }
 
@@ -71,25 +79,35 @@ is_call _ = false
 
 -- a reply that is no answer of a call is no refusal
 none : (table : EnclaveTable) (world : World) (reply that : Reply) → is_call that ≡ false → reply ≡ that → IsRefusedByNeed None table world (IsAnsweredBy reply)
-none table world reply that other is = record { entries = λ x. absurd (never NoEntries x); outgrown = λ pass out. absurd pass; memory = λ x. absurd (never NoMemory x) }
+none table world reply that other is = record {
+  entries = λ x. absurd (never NoEntries x);
+  outgrown = λ pass out. absurd pass;
+  memory = λ x. absurd
+      (never NoMemory x);
+}
   where
     never : (refusal : Refusal) → IsAnsweredBy reply refusal → ⊥
     never refusal x = let z : false ≡ true = sym other ∙ ap is_call (sym is ∙ x.3) in cc
 
-effect : (kind : Kind) (table : EnclaveTable) (world : World) (s : MachineState) (a : Access) (value : ℕ) (reply : Reply) (new : MachineState) → TakesEffect kind s a value reply new → IsRefusedByNeed None table world (IsAnsweredBy reply)
+effect : (kind : Kind) (table : EnclaveTable) (world : World) (s : MachineState) (a : Access) (value : ℕ) (reply : Reply) (new : MachineState)
+    → TakesEffect kind s a value reply new → IsRefusedByNeed None table world (IsAnsweredBy reply)
 effect Fetch table world s a value reply new x = none table world reply replies.Done refl x.0
 effect Load table world s a value reply new x = none table world reply _ refl x.0
 effect Store table world s a value reply new (inl x) = none table world reply replies.Done refl x.0
 effect Store table world s a value reply new (inr x) = none table world reply replies.NoMemory refl x.0
 
-accessed : (said : Result (Unit {0}) Cause) (table : EnclaveTable) (world : World) (s : MachineState) (a : Access) (value : ℕ) (reply : Reply) (new : MachineState) → Accesses said s a value reply new → IsRefusedByNeed None table world (IsAnsweredBy reply)
+accessed : (said : Result (Unit {0}) Cause) (table : EnclaveTable) (world : World) (s : MachineState) (a : Access) (value : ℕ) (reply : Reply)
+    (new : MachineState) → Accesses said s a value reply new → IsRefusedByNeed None table world (IsAnsweredBy reply)
 accessed (Err cause) table world s a value reply new x = none table world reply (replies.Fault cause) refl x.0
 accessed (Ok done) table world s a value reply new x = effect a.kind table world s a value reply new x
 
 -- an event is refused for want of entries just where a view would need more, and nothing but a creation or a destruction is
-pub refuses_by_need : (old : MachineState) (hart : ℕ) (event : Event) (reply : Reply) (new : MachineState) → IsTable old.table → Step old hart event reply new → RefusesByNeed old hart event reply
-refuses_by_need old hart (events.Access a value) reply new t x = accessed (verdict (view_on old hart) a) old.table (old.worlds hart) (awoken old hart) a value reply new x
+pub refuses_by_need : (old : MachineState) (hart : ℕ) (event : Event) (reply : Reply) (new : MachineState) → IsTable old.table → Step old hart event reply new
+    → RefusesByNeed old hart event reply
+refuses_by_need old hart (events.Access a value) reply new t x = accessed (verdict (view_on old hart) a) old.table (old.worlds hart)
+    (awoken old hart) a value reply new x
 refuses_by_need old hart (events.Reg n value) reply new t x = none old.table (old.worlds hart) reply replies.Done refl x.0
 refuses_by_need old hart (events.Ecall words) reply new t x =
-    replied (named old hart words.items) old.table (old.worlds hart) new hart x.0 reply x.5 (core.call_refused_by_need (named old hart words.items) (lent old) (asked old hart words.items) hart x.0 x.1 x.2 t x.3)
+    replied (named old hart words.items) old.table (old.worlds hart) new hart x.0 reply x.5
+    (core.call_refused_by_need (named old hart words.items) (lent old) (asked old hart words.items) hart x.0 x.1 x.2 t x.3)
 refuses_by_need old hart events.Irq reply new t x = none old.table (old.worlds hart) reply _ refl x.3.2

@@ -20,7 +20,8 @@ less a b h = grind (arith, nat_tests, common_steps)
 from_less : (a b : ℕ) → a < b → nat_cmp a b ≡ Less
 from_less a b h = grind (arith, nat_tests, common_steps)
 
-pub first_of : {X : Type 0} (pages : BTreeMap ℕ X) (from end page : ℕ) (x : X) (rest : List (ℕ × X)) → IsRangeOf nat_cmp (Included from) (Excluded end) pages ((page, x) ∷ rest)
+pub first_of : {X : Type 0} (pages : BTreeMap ℕ X) (from end page : ℕ) (x : X) (rest : List (ℕ × X))
+    → IsRangeOf nat_cmp (Included from) (Excluded end) pages ((page, x) ∷ rest)
     → (from ≤ page) × (page < end) × ((q : ℕ) → from ≤ q → q < page → is_some (get nat_cmp pages q) ≡ false)
 first_of pages from end page x rest is =
     let inside = is.1.0 in
@@ -28,5 +29,6 @@ first_of pages from end page x rest is =
       no_more from page inside.0,
       past,
       λ q low under. false_from_ne_true (is_some (get nat_cmp pages q))
-          (λ there. let more = no_more page q (is.2 q (from_no_more from q low, from_less q end (omega (arith, under, past))) there) in omega (arith, more, under)),
+          (λ there. let more = no_more page q (is.2 q (from_no_more from q low, from_less q end (omega (arith, under, past))) there) in omega
+          (arith, more, under)),
     )

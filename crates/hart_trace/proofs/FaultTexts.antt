@@ -6,7 +6,8 @@ use Rattle.pmp_match.specs.declared.cause.Cause.TheVariants.{FetchMisaligned, Fe
 use Rattle.pmp_match.specs.Causes.{cause_number}
 use Rattle.hart_trace.specs.declared.lines.TheConstants.{FAULTS}
 
-pub each_fault : (other : List ℕ) (cause : Cause) → take 9 (get_or FAULTS (cause_number cause) other) ≡ codes " fault " ++ decimal (cause_number cause) ++ codes "\n"
+pub each_fault : (other : List ℕ) (cause : Cause) → take 9 (get_or FAULTS (cause_number cause) other) ≡ codes " fault " ++ decimal
+    (cause_number cause) ++ codes "\n"
 each_fault other FetchMisaligned = rw (decimal_digit (cause_number FetchMisaligned) (omega arith)) refl
 each_fault other FetchFault = rw (decimal_digit (cause_number FetchFault) (omega arith)) refl
 each_fault other LoadMisaligned = rw (decimal_digit (cause_number LoadMisaligned) (omega arith)) refl

@@ -25,7 +25,8 @@ five a b c d e y p q r s t m ha hb hc hd he hp hq hr hs ht same =
 
 -- the first five bytes of a line, and the sixth
 begin :
-    (line : List ℕ) (first p q r s t m : ℕ) → BeginsWith line first → p < 256 → q < 256 → r < 256 → s < 256 → t < 256 → first ≡ p + 256 * (q + 256 * (r + 256 * (s + 256 * (t + 256 * m))))
+    (line : List ℕ) (first p q r s t m : ℕ) → BeginsWith line first → p < 256 → q < 256 → r < 256 → s < 256 → t < 256
+    → first ≡ p + 256 * (q + 256 * (r + 256 * (s + 256 * (t + 256 * m))))
     → (line ≡ p ∷ q ∷ r ∷ s ∷ t ∷ drop 5 line) × ((n : ℕ) → m ≡ 32 + 256 * n → drop 5 line ≡ 32 ∷ drop 6 line)
 begin [] first p q r s t m begins hp hq hr hs ht same = absurd (omega (arith, begins.0))
 begin (a ∷ []) first p q r s t m begins hp hq hr hs ht same = absurd (omega (arith, begins.0))
@@ -49,12 +50,14 @@ load_begins line first begins is =
 
 store_begins : (line : List ℕ) (first : ℕ) → BeginsWith line first → first % 2 ^ 48 ≡ STORE.number → line ≡ keyword Kind.Store ++ 32 ∷ drop 6 line
 store_begins line first begins is =
-    let both = begin line first 115 116 111 114 101 (32 + 256 * (first / 2 ^ 48)) begins (omega arith) (omega arith) (omega arith) (omega arith) (omega arith) (omega (arith, is)) in
+    let both = begin line first 115 116 111 114 101 (32 + 256 * (first / 2 ^ 48)) begins (omega arith) (omega arith) (omega arith) (omega arith) (omega arith)
+    (omega (arith, is)) in
     both.0 ∙ ap (λ rest. 115 ∷ 116 ∷ 111 ∷ 114 ∷ 101 ∷ rest) (both.1 (first / 2 ^ 48) refl)
 
 fetch_begins : (line : List ℕ) (first : ℕ) → BeginsWith line first → first % 2 ^ 48 ≡ FETCH.number → line ≡ keyword Kind.Fetch ++ 32 ∷ drop 6 line
 fetch_begins line first begins is =
-    let both = begin line first 102 101 116 99 104 (32 + 256 * (first / 2 ^ 48)) begins (omega arith) (omega arith) (omega arith) (omega arith) (omega arith) (omega (arith, is)) in
+    let both = begin line first 102 101 116 99 104 (32 + 256 * (first / 2 ^ 48)) begins (omega arith) (omega arith) (omega arith) (omega arith) (omega arith)
+    (omega (arith, is)) in
     both.0 ∙ ap (λ rest. 102 ∷ 101 ∷ 116 ∷ 99 ∷ 104 ∷ rest) (both.1 (first / 2 ^ 48) refl)
 
 load_tells : Tells LOAD

@@ -1,5 +1,6 @@
 -- Plain lines of settings and calls say what the grammar of traces says.
-use Rattle.std.proofs.Common.{◌≡◌, ◌∙◌, ℕ, ◌<◌, ◌≤◌, true, false, ◌&&◌, ◌||◌, ◌+◌, List, [], ◌∷◌, ◌++◌, length, Option, None, Some, option_map, refl, ap, sym, arith, append-nil, append_assoc}
+use Rattle.std.proofs.Common.{◌≡◌, ◌∙◌, ℕ, ◌<◌, ◌≤◌, true, false, ◌&&◌, ◌||◌, ◌+◌, List, [], ◌∷◌, ◌++◌, length, Option, None, Some, option_map, refl, ap, sym}
+use Rattle.std.proofs.Common.{arith, append-nil, append_assoc}
 use Rattle.std.specs.Prelude.{◌==◌, nat_lt}
 use Rattle.std.specs.List.{list_all}
 use Rattle.std.proofs.lemmas.Bool.{and_parts, and_from, and_right, cond-false, lt-ltb}
@@ -26,7 +27,8 @@ ten_number (a ∷ b ∷ digits) value h =
     let all = numeral_digits 10 (a ∷ b ∷ digits) value h in
     let behind = (and_parts (nat_lt (digit_of a) 10) (list_all (λ x. nat_lt (digit_of x) 10) (b ∷ digits)) all).1 in
     let second = (and_parts (nat_lt (digit_of b) 10) (list_all (λ x. nat_lt (digit_of x) 10) digits) behind).0 in
-    cond-false (a == 48 && (b == 120 || b == 88)) (numeral_of 16 digits) (numeral_of 10 (a ∷ b ∷ digits)) (and_right (a == 48) (is_mark b) (no_mark b second)) ∙ h
+    cond-false (a == 48 && (b == 120 || b == 88)) (numeral_of 16 digits) (numeral_of 10 (a ∷ b ∷ digits)) (and_right (a == 48) (is_mark b) (no_mark b second))
+    ∙ h
 
 no_digits : (value : ℕ) → numeral_of 10 [] ≡ Some value → ⊥
 no_digits value h = cc
@@ -55,7 +57,8 @@ no_zero (a ∷ []) rest h = refl
 no_zero (a ∷ b ∷ digits) rest h = h
 
 -- the register that a text names before a space
-pub register_begins : (text all behind rest : List ℕ) (n : ℕ) → text ≡ 120 ∷ all → BeginsNumeral 10 all n behind → behind ≡ 32 ∷ rest → has_leading_zero all ≡ false → n < 32
+pub register_begins : (text all behind rest : List ℕ) (n : ℕ) → text ≡ 120 ∷ all → BeginsNumeral 10 all n behind → behind ≡ 32 ∷ rest
+    → has_leading_zero all ≡ false → n < 32
     → (digits : List ℕ) × (text ≡ (120 ∷ digits) ++ 32 ∷ rest) × (list_all is_letter digits ≡ true) × (register_of (120 ∷ digits) ≡ Some n)
 register_begins text all behind rest n is h space first few =
     let zero : has_leading_zero h.digits ≡ false = no_zero h.digits behind (ap has_leading_zero (sym h.parts) ∙ first) in
@@ -72,7 +75,8 @@ last_word b word text [] is none = is ∙ append-nil (b ∷ word)
 last_word b word text (x ∷ end) is none = absurd (omega (arith, none))
 
 -- the last number of a text
-number_ends : (text end : List ℕ) (value : ℕ) (h : BeginsNumber text value end) → length end ≡ 0 → (split_words text ≡ (h.0 ∷ h.1) ∷ []) × (list_all is_plain text ≡ true)
+number_ends : (text end : List ℕ) (value : ℕ) (h : BeginsNumber text value end) → length end ≡ 0
+    → (split_words text ≡ (h.0 ∷ h.1) ∷ []) × (list_all is_plain text ≡ true)
 number_ends text end value h none =
     let is = last_word h.0 h.1 text end h.2 none in (
       ap split_words is ∙ letters_last h.0 h.1 h.3,
@@ -80,25 +84,30 @@ number_ends text end value h none =
     )
 
 -- a register and its value
-setting_said : (text rest end digits : List ℕ) (n value : ℕ) → text ≡ (120 ∷ digits) ++ 32 ∷ rest → list_all is_letter digits ≡ true → register_of (120 ∷ digits) ≡ Some n → BeginsNumber rest value end → length end ≡ 0
+setting_said : (text rest end digits : List ℕ) (n value : ℕ) → text ≡ (120 ∷ digits) ++ 32 ∷ rest → list_all is_letter digits ≡ true
+    → register_of (120 ∷ digits) ≡ Some n → BeginsNumber rest value end → length end ≡ 0
     → (setting_of (split_words text) ≡ Some (events.Reg n value)) × (list_all is_plain text ≡ true)
 setting_said text rest end digits n value is letters named h none =
     let ends = number_ends rest end value h none in
     let name : list_all is_letter (120 ∷ digits) ≡ true = and_from _ _ refl letters in
-    let words : split_words text ≡ (120 ∷ digits) ∷ (h.0 ∷ h.1) ∷ [] = ap split_words is ∙ letters_split 120 digits rest name ∙ ap (λ ws. (120 ∷ digits) ∷ ws) ends.0 in (
+    let words : split_words text ≡ (120 ∷ digits) ∷ (h.0 ∷ h.1) ∷ [] = ap split_words is ∙ letters_split 120 digits rest name
+    ∙ ap (λ ws. (120 ∷ digits) ∷ ws) ends.0 in (
       rw (words, named, h.4) refl,
       ap (list_all is_plain) is ∙ letters_plain (120 ∷ digits) (32 ∷ rest) name ends.1,
     )
 
 -- the line of a setting, and that of a call
-setting_says : (rest : List ℕ) (event : Event) (harts : ℕ) → list_all is_plain rest ≡ true → setting_of (split_words rest) ≡ Some event → meaning_of harts (114 ∷ 101 ∷ 103 ∷ 32 ∷ rest) ≡ Some (Some (0, event))
+setting_says : (rest : List ℕ) (event : Event) (harts : ℕ) → list_all is_plain rest ≡ true → setting_of (split_words rest) ≡ Some event
+    → meaning_of harts (114 ∷ 101 ∷ 103 ∷ 32 ∷ rest) ≡ Some (Some (0, event))
 setting_says rest event harts plain is = line_says 114 (101 ∷ 103 ∷ []) rest event harts refl plain refl is
 
-call_says : (rest : List ℕ) (event : Event) (harts : ℕ) → list_all is_plain rest ≡ true → call_in (split_words rest) ≡ Some event → meaning_of harts (101 ∷ 99 ∷ 97 ∷ 108 ∷ 108 ∷ 32 ∷ rest) ≡ Some (Some (0, event))
+call_says : (rest : List ℕ) (event : Event) (harts : ℕ) → list_all is_plain rest ≡ true → call_in (split_words rest) ≡ Some event
+    → meaning_of harts (101 ∷ 99 ∷ 97 ∷ 108 ∷ 108 ∷ 32 ∷ rest) ≡ Some (Some (0, event))
 call_says rest event harts plain is = line_says 101 (99 ∷ 97 ∷ 108 ∷ 108 ∷ []) rest event harts refl plain refl is
 
 -- a register and its value before the end of a line
-pub setting_event : (text rest behind end digits : List ℕ) (n value : ℕ) → text ≡ 114 ∷ 101 ∷ 103 ∷ 32 ∷ rest → rest ≡ (120 ∷ digits) ++ 32 ∷ behind → list_all is_letter digits ≡ true → register_of (120 ∷ digits) ≡ Some n → BeginsNumber behind value end → BeginsEvent text (events.Reg n value) end
+pub setting_event : (text rest behind end digits : List ℕ) (n value : ℕ) → text ≡ 114 ∷ 101 ∷ 103 ∷ 32 ∷ rest → rest ≡ (120 ∷ digits) ++ 32 ∷ behind
+    → list_all is_letter digits ≡ true → register_of (120 ∷ digits) ≡ Some n → BeginsNumber behind value end → BeginsEvent text (events.Reg n value) end
 setting_event text rest behind end digits n value starts is letters named h =
     let word = h.0 ∷ h.1 in
     let spelled = (120 ∷ digits) ++ 32 ∷ word in
@@ -111,7 +120,8 @@ setting_event text rest behind end digits n value starts is letters named h =
       said = λ harts. setting_says spelled (events.Reg n value) harts said.1 said.0;
     }
 
-pub call_event : (text rest behind : List ℕ) (event : Event) → text ≡ 101 ∷ 99 ∷ 97 ∷ 108 ∷ 108 ∷ 32 ∷ rest → BeginsCall rest event behind → BeginsEvent text event behind
+pub call_event : (text rest behind : List ℕ) (event : Event) → text ≡ 101 ∷ 99 ∷ 97 ∷ 108 ∷ 108 ∷ 32 ∷ rest → BeginsCall rest event behind
+    → BeginsEvent text event behind
 call_event text rest behind event starts call = record {
   line = 101 ∷ 99 ∷ 97 ∷ 108 ∷ 108 ∷ 32 ∷ call.spelled;
   parts = starts ∙ ap (λ xs. 101 ∷ 99 ∷ 97 ∷ 108 ∷ 108 ∷ 32 ∷ xs) call.parts;
@@ -137,13 +147,17 @@ none_read text = record { parts = refl; told = λ t. same (numbers_of (split_wor
     same (Some ns) = refl
 
 -- one more, and a space
-pub more_read : (text left behind next front numbers more : List ℕ) (value : ℕ) → Read text left front numbers → (h : BeginsNumber left value behind) → behind ≡ 32 ∷ next → more ≡ numbers ++ value ∷ [] → (longer : List ℕ) × Read text next longer more
+pub more_read : (text left behind next front numbers more : List ℕ) (value : ℕ) → Read text left front numbers → (h : BeginsNumber left value behind)
+    → behind ≡ 32 ∷ next → more ≡ numbers ++ value ∷ [] → (longer : List ℕ) × Read text next longer more
 more_read text left behind next front numbers more value read h space pushed =
     let word = h.0 ∷ h.1 in
     let longer = front ++ (word ++ 32 ∷ []) in
-    let same : (t : List ℕ) → longer ++ t ≡ front ++ (word ++ 32 ∷ t) = λ t. append_assoc front (word ++ 32 ∷ []) t ∙ ap (λ xs. front ++ xs) (append_assoc word (32 ∷ []) t) in
+    let same : (t : List ℕ) → longer ++ t ≡ front ++ (word ++ 32 ∷ t) = λ t. append_assoc front (word ++ 32 ∷ []) t
+    ∙ ap (λ xs. front ++ xs) (append_assoc word (32 ∷ []) t) in
     let split : (t : List ℕ) → split_words (word ++ 32 ∷ t) ≡ word ∷ split_words t = λ t. letters_split h.0 h.1 t h.3 in
-    let each = λ (t : List ℕ). one_read word (split_words t) (split_words (front ++ (word ++ 32 ∷ t))) numbers more value h.4 pushed (ap (λ ws. option_map (λ ns. numbers ++ ns) (numbers_of ws)) (sym (split t)) ∙ read.told (word ++ 32 ∷ t)) (ap (λ ws. length numbers + length ws) (sym (split t)) ∙ read.count (word ++ 32 ∷ t)) in (
+    let each = λ (t : List ℕ). one_read word (split_words t) (split_words (front ++ (word ++ 32 ∷ t))) numbers more value h.4 pushed
+    (ap (λ ws. option_map (λ ns. numbers ++ ns) (numbers_of ws)) (sym (split t)) ∙ read.told (word ++ 32 ∷ t))
+    (ap (λ ws. length numbers + length ws) (sym (split t)) ∙ read.count (word ++ 32 ∷ t)) in (
       longer,
       record {
         parts = read.parts ∙ ap (λ xs. front ++ xs) (h.2 ∙ ap (λ xs. word ++ xs) space) ∙ sym (same next);
@@ -154,11 +168,14 @@ more_read text left behind next front numbers more value read h space pushed =
     )
 
 -- the last one
-pub last_read : (text left behind front numbers : List ℕ) (more : ArrayVec ℕ 8 (Unit {0})) (value : ℕ) → Read text left front numbers → (h : BeginsNumber left value behind) → more.items ≡ numbers ++ value ∷ [] → length more.items ≤ 8 → BeginsCall text (events.Ecall more) behind
+pub last_read : (text left behind front numbers : List ℕ) (more : ArrayVec ℕ 8 (Unit {0})) (value : ℕ) → Read text left front numbers
+    → (h : BeginsNumber left value behind) → more.items ≡ numbers ++ value ∷ [] → length more.items ≤ 8 → BeginsCall text (events.Ecall more) behind
 last_read text left behind front numbers more value read h pushed few =
     let word = h.0 ∷ h.1 in
     let split : split_words word ≡ word ∷ [] = letters_last h.0 h.1 h.3 in
-    let all = one_read word [] (split_words (front ++ word)) numbers more.items value h.4 pushed (ap (λ ws. option_map (λ ns. numbers ++ ns) (numbers_of ws)) (sym split) ∙ read.told word) (ap (λ ws. length numbers + length ws) (sym split) ∙ read.count word) in
+    let all = one_read word [] (split_words (front ++ word)) numbers more.items value h.4 pushed
+    (ap (λ ws. option_map (λ ns. numbers ++ ns) (numbers_of ws)) (sym split) ∙ read.told word)
+    (ap (λ ws. length numbers + length ws) (sym split) ∙ read.count word) in
     record {
       spelled = front ++ word;
       parts = read.parts ∙ ap (λ xs. front ++ xs) h.2 ∙ sym (append_assoc front word behind);

@@ -15,7 +15,8 @@ loaded n value = more (decimal n) _ _ (codes "\n") (more (decimal n) (codes " ok
 
 pub called :
     (n : ℕ) (status : ℤ) (value world used : ℕ)
-    → decimal n ++ (codes " call " ++ signed_decimal status ++ codes " 0x" ++ hex 16 value ++ codes " " ++ decimal world ++ codes " " ++ decimal used ++ codes "\n")
+    → decimal n ++ (codes " call " ++ signed_decimal status ++ codes " 0x" ++ hex 16 value ++ codes " " ++ decimal world ++ codes " " ++ decimal used
+    ++ codes "\n")
     ≡ reply_text n (Call status value world used)
 called n status value world used =
     let d = decimal n in

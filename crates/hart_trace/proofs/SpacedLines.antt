@@ -1,5 +1,6 @@
 -- A line with blanks as one likes says what its words say.
-use Rattle.std.proofs.Common.{◌≡◌, ◌∙◌, ℕ, ◌+◌, Bool, true, false, not, ◌&&◌, List, [], ◌∷◌, ◌++◌, length, Option, Some, None, option_map, cond, suc, refl, ap, arith}
+use Rattle.std.proofs.Common.{◌≡◌, ◌∙◌, ℕ, ◌+◌, Bool, true, false, not, ◌&&◌, List, [], ◌∷◌, ◌++◌, length, Option, Some, None, option_map, cond, suc, refl, ap}
+use Rattle.std.proofs.Common.{arith}
 use Rattle.std.specs.Prelude.{◌==◌}
 use Rattle.std.specs.List.{list_all, position_or_len}
 use Rattle.std.proofs.lemmas.Bool.{and_parts, cond-true, not-true}
@@ -50,7 +51,8 @@ pub blank_first : (b : ℕ) (rest : List ℕ) → is_blank b ≡ true → words_
 blank_first b rest h =
     let content = content_of rest in
     ap words_in (content_more b rest (blank_begins_none b h))
-    ∙ and_one (is_allowed b) (list_all is_allowed content) (split_words (b ∷ content)) (split_words content) (blank_allowed b h) (cond-true (is_blank b) (split_words content) (joined is_blank b content (split_words content)) h)
+    ∙ and_one (is_allowed b) (list_all is_allowed content) (split_words (b ∷ content)) (split_words content) (blank_allowed b h)
+    (cond-true (is_blank b) (split_words content) (joined is_blank b content (split_words content)) h)
 
 -- a line that has ended ends a word, and so does a blank
 pub empty_ends : (text : List ℕ) → length text ≡ 0 → EndsBefore text text
@@ -82,13 +84,15 @@ led t true x words word e f = rw (e, f) refl
 led t false x words word e f = rw e refl
 
 -- a word of letters, and the words after it
-pub leads : (text : List ℕ) (b : ℕ) (word behind rest : List ℕ) → text ≡ (b ∷ word) ++ behind → list_all is_letter (b ∷ word) ≡ true → EndsBefore behind rest → Leads text (b ∷ word) rest
+pub leads : (text : List ℕ) (b : ℕ) (word behind rest : List ℕ) → text ≡ (b ∷ word) ++ behind → list_all is_letter (b ∷ word) ≡ true → EndsBefore behind rest
+    → Leads text (b ∷ word) rest
 leads text b word behind rest is letters ends =
     let all = b ∷ word in
     let content = content_of behind in
     ap words_of is
     ∙ ap words_in (content_word all behind letters)
-    ∙ led (list_all is_allowed (all ++ content)) (list_all is_allowed content) (split_words (all ++ content)) (split_words content) all (allowed_word all content letters) (word_split is_blank all content (omega arith, letters_word all letters) (ends_content behind ends.0))
+    ∙ led (list_all is_allowed (all ++ content)) (list_all is_allowed content) (split_words (all ++ content)) (split_words content) all
+    (allowed_word all content letters) (word_split is_blank all content (omega arith, letters_word all letters) (ends_content behind ends.0))
     ∙ ap (option_map (λ ws. all ∷ ws)) ends.1
 
 pub keyword_leads : (kind : Kind) (text behind rest : List ℕ) → text ≡ keyword kind ++ behind → EndsBefore behind rest → Leads text (keyword kind) rest
@@ -96,21 +100,27 @@ keyword_leads Kind.Load text behind rest is ends = leads text 108 (111 ∷ 97 �
 keyword_leads Kind.Fetch text behind rest is ends = leads text 102 (101 ∷ 116 ∷ 99 ∷ 104 ∷ []) behind rest is refl ends
 keyword_leads Kind.Store text behind rest is ends = leads text 115 (116 ∷ 111 ∷ 114 ∷ 101 ∷ []) behind rest is refl ends
 
-pub number_leads : (text behind rest : List ℕ) (value : ℕ) → BeginsNumber text value behind → EndsBefore behind rest → (word : List ℕ) × Leads text word rest × (number_of word ≡ Some value)
+pub number_leads : (text behind rest : List ℕ) (value : ℕ) → BeginsNumber text value behind → EndsBefore behind rest
+    → (word : List ℕ) × Leads text word rest × (number_of word ≡ Some value)
 number_leads text behind rest value h ends = (h.0 ∷ h.1, leads text h.0 h.1 behind rest h.2 h.3 ends, h.4)
 
 -- three words at the front, one after another
-three_lead : (text one two three m s a : List ℕ) → Leads text m one → Leads one s two → Leads two a three → words_of text ≡ option_map (λ words. m ∷ s ∷ a ∷ words) (words_of three)
+three_lead : (text one two three m s a : List ℕ) → Leads text m one → Leads one s two → Leads two a three
+    → words_of text ≡ option_map (λ words. m ∷ s ∷ a ∷ words) (words_of three)
 three_lead text one two three m s a e f g = e ∙ ap (option_map (λ ws. m ∷ ws)) (f ∙ ap (option_map (λ ws. s ∷ ws)) g) ∙ joined_maps (words_of three)
   where
-    joined_maps : (found : Option Words) → option_map (λ ws. m ∷ ws) (option_map (λ ws. s ∷ ws) (option_map (λ ws. a ∷ ws) found)) ≡ option_map (λ words. m ∷ s ∷ a ∷ words) found
+    joined_maps : (found : Option Words) → option_map (λ ws. m ∷ ws) (option_map (λ ws. s ∷ ws) (option_map (λ ws. a ∷ ws) found)) ≡ option_map
+        (λ words. m ∷ s ∷ a ∷ words) found
     joined_maps None = refl
     joined_maps (Some words) = refl
 
 -- the first three words of a text say an access
 abbrev pub Says : Kind → List ℕ → Access → List ℕ → Type 0
-Says kind text access rest = (m s a : List ℕ) × (words_of text ≡ option_map (λ words. m ∷ s ∷ a ∷ words) (words_of rest)) × ((words : Words) → access_of kind (m ∷ s ∷ a ∷ words) ≡ Some (access, words))
+Says kind text access rest = (m s a : List ℕ) × (words_of text ≡ option_map (λ words. m ∷ s ∷ a ∷ words) (words_of rest))
+    × ((words : Words) → access_of kind (m ∷ s ∷ a ∷ words) ≡ Some (access, words))
 
-pub access_leads : (kind : Kind) (text one two three m s a : List ℕ) (mode : Mode) (size address : ℕ) (access : Access) → Leads text m one → Leads one s two → Leads two a three → mode_of m ≡ Some mode → number_of s ≡ Some size → number_of a ≡ Some address → Some access ≡ sized mode kind size address (has_size kind size) refl → Says kind text access three
+pub access_leads : (kind : Kind) (text one two three m s a : List ℕ) (mode : Mode) (size address : ℕ) (access : Access) → Leads text m one → Leads one s two
+    → Leads two a three → mode_of m ≡ Some mode → number_of s ≡ Some size → number_of a ≡ Some address
+    → Some access ≡ sized mode kind size address (has_size kind size) refl → Says kind text access three
 access_leads kind text one two three m s a mode size address access e f g em es ea is =
     (m, s, a, three_lead text one two three m s a e f g, λ words. access_said kind m s a words mode size address access em es ea is)

@@ -12,7 +12,8 @@ words_of_choice : (t : Bool) (a b : List PlacedWord) → words_in (cond t a b) �
 words_of_choice true a b = refl
 words_of_choice false a b = refl
 
-words_joined : (p : ℕ → Bool) (at b : ℕ) (bytes : List ℕ) (words : List PlacedWord) → words_in (placed_joined p at b bytes words) ≡ joined p b bytes (words_in words)
+words_joined : (p : ℕ → Bool) (at b : ℕ) (bytes : List ℕ) (words : List PlacedWord)
+    → words_in (placed_joined p at b bytes words) ≡ joined p b bytes (words_in words)
 words_joined p at b [] words = refl
 words_joined p at b (next ∷ rest) [] = refl
 words_joined p at b (next ∷ rest) (placed ∷ words) = words_of_choice (p next) ((at, b ∷ []) ∷ placed ∷ words) ((at, b ∷ placed.1) ∷ words)
@@ -33,7 +34,8 @@ moved : (at n : ℕ) → at + (1 + n) ≡ at + 1 + n
 moved at n = omega arith
 
 skipped :
-    (p : ℕ → Bool) (at b : ℕ) (bytes : List ℕ) (t : Bool) → p b ≡ t → placed_by p (at + 1 + prefix_len p bytes) (drop (prefix_len p bytes) bytes) ≡ placed_by p (at + 1) bytes
+    (p : ℕ → Bool) (at b : ℕ) (bytes : List ℕ) (t : Bool) → p b ≡ t → placed_by p (at + 1 + prefix_len p bytes) (drop (prefix_len p bytes) bytes) ≡ placed_by p
+    (at + 1) bytes
     → placed_by p (at + prefix_len p (b ∷ bytes)) (drop (prefix_len p (b ∷ bytes)) (b ∷ bytes)) ≡ placed_by p at (b ∷ bytes)
 skipped p at b bytes true h e = rw (h, moved at (prefix_len p bytes), one_more (prefix_len p bytes)) e
 skipped p at b bytes false h e =
@@ -45,7 +47,8 @@ pub placed_by-blanks : (p : ℕ → Bool) (at : ℕ) (bytes : List ℕ) → plac
 placed_by-blanks p at [] = refl
 placed_by-blanks p at (b ∷ bytes) = skipped p at b bytes (p b) refl (placed_by-blanks p (at + 1) bytes)
 
-joined_alone : (p : ℕ → Bool) (at b next : ℕ) (rest : List ℕ) (words : List PlacedWord) → p next ≡ true → placed_joined p at b (next ∷ rest) words ≡ (at, b ∷ []) ∷ words
+joined_alone : (p : ℕ → Bool) (at b next : ℕ) (rest : List ℕ) (words : List PlacedWord) → p next ≡ true
+    → placed_joined p at b (next ∷ rest) words ≡ (at, b ∷ []) ∷ words
 joined_alone p at b next rest [] h = refl
 joined_alone p at b next rest (placed ∷ words) h = rw h refl
 
@@ -55,8 +58,10 @@ behind p bytes = drop (position_or_len p bytes) bytes
 
 word_joined :
     (p : ℕ → Bool) (at b c : ℕ) (bytes : List ℕ) (t : Bool) → p c ≡ t
-    → (p c ≡ false → placed_by p (at + 1) (c ∷ bytes) ≡ (at + 1, c ∷ before_first p bytes) ∷ placed_by p (at + 1 + (1 + position_or_len p bytes)) (behind p bytes))
-    → placed_joined p at b (c ∷ bytes) (placed_by p (at + 1) (c ∷ bytes)) ≡ (at, b ∷ before_first p (c ∷ bytes)) ∷ placed_by p (at + (1 + position_or_len p (c ∷ bytes))) (behind p (c ∷ bytes))
+    → (p c ≡ false → placed_by p (at + 1) (c ∷ bytes) ≡ (at + 1, c ∷ before_first p bytes) ∷ placed_by p (at + 1 + (1 + position_or_len p bytes))
+    (behind p bytes))
+    → placed_joined p at b (c ∷ bytes) (placed_by p (at + 1) (c ∷ bytes)) ≡ (at, b ∷ before_first p (c ∷ bytes)) ∷ placed_by p
+    (at + (1 + position_or_len p (c ∷ bytes))) (behind p (c ∷ bytes))
 word_joined p at b c bytes true h e = joined_alone p at b c bytes (placed_by p (at + 1) (c ∷ bytes)) h ∙ rw (h, h) refl
 word_joined p at b c bytes false h e =
     ap (placed_joined p at b (c ∷ bytes)) (e h) ∙ rw (h, one_more (position_or_len p bytes), moved at (suc (position_or_len p bytes))) refl
@@ -106,7 +111,8 @@ word_at p text at begin n e less f =
     ∙ ap (λ xs. (begin, take n (drop begin text)) ∷ placed_by p (begin + n) xs) (sym (drop_both begin n text))
 
 -- the first word from a place on, as it is found
-pub found_at : (text : List ℕ) (at : ℕ) → begin_from text at < length text → placed_at text at ≡ (begin_from text at, word_from text at) ∷ placed_at text (end_from text at)
+pub found_at : (text : List ℕ) (at : ℕ) → begin_from text at < length text
+    → placed_at text at ≡ (begin_from text at, word_from text at) ∷ placed_at text (end_from text at)
 found_at text at less =
     let begin = begin_from text at in
     let n = position_or_len is_blank (drop begin text) in

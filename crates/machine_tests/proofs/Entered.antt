@@ -14,5 +14,6 @@ pub entered : (old new : EnclaveTable) (id : ℕ) (entering : Entering) → Ente
 entered old new id entering by =
     let e : Enclave = by.turned.0 in
     let running : Enclave = record e { state = Running } in
-    let place : enclave_at new.enclaves id ≡ Some running = ap (λ t. enclave_at t.enclaves id) by.turned.2 ∙ set_same old.enclaves id (Some running) (live_above old.enclaves id e by.turned.1) (live_inside old.enclaves id e by.turned.1) in
+    let place : enclave_at new.enclaves id ≡ Some running = ap (λ t. enclave_at t.enclaves id) by.turned.2
+    ∙ set_same old.enclaves id (Some running) (live_above old.enclaves id e by.turned.1) (live_inside old.enclaves id e by.turned.1) in
     (running, place, refl)

@@ -15,7 +15,8 @@ six [] a b c d e f = refl
 six (x ∷ xs) a b c d e f = ap (λ ys. x ∷ ys) (six xs a b c d e f)
 
 pub after_six : (platform : PlatformLayout) (events : List (ℕ × Event)) (replies : List Reply) (m : Machine) (a b c d e f : ℕ × Event) (r s t u v w : Reply)
-    → After platform ((((((events ++ a ∷ []) ++ b ∷ []) ++ c ∷ []) ++ d ∷ []) ++ e ∷ []) ++ f ∷ []) ((((((replies ++ r ∷ []) ++ s ∷ []) ++ t ∷ []) ++ u ∷ []) ++ v ∷ []) ++ w ∷ []) m
+    → After platform ((((((events ++ a ∷ []) ++ b ∷ []) ++ c ∷ []) ++ d ∷ []) ++ e ∷ []) ++ f ∷ [])
+    ((((((replies ++ r ∷ []) ++ s ∷ []) ++ t ∷ []) ++ u ∷ []) ++ v ∷ []) ++ w ∷ []) m
     → After platform (events ++ a ∷ (b ∷ (c ∷ (d ∷ (e ∷ (f ∷ [])))))) (replies ++ r ∷ (s ∷ (t ∷ (u ∷ (v ∷ (w ∷ [])))))) m
 after_six platform events replies m a b c d e f r s t u v w after =
     subst (λ rs. After platform (events ++ a ∷ (b ∷ (c ∷ (d ∷ (e ∷ (f ∷ [])))))) rs m) (six replies r s t u v w)

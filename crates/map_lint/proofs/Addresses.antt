@@ -1,5 +1,6 @@
 -- An address as it is printed reads as its number.
-use Rattle.std.proofs.Common.{◌≡◌, ◌∙◌, ℕ, zero, suc, ◌+◌, ◌*◌, ◌/◌, ◌%◌, ◌^◌, ◌<◌, ◌==◌, ◌&&◌, Bool, true, false, if◌then◌else◌, List, [], ◌∷◌, ◌++◌, length, Option, Some, None, ap, arith, inl, inr, refl, sym, fold}
+use Rattle.std.proofs.Common.{◌≡◌, ◌∙◌, ℕ, zero, suc, ◌+◌, ◌*◌, ◌/◌, ◌%◌, ◌^◌, ◌<◌, ◌==◌, ◌&&◌, Bool, true, false, if◌then◌else◌, List, [], ◌∷◌, ◌++◌, length}
+use Rattle.std.proofs.Common.{Option, Some, None, ap, arith, inl, inr, refl, sym, fold}
 use Rattle.std.specs.Prelude.{codes, nat_lt}
 use Rattle.std.specs.List.{list_all}
 use Rattle.std.proofs.lemmas.Bool.{and_from, cases_Bool}
@@ -60,7 +61,8 @@ without_numeral [] some all = absurd (omega (arith, some))
 without_numeral (d ∷ []) some all = all
 without_numeral (d ∷ n ∷ digits) some all =
     elim (cases_Bool (d == 48)) [
-      | inl is ↦ ap (λ b. is_numeral 16 (if b then without_zeros (n ∷ digits) else d ∷ n ∷ digits)) is ∙ without_numeral (n ∷ digits) (omega arith) (tail_digits d (n ∷ digits) all)
+      | inl is ↦ ap (λ b. is_numeral 16 (if b then without_zeros (n ∷ digits) else d ∷ n ∷ digits)) is
+          ∙ without_numeral (n ∷ digits) (omega arith) (tail_digits d (n ∷ digits) all)
       | inr other ↦ ap (λ b. is_numeral 16 (if b then without_zeros (n ∷ digits) else d ∷ n ∷ digits)) other ∙ and_from _ _ (counts d n digits) all
     ]
 
@@ -72,5 +74,6 @@ read_as digits n numeral value low =
 pub reads_address : (n : ℕ) → n < 2 ^ 64 → number_of (address_text n) ≡ Some n
 unfolding address_text
 reads_address n low =
-    read_as (without_zeros (hex 16 n)) n (without_numeral (hex 16 n) (let sixteen : 0 < length (hex 16 n) = grind (arith, common_steps) in sixteen) (hex_digits 16 n))
+    read_as (without_zeros (hex 16 n)) n (without_numeral (hex 16 n) (let sixteen : 0 < length (hex 16 n) = grind (arith, common_steps) in sixteen)
+    (hex_digits 16 n))
     (without_value (hex 16 n) ∙ hex_value 16 n (let h : n < 2 ^ 64 = low in h)) low

@@ -6,7 +6,8 @@ use Rattle.map_lint.specs.declared.idle.Numbered.{Numbered}
 use Rattle.map_lint.specs.Settings.{IsAllowedOn, IsDeniedOn, IsSaidAnyway, SetTo, allowed, denied}
 
 pub said_by :
-    (kept : List Numbered) (setting : Run) (before : List Run) (b : Bool) → SetTo [] kept before → setting.perm ≡ NoAccess → (b ≡ true → IsDeniedOn before setting)
+    (kept : List Numbered) (setting : Run) (before : List Run) (b : Bool) → SetTo [] kept before → setting.perm ≡ NoAccess
+    → (b ≡ true → IsDeniedOn before setting)
     → (b ≡ false → IsAllowedOn before setting) → IsSaidAnyway kept setting b
 said_by kept setting before true set none d a = denied before set none (d refl)
 said_by kept setting before false set none d a = allowed before set (a refl)

@@ -1,5 +1,6 @@
 -- The mends of the numbers of a line.
-use Rattle.std.proofs.Common.{◌≡◌, ◌≢◌, ◌↔◌, ◌∙◌, ℕ, ◌+◌, ◌-◌, ◌*◌, ◌/◌, ◌%◌, ◌^◌, ◌<◌, ◌≤◌, ◌==◌, ◌||◌, ◌&&◌, not, nat_lt, nat_le, if◌then◌else◌, Bool, true, false, List, [], ◌∷◌, ◌++◌, Option, Some, None, ap, arith, inl, inr, refl, sym}
+use Rattle.std.proofs.Common.{◌≡◌, ◌≢◌, ◌↔◌, ◌∙◌, ℕ, ◌+◌, ◌-◌, ◌*◌, ◌/◌, ◌%◌, ◌^◌, ◌<◌, ◌≤◌, ◌==◌, ◌||◌, ◌&&◌, not, nat_lt, nat_le, if◌then◌else◌, Bool, true}
+use Rattle.std.proofs.Common.{false, List, [], ◌∷◌, ◌++◌, Option, Some, None, ap, arith, inl, inr, refl, sym}
 use Rattle.std.specs.Prelude.{codes, is_none}
 use Rattle.std.specs.Option.{option_and_then}
 use Rattle.std.proofs.lemmas.Bool.{cases_Bool}
@@ -41,7 +42,8 @@ pub mends : MendsHold
 mends = record {
   base_digits = λ n bytes perm is. past_base n bytes perm (grind (arith, nat_tests, common_steps)) (grind (arith, nat_tests, common_steps));
   base_page = λ first bytes perm low. past_base (first - first % 4096) bytes perm (omega (arith, low)) (page_is first);
-  base_pages = λ first bytes perm low. past_size (first - first % 4096) (whole_bytes (first % 4096 + bytes)) perm (omega (arith, low)) (page_is first) (whole_is (first % 4096 + bytes));
+  base_pages = λ first bytes perm low. past_size (first - first % 4096) (whole_bytes (first % 4096 + bytes)) perm (omega (arith, low)) (page_is first)
+      (whole_is (first % 4096 + bytes));
   size_digits = λ first n perm low whole is. past_size first n perm (grind (arith, nat_tests, common_steps)) whole (grind (arith, nat_tests, common_steps));
   size_pages = λ first bytes perm whole low. past_size first (whole_bytes bytes) perm (omega (arith, low, whole)) whole (whole_is bytes);
   size_most = λ first perm low whole. past_size first (2 ^ 56 - first) perm (omega (arith, low)) whole (omega (arith, low, whole));
@@ -65,10 +67,13 @@ names true true true = (codes " is not written so; ", codes "rwx", refl, λ h. c
 abbrev set_from : ℕ → ℕ → Option Perm → Option Run
 set_from first bytes perm = option_and_then (λ page. option_and_then (λ count. option_and_then (setting_on page count) perm) (pages_of bytes)) (pages_of first)
 
-read : (base size perm : List ℕ) (first bytes : ℕ) → number_of base ≡ Some first → number_of size ≡ Some bytes → setting_of (base ∷ size ∷ perm ∷ []) ≡ set_from first bytes (permission_of perm)
+read : (base size perm : List ℕ) (first bytes : ℕ) → number_of base ≡ Some first → number_of size ≡ Some bytes
+    → setting_of (base ∷ size ∷ perm ∷ []) ≡ set_from first bytes (permission_of perm)
 read base size perm first bytes is_base is_size =
-    ap (λ b. option_and_then (λ page. option_and_then (λ count. option_and_then (setting_on page count) (permission_of perm)) (pages_in size)) (option_and_then pages_of b)) is_base
-    ∙ ap (λ s. option_and_then (λ page. option_and_then (λ count. option_and_then (setting_on page count) (permission_of perm)) (option_and_then pages_of s)) (pages_of first)) is_size
+    ap (λ b. option_and_then (λ page. option_and_then (λ count. option_and_then (setting_on page count) (permission_of perm)) (pages_in size))
+    (option_and_then pages_of b)) is_base
+    ∙ ap (λ s. option_and_then (λ page. option_and_then (λ count. option_and_then (setting_on page count) (permission_of perm)) (option_and_then pages_of s))
+    (pages_of first)) is_size
 
 no_pages : (n : ℕ) → (n % 4096 == 0) ≡ false → pages_of n ≡ None
 no_pages n is = ap (λ b. if b then Some (n / 4096) else None) is
@@ -81,7 +86,8 @@ nothing None y = refl
 nothing (Some page) None = refl
 nothing (Some page) (Some count) = refl
 
-without_count : (x : Option ℕ) (perm : Option Perm) → option_and_then (λ page. option_and_then (λ count. option_and_then (setting_on page count) perm) None) x ≡ None
+without_count : (x : Option ℕ) (perm : Option Perm) → option_and_then (λ page. option_and_then (λ count. option_and_then (setting_on page count) perm) None) x
+    ≡ None
 without_count None perm = refl
 without_count (Some page) perm = refl
 
@@ -94,10 +100,12 @@ at_base first bytes perm is = grind (arith, nat_tests, common_steps)
 at_size : (first bytes : ℕ) (perm : Option Perm) → (bytes % 4096 == 0) ≡ false → first_fault first bytes perm < 3
 at_size first bytes perm is = grind (arith, nat_tests, common_steps)
 
-at_end : (first bytes : ℕ) (perm : Perm) → (first % 4096 == 0) ≡ true → (bytes % 4096 == 0) ≡ true → nat_le (first / 4096 + bytes / 4096) (2 ^ 44) ≡ false → first_fault first bytes (Some perm) < 3
+at_end : (first bytes : ℕ) (perm : Perm) → (first % 4096 == 0) ≡ true → (bytes % 4096 == 0) ≡ true → nat_le (first / 4096 + bytes / 4096) (2 ^ 44) ≡ false
+    → first_fault first bytes (Some perm) < 3
 at_end first bytes perm whole full past = grind (arith, nat_tests, common_steps)
 
-right_line : (first bytes : ℕ) (perm : Perm) → (first % 4096 == 0) ≡ true → (bytes % 4096 == 0) ≡ true → nat_le (first / 4096 + bytes / 4096) (2 ^ 44) ≡ true → first_fault first bytes (Some perm) ≡ 3
+right_line : (first bytes : ℕ) (perm : Perm) → (first % 4096 == 0) ≡ true → (bytes % 4096 == 0) ≡ true → nat_le (first / 4096 + bytes / 4096) (2 ^ 44) ≡ true
+    → first_fault first bytes (Some perm) ≡ 3
 right_line first bytes perm whole full inside = grind (arith, nat_tests, common_steps)
 
 decided : (first bytes : ℕ) (perm : Option Perm) → (set_from first bytes perm ≡ None) ↔ (first_fault first bytes perm < 3)
@@ -106,15 +114,18 @@ decided first bytes (Some perm) =
     elim (cases_Bool (first % 4096 == 0)) [
       | inr whole_not ↦ (
         λ h. at_base first bytes (Some perm) whole_not,
-        λ h. ap (option_and_then (λ page. option_and_then (λ count. option_and_then (setting_on page count) (Some perm)) (pages_of bytes))) (no_pages first whole_not),
+        λ h. ap (option_and_then (λ page. option_and_then (λ count. option_and_then (setting_on page count) (Some perm)) (pages_of bytes)))
+            (no_pages first whole_not),
       )
       | inl whole ↦ elim (cases_Bool (bytes % 4096 == 0)) [
         | inr full_not ↦ (
           λ h. at_size first bytes (Some perm) full_not,
-          λ h. ap (λ y. option_and_then (λ page. option_and_then (λ count. option_and_then (setting_on page count) (Some perm)) y) (pages_of first)) (no_pages bytes full_not) ∙ without_count (pages_of first) (Some perm),
+          λ h. ap (λ y. option_and_then (λ page. option_and_then (λ count. option_and_then (setting_on page count) (Some perm)) y) (pages_of first))
+              (no_pages bytes full_not) ∙ without_count (pages_of first) (Some perm),
         )
         | inl full ↦ let set : set_from first bytes (Some perm) ≡ setting_on (first / 4096) (bytes / 4096) perm =
-            ap (option_and_then (λ page. option_and_then (λ count. option_and_then (setting_on page count) (Some perm)) (pages_of bytes))) (some_pages first whole)
+            ap (option_and_then (λ page. option_and_then (λ count. option_and_then (setting_on page count) (Some perm)) (pages_of bytes)))
+            (some_pages first whole)
             ∙ ap (option_and_then (λ count. option_and_then (setting_on (first / 4096) count) (Some perm))) (some_pages bytes full) in
             let run : Run = record { first = first / 4096; count = bytes / 4096; perm = perm } in
             elim (cases_Bool (nat_le (first / 4096 + bytes / 4096) (2 ^ 44))) [

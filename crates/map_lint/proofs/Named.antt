@@ -12,12 +12,14 @@ rest_from i settings = grind (arith, common_steps)
 
 pub name_it :
     (whole : List Run) (kept settings : List Numbered) (i : ℕ) (d : Numbered) (named : List Named) (left : List Numbered) (anyway : Bool) → i < length settings
-    → IsSaidAnyway kept (get_or settings i d).setting anyway → SetTo [] (kept ++ drop (i + 1) settings) whole → AreNamed whole kept (drop (i + 1) settings) named left
+    → IsSaidAnyway kept (get_or settings i d).setting anyway → SetTo [] (kept ++ drop (i + 1) settings) whole
+    → AreNamed whole kept (drop (i + 1) settings) named left
     → AreNamed whole kept (drop i settings) (record { line = (get_or settings i d).line; anyway = anyway } ∷ named) left
 name_it whole kept settings i d named left anyway less said set are = rw (drop_more settings i d less) (idle (get_or settings i d) anyway said set are)
 
 pub keep_it :
-    (whole : List Run) (kept settings : List Numbered) (i : ℕ) (d : Numbered) (named : List Named) (left : List Numbered) → i < length settings → LeadElsewhere (kept ++ drop (i + 1) settings) whole
+    (whole : List Run) (kept settings : List Numbered) (i : ℕ) (d : Numbered) (named : List Named) (left : List Numbered) → i < length settings
+    → LeadElsewhere (kept ++ drop (i + 1) settings) whole
     → AreNamed whole (kept ++ get_or settings i d ∷ []) (drop (i + 1) settings) named left → AreNamed whole kept (drop i settings) named left
 keep_it whole kept settings i d named left less elsewhere are = rw (drop_more settings i d less) (needed (get_or settings i d) elsewhere are)
 
@@ -25,4 +27,5 @@ pub move_it :
     (whole : List Run) (kept settings : List Numbered) (i : ℕ) (d : Numbered) → i < length settings → SetTo [] (kept ++ drop i settings) whole
     → SetTo [] ((kept ++ get_or settings i d ∷ []) ++ drop (i + 1) settings) whole
 move_it whole kept settings i d less set =
-    subst (λ xs. SetTo [] xs whole) (ap (λ xs. kept ++ xs) (drop_more settings i d less) ∙ sym (append_assoc kept (get_or settings i d ∷ []) (drop (i + 1) settings))) set
+    subst (λ xs. SetTo [] xs whole) (ap (λ xs. kept ++ xs) (drop_more settings i d less)
+    ∙ sym (append_assoc kept (get_or settings i d ∷ []) (drop (i + 1) settings))) set

@@ -15,7 +15,9 @@ short_says raw text short is = rw (le-leb (length raw) 1023 short.1) (ap line_sa
 pub long_says : (raw : List ℕ) → 1024 ≤ length raw → raw_says raw ≡ None
 long_says raw long = grind (arith, nat_tests, common_steps, long)
 
-pub fault_at : (bytes : List ℕ) (n : ℕ) (fault : List Run → Option (Option Run) → Type 0) (before : List (List ℕ)) (raw : List ℕ) (rest left : List (List ℕ)) (map : List Run) → raw_lines bytes ≡ before ++ left → left ≡ raw ∷ rest → length before + 1 ≡ n → LeadTo [] before map → fault map (raw_says raw) → FaultAt bytes n fault
+pub fault_at : (bytes : List ℕ) (n : ℕ) (fault : List Run → Option (Option Run) → Type 0) (before : List (List ℕ)) (raw : List ℕ) (rest left : List (List ℕ))
+    (map : List Run) → raw_lines bytes ≡ before ++ left → left ≡ raw ∷ rest → length before + 1 ≡ n → LeadTo [] before map → fault map (raw_says raw)
+    → FaultAt bytes n fault
 fault_at bytes n fault before raw rest left map lines first number made here = record {
   before = before;
   raw = raw;

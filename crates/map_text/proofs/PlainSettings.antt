@@ -37,10 +37,12 @@ perm_split Execute = refl
 perm_split ReadExecute = refl
 perm_split ReadWriteExecute = refl
 
-line_words : (base size : List ℕ) (p : Perm) → list_all is_letter (marked base) ≡ true → list_all is_letter (marked size) ≡ true → words_of (marked base ++ 32 ∷ (marked size ++ 32 ∷ perm_word p)) ≡ Some (marked base ∷ marked size ∷ perm_word p ∷ [])
+line_words : (base size : List ℕ) (p : Perm) → list_all is_letter (marked base) ≡ true → list_all is_letter (marked size) ≡ true
+    → words_of (marked base ++ 32 ∷ (marked size ++ 32 ∷ perm_word p)) ≡ Some (marked base ∷ marked size ∷ perm_word p ∷ [])
 line_words base size p low high =
     let line = marked base ++ 32 ∷ (marked size ++ 32 ∷ perm_word p) in
-    let plain : list_all is_plain line ≡ true = letters_plain (marked base) (32 ∷ (marked size ++ 32 ∷ perm_word p)) low (letters_plain (marked size) (32 ∷ perm_word p) high (perm_plain p)) in
+    let plain : list_all is_plain line ≡ true = letters_plain (marked base) (32 ∷ (marked size ++ 32 ∷ perm_word p)) low
+    (letters_plain (marked size) (32 ∷ perm_word p) high (perm_plain p)) in
     sym (plain_words line plain)
     ∙ ap (λ ws. Some ws)
     (letters_split 48 (120 ∷ base) (marked size ++ 32 ∷ perm_word p) low
@@ -48,7 +50,8 @@ line_words base size p low high =
 
 -- what such a line sets
 plain_says :
-    (base size word : List ℕ) (from bytes first count : ℕ) (p : Perm) (setting : Run) → numeral_of 16 base ≡ Some from → numeral_of 16 size ≡ Some bytes → Some first ≡ pages_of from → Some count ≡ pages_of bytes → perm_word p ≡ word → Some p ≡ permission_of word → Some setting ≡ setting_on first count p
+    (base size word : List ℕ) (from bytes first count : ℕ) (p : Perm) (setting : Run) → numeral_of 16 base ≡ Some from → numeral_of 16 size ≡ Some bytes
+    → Some first ≡ pages_of from → Some count ≡ pages_of bytes → perm_word p ≡ word → Some p ≡ permission_of word → Some setting ≡ setting_on first count p
     → line_says (marked base ++ 32 ∷ (marked size ++ 32 ∷ word)) ≡ Some (Some setting)
 plain_says base size word from bytes first count p setting eb es fb fs ew ep is =
     let words : words_of (marked base ++ 32 ∷ (marked size ++ 32 ∷ word)) ≡ Some (marked base ∷ marked size ∷ word ∷ []) =
@@ -56,7 +59,9 @@ plain_says base size word from bytes first count p setting eb es fb fs ew ep is 
     rw (words, marked_pages base from first eb fb, marked_pages size bytes count es fs, ← ep, ← is) refl
 
 pub plain_says-if :
-    (base size word : List ℕ) (from bytes first count : ℕ) (p : Perm) (result : Option Run) → numeral_of 16 base ≡ Some from → numeral_of 16 size ≡ Some bytes → Some first ≡ pages_of from → Some count ≡ pages_of bytes → perm_word p ≡ word → Some p ≡ permission_of word → result ≡ setting_on first count p
+    (base size word : List ℕ) (from bytes first count : ℕ) (p : Perm) (result : Option Run) → numeral_of 16 base ≡ Some from → numeral_of 16 size ≡ Some bytes
+    → Some first ≡ pages_of from → Some count ≡ pages_of bytes → perm_word p ≡ word → Some p ≡ permission_of word → result ≡ setting_on first count p
     → IfSome result (λ setting. line_says (marked base ++ 32 ∷ (marked size ++ 32 ∷ word)) ≡ Some (Some setting))
 plain_says-if base size word from bytes first count p None eb es fb fs ew ep is = tt
-plain_says-if base size word from bytes first count p (Some setting) eb es fb fs ew ep is = plain_says base size word from bytes first count p setting eb es fb fs ew ep is
+plain_says-if base size word from bytes first count p (Some setting) eb es fb fs ew ep is = plain_says base size word from bytes first count p setting eb es fb
+    fs ew ep is

@@ -7,7 +7,8 @@ use Rattle.printed_lines.specs.Texts.{entry_text}
 use Rattle.printed_lines.specs.Plans.{entries_text}
 
 -- the lines of entries, and of others after them
-pub entries_text-append : (xlen : Xlen) (k : ℕ) (xs ys : List Entry) → entries_text xlen k (xs ++ ys) ≡ entries_text xlen k xs ++ entries_text xlen (k + length xs) ys
+pub entries_text-append : (xlen : Xlen) (k : ℕ) (xs ys : List Entry) → entries_text xlen k (xs ++ ys) ≡ entries_text xlen k xs ++ entries_text xlen
+    (k + length xs) ys
 entries_text-append xlen k [] ys = let e : k + 0 ≡ k = omega arith in ap (λ i. entries_text xlen i ys) (sym e)
 entries_text-append xlen k (x ∷ xs) ys =
     let line = entry_text xlen k (cfg_of x) (address_of x) in

@@ -12,11 +12,14 @@ entry_at : (entries : List Entry) (i : ℕ) (entry : Entry) → i < length entri
 entry_at entries i entry h is = rw add-one (drop-cons entries i entry h ∙ ap (λ x. x ∷ drop (suc i) entries) (sym is))
 
 -- the line of entry i, which stands at k, and the lines after it
-pub entries_text-first : (xlen : Xlen) (k : ℕ) (entries : List Entry) (i : ℕ) (entry : Entry) → i < length entries → entry ≡ get_or entries i entry → entries_text xlen k (drop i entries) ≡ entry_text xlen k (cfg_of entry) (address_of entry) ++ entries_text xlen (k + 1) (drop (i + 1) entries)
+pub entries_text-first : (xlen : Xlen) (k : ℕ) (entries : List Entry) (i : ℕ) (entry : Entry) → i < length entries → entry ≡ get_or entries i entry
+    → entries_text xlen k (drop i entries) ≡ entry_text xlen k (cfg_of entry) (address_of entry) ++ entries_text xlen (k + 1) (drop (i + 1) entries)
 entries_text-first xlen k entries i entry h is = ap (entries_text xlen k) (entry_at entries i entry h is)
 
 -- the line of word i, and the lines after it
-pub words_text-first : (xlen : Xlen) (first : ℕ) (entries : List Entry) (i count : ℕ) → i < count → words_text xlen first entries i (count - i) ≡ word_text xlen (word_number xlen i) (word_from xlen first entries i) ++ words_text xlen first entries (i + 1) (count - (i + 1))
+pub words_text-first : (xlen : Xlen) (first : ℕ) (entries : List Entry) (i count : ℕ) → i < count
+    → words_text xlen first entries i (count - i) ≡ word_text xlen (word_number xlen i) (word_from xlen first entries i) ++ words_text xlen first entries
+    (i + 1) (count - (i + 1))
 words_text-first xlen first entries i count h = let e : count - i ≡ suc (count - (i + 1)) = omega arith in ap (words_text xlen first entries i) e
 
 -- the pieces of a line, after what stood before them

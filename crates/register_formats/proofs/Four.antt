@@ -32,7 +32,8 @@ in_third contents failures stalls a b c d {s = s} {t = t} {u = u} {v = v} p q r 
     (breaks_after contents failures stalls {old = t} {mid = u} {new = v} q (breaks_before contents failures stalls {old = u} {new = v} d r))
 
 pub in_fourth :
-    {W : Type 0} (contents : W → Option (List ℕ)) (failures stalls : W → ℕ) (a b c d : List ℕ) {s t u v w : W} → TakesAll a (writing contents failures stalls s t)
+    {W : Type 0} (contents : W → Option (List ℕ)) (failures stalls : W → ℕ) (a b c d : List ℕ) {s t u v w : W}
+    → TakesAll a (writing contents failures stalls s t)
     → TakesAll b (writing contents failures stalls t u) → TakesAll c (writing contents failures stalls u v) → Breaks d (writing contents failures stalls v w)
     → Breaks (a ++ (b ++ (c ++ d))) (writing contents failures stalls s w)
 in_fourth contents failures stalls a b c d {s = s} {t = t} {u = u} {v = v} {w = w} p q r z =

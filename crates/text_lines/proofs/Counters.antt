@@ -1,5 +1,6 @@
 -- From the digits of a number to those of the next one.
-use Rattle.std.proofs.Common.{◌≡◌, ◌∙◌, ℕ, ◌+◌, ◌/◌, ◌%◌, ◌^◌, ◌<◌, ◌≤◌, ⊎_elim, List, [], ◌∷◌, ◌++◌, length, length-append, length-take-le, take, drop, get_or, slice_set, zero, suc, ◌-◌, decimal, ap, ap₂, refl, sym, arith}
+use Rattle.std.proofs.Common.{◌≡◌, ◌∙◌, ℕ, ◌+◌, ◌/◌, ◌%◌, ◌^◌, ◌<◌, ◌≤◌, ⊎_elim, List, [], ◌∷◌, ◌++◌, length, length-append, length-take-le, take, drop, get_or}
+use Rattle.std.proofs.Common.{slice_set, zero, suc, ◌-◌, decimal, ap, ap₂, refl, sym, arith}
 use Rattle.std.proofs.Math.Seq.{take-append_seam}
 use Rattle.std.proofs.lemmas.Bool.{cases_lt}
 use Rattle.std.proofs.lemmas.Fmt.{decimal_digit, decimal_step}
@@ -65,7 +66,8 @@ front_of_nine xs last n is nine some fits =
     (cases_lt n 10)
 
 -- a last nine becomes a zero where the digit before it is below nine and is raised
-pub carried : (xs : List ℕ) (len last n : ℕ) → take len xs ++ last ∷ [] ≡ decimal n → 57 ≤ last → 0 < len → len ≤ length xs → get_or xs (len - 1) 0 < 57 → n + 1 < 2 ^ 64 → take len (slice_set xs (len - 1) (get_or xs (len - 1) 0 + 1)) ++ 48 ∷ [] ≡ decimal (n + 1)
+pub carried : (xs : List ℕ) (len last n : ℕ) → take len xs ++ last ∷ [] ≡ decimal n → 57 ≤ last → 0 < len → len ≤ length xs → get_or xs (len - 1) 0 < 57
+    → n + 1 < 2 ^ 64 → take len (slice_set xs (len - 1) (get_or xs (len - 1) 0 + 1)) ++ 48 ∷ [] ≡ decimal (n + 1)
 carried xs zero last n is nine some inside low fits = absurd (omega (arith, some))
 carried xs (suc k) last n is nine some inside low fits =
     let place : suc k - 1 ≡ k = omega arith in
@@ -73,11 +75,15 @@ carried xs (suc k) last n is nine some inside low fits =
     let room : k < length xs = omega (arith, inside) in
     let tenth = front_of_nine (take (suc k) xs) last n is nine (omega (arith, length-take-le (suc k) xs inside)) (omega (arith, fits)) in
     let next : (n + 1) / 10 ≡ n / 10 + 1 = omega (arith, tenth.1) in
-    let more : take k xs ++ (get_or xs k 0 + 1) ∷ [] ≡ decimal (n / 10 + 1) = raised (take k xs) (get_or xs k 0) (n / 10) (sym (last_taken xs k room) ∙ tenth.0) low (omega (arith, fits)) in
+    let more : take k xs ++ (get_or xs k 0 + 1) ∷ [] ≡ decimal (n / 10 + 1) = raised (take k xs) (get_or xs k 0) (n / 10)
+    (sym (last_taken xs k room) ∙ tenth.0) low (omega (arith, fits)) in
     let digit : 48 + (n + 1) % 10 ≡ 48 = omega (arith, tenth.1) in
-    rw place (ap (λ l. l ++ 48 ∷ []) (last_put xs k (get_or xs k 0 + 1) room ∙ more ∙ ap decimal (sym next)) ∙ ap (λ d. decimal ((n + 1) / 10) ++ d ∷ []) (sym digit) ∙ sym (long_front (n + 1) (omega (arith, tenth.1)) fits))
+    rw place (ap (λ l. l ++ 48 ∷ []) (last_put xs k (get_or xs k 0 + 1) room ∙ more ∙ ap decimal (sym next))
+    ∙ ap (λ d. decimal ((n + 1) / 10) ++ d ∷ []) (sym digit) ∙ sym (long_front (n + 1) (omega (arith, tenth.1)) fits))
 
 -- all but the last digit of a long number stand at the front of a buffer
-pub long_digits : (front rest : List ℕ) (len n : ℕ) → length front ≡ len → front ≡ decimal (n / 10) → 10 ≤ n → n < 2 ^ 64 → take len (front ++ rest) ++ (48 + n % 10) ∷ [] ≡ decimal n
+pub long_digits : (front rest : List ℕ) (len n : ℕ) → length front ≡ len → front ≡ decimal (n / 10) → 10 ≤ n → n < 2 ^ 64
+    → take len (front ++ rest) ++ (48 + n % 10) ∷ [] ≡ decimal n
 long_digits front rest len n long is large fits =
-    ap (λ k. take k (front ++ rest) ++ (48 + n % 10) ∷ []) (sym long) ∙ ap (λ l. l ++ (48 + n % 10) ∷ []) (take-append_seam front rest ∙ is) ∙ sym (long_front n large fits)
+    ap (λ k. take k (front ++ rest) ++ (48 + n % 10) ∷ []) (sym long) ∙ ap (λ l. l ++ (48 + n % 10) ∷ []) (take-append_seam front rest ∙ is)
+    ∙ sym (long_front n large fits)

@@ -1,5 +1,6 @@
 -- Numbers written in decimal, two digits at a time.
-use Rattle.std.proofs.Common.{◌≡◌, ℕ, zero, suc, ◌+◌, ◌-◌, ◌*◌, ◌/◌, ◌%◌, ◌^◌, ◌<◌, ◌≤◌, ◌∙◌, Bool, true, ◌&&◌, T, eqb, eqb→eq, List, [], ◌∷◌, ◌++◌, get_or, eq-zero-or-pos, inl, inr, ap, sym, append_assoc, arith}
+use Rattle.std.proofs.Common.{◌≡◌, ℕ, zero, suc, ◌+◌, ◌-◌, ◌*◌, ◌/◌, ◌%◌, ◌^◌, ◌<◌, ◌≤◌, ◌∙◌, Bool, true, ◌&&◌, T, eqb, eqb→eq, List, [], ◌∷◌, ◌++◌, get_or}
+use Rattle.std.proofs.Common.{eq-zero-or-pos, inl, inr, ap, sym, append_assoc, arith}
 use lib.Ieee.Fits.{and_l, and_r}
 use Rattle.std.specs.Prelude.{decimal}
 use Rattle.itoa.proofs.Decimal.{decimal_pair, decimal_four}
@@ -22,14 +23,16 @@ PAIRS_at : (p : ℕ) → p < 100 → (get_or PAIRS (p * 2) 0 ≡ 48 + p / 10) ×
 PAIRS_at p h = below 100 p tt h
 
 -- the digits of a pair, as the table has them
-pub pair_put : (before between after : List ℕ) (p : ℕ) → p < 100 → between ≡ before ++ get_or PAIRS (p * 2) 0 ∷ [] → after ≡ between ++ get_or PAIRS (p * 2 + 1) 0 ∷ [] → after ≡ before ++ (48 + p / 10) ∷ (48 + p % 10) ∷ []
+pub pair_put : (before between after : List ℕ) (p : ℕ) → p < 100 → between ≡ before ++ get_or PAIRS (p * 2) 0 ∷ []
+    → after ≡ between ++ get_or PAIRS (p * 2 + 1) 0 ∷ [] → after ≡ before ++ (48 + p / 10) ∷ (48 + p % 10) ∷ []
 pair_put before between after p small one two =
     let digits = PAIRS_at p small in
     two ∙ ap (λ xs. xs ++ get_or PAIRS (p * 2 + 1) 0 ∷ []) one ∙ append_assoc before (get_or PAIRS (p * 2) 0 ∷ []) (get_or PAIRS (p * 2 + 1) 0 ∷ [])
     ∙ ap (λ d. before ++ d ∷ get_or PAIRS (p * 2 + 1) 0 ∷ []) digits.0 ∙ ap (λ d. before ++ (48 + p / 10) ∷ d ∷ []) digits.1
 
 -- a pair after a number
-pub short_put : (before between after : List ℕ) (n : ℕ) → 100 ≤ n → n < 2 ^ 64 → between ≡ before ++ decimal (n / 100) → after ≡ between ++ (48 + n % 100 / 10) ∷ (48 + n % 100 % 10) ∷ [] → after ≡ before ++ decimal n
+pub short_put : (before between after : List ℕ) (n : ℕ) → 100 ≤ n → n < 2 ^ 64 → between ≡ before ++ decimal (n / 100)
+    → after ≡ between ++ (48 + n % 100 / 10) ∷ (48 + n % 100 % 10) ∷ [] → after ≡ before ++ decimal n
 short_put before between after n large fits one two =
     let pair = (48 + n % 100 / 10) ∷ (48 + n % 100 % 10) ∷ [] in
     two ∙ ap (λ xs. xs ++ pair) one ∙ append_assoc before (decimal (n / 100)) pair ∙ ap (λ xs. before ++ xs) (sym (decimal_pair n large fits))

@@ -1,5 +1,6 @@
 -- Hexadecimal digits written from the last to the first.
-use Rattle.std.proofs.Common.{ℕ, zero, suc, ◌≡◌, ◌∙◌, ◌-◌, ◌/◌, ◌%◌, ◌<◌, ◌≤◌, List, [], ◌∷◌, ◌++◌, length, take, drop, slice_set, ap, sym, refl, append_assoc, arith}
+use Rattle.std.proofs.Common.{ℕ, zero, suc, ◌≡◌, ◌∙◌, ◌-◌, ◌/◌, ◌%◌, ◌<◌, ◌≤◌, List, [], ◌∷◌, ◌++◌, length, take, drop, slice_set, ap, sym, refl, append_assoc}
+use Rattle.std.proofs.Common.{arith}
 use Rattle.text_lines.specs.Written.{hex, hex_digit}
 
 -- a byte put before those that are written
@@ -9,7 +10,8 @@ put_before (x ∷ text) zero k b inside room = absurd (omega (arith, inside))
 put_before (x ∷ text) (suc n) zero b inside room = refl
 put_before (x ∷ text) (suc n) (suc k) b inside room = put_before text n k b (omega (arith, inside)) (omega (arith, room))
 
-pub digit_put : (text whole : List ℕ) (n at left b : ℕ) → 0 < at → at ≤ n → n ≤ length text → b ≡ hex_digit (left % 16) → hex at left ++ drop at (take n text) ≡ whole → hex (at - 1) (left / 16) ++ drop (at - 1) (take n (slice_set text (at - 1) b)) ≡ whole
+pub digit_put : (text whole : List ℕ) (n at left b : ℕ) → 0 < at → at ≤ n → n ≤ length text → b ≡ hex_digit (left % 16)
+    → hex at left ++ drop at (take n text) ≡ whole → hex (at - 1) (left / 16) ++ drop (at - 1) (take n (slice_set text (at - 1) b)) ≡ whole
 digit_put text whole n zero left b some inside room is done = absurd (omega (arith, some))
 digit_put text whole n (suc k) left b some inside room is done =
     let before : suc k - 1 ≡ k = omega arith in

@@ -1,5 +1,6 @@
 -- Words of letters: bytes that may stand outside a comment, begin none and are no blanks. Digits are letters.
-use Rattle.std.proofs.Common.{◌≡◌, ◌∙◌, ℕ, ◌^◌, ◌≤◌, Bool, true, false, not, ◌&&◌, List, [], ◌∷◌, ◌++◌, length, Some, None, cond, refl, ap, sym, arith, append-nil}
+use Rattle.std.proofs.Common.{◌≡◌, ◌∙◌, ℕ, ◌^◌, ◌≤◌, Bool, true, false, not, ◌&&◌, List, [], ◌∷◌, ◌++◌, length, Some, None, cond, refl, ap, sym, arith}
+use Rattle.std.proofs.Common.{append-nil}
 use Rattle.std.specs.Prelude.{nat_lt}
 use Rattle.std.specs.List.{list_all}
 use Rattle.std.proofs.lemmas.Bool.{and_parts, and_from, lt-ltb, ltb-true}
@@ -26,7 +27,8 @@ digits_letters base (b ∷ digits) few h =
 pub numeral_digits : (base : ℕ) (digits : List ℕ) (value : ℕ) → numeral_of base digits ≡ Some value → list_all (λ b. nat_lt (digit_of b) base) digits ≡ true
 numeral_digits base digits value h = by_test (is_numeral base digits) (nat_lt (value_of base digits) (2 ^ 64)) refl h
   where
-    by_test : (t u : Bool) → is_numeral base digits ≡ t → cond (t && u) (Some (value_of base digits)) None ≡ Some value → list_all (λ b. nat_lt (digit_of b) base) digits ≡ true
+    by_test : (t u : Bool) → is_numeral base digits ≡ t → cond (t && u) (Some (value_of base digits)) None ≡ Some value
+        → list_all (λ b. nat_lt (digit_of b) base) digits ≡ true
     by_test true u e k = (and_parts (nat_lt 0 (length digits)) (list_all (λ b. nat_lt (digit_of b) base) digits) e).1
     by_test false u e k = cc
 

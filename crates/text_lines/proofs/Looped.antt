@@ -1,5 +1,6 @@
 -- How far the lines of an input have been interpreted.
-use Rattle.std.proofs.Common.{◌≡◌, inl, inr, ℕ, ◌+◌, ◌<◌, ◌≤◌, ◌^◌, ◌⊎◌, ◌∙◌, Bool, true, false, List, [], ◌∷◌, ◌++◌, length, take, Option, None, Some, Result, Ok, Err, refl, ap, sym, arith, length-append, append_assoc, append-nil}
+use Rattle.std.proofs.Common.{◌≡◌, inl, inr, ℕ, ◌+◌, ◌<◌, ◌≤◌, ◌^◌, ◌⊎◌, ◌∙◌, Bool, true, false, List, [], ◌∷◌, ◌++◌, length, take, Option, None, Some, Result}
+use Rattle.std.proofs.Common.{Ok, Err, refl, ap, sym, arith, length-append, append_assoc, append-nil}
 use Rattle.std.specs.List.{concat}
 use Rattle.std.specs.Io.KnownBytes.{Appends, Consumes, IsAtEnd, Keeps}
 use Rattle.std.proofs.KnownBytes.{Appends-nil, Appends-trans, Consumes-nil, Consumes-trans}
@@ -13,11 +14,13 @@ use Rattle.text_lines.specs.declared.fault.RunFault.TheVariants.{Line, TooLong, 
 use Rattle.text_lines.specs.Faults.{run_fault}
 use Rattle.text_lines.specs.Lines.{has_no_end, AreLines, IsShortLine, without_return}
 use Rattle.text_lines.specs.LineReaders.{line_of, pending_of, number_of, came_of, most_of, ended_of, NextLine}
-use Rattle.text_lines.specs.LineLoop.{Meaning, Does, counted, told, ended, Stands, DoesAll, DoesLines, ComesTo, StopsAt, StopsForMemory, StopsReading, StopsTooLong, StopsWriting}
+use Rattle.text_lines.specs.LineLoop.{Meaning, Does, counted, told, ended, Stands, DoesAll, DoesLines, ComesTo, StopsAt, StopsForMemory, StopsReading}
+use Rattle.text_lines.specs.LineLoop.{StopsTooLong, StopsWriting}
 use Rattle.text_lines.specs.LineLoop.{none, silent, answer}
 
 -- the lines that were handed out are interpreted, and what came after them is held
-pub record Progress {size : ℕ} {S : Type 0} (does : Meaning S) (old now : S) (reader : LineReader size) (count : ℕ) (before after held holds : Option (List ℕ)) : Type 0 where
+pub record Progress {size : ℕ} {S : Type 0} (does : Meaning S) (old now : S) (reader : LineReader size) (count : ℕ)
+    (before after held holds : Option (List ℕ)) : Type 0 where
   pub lines : List (List ℕ)
   pub answers : List (List ℕ)
   pub done : Does does old lines answers now
@@ -35,9 +38,20 @@ stays (Some xs) (Some ys) None text w k = absurd k
 stays (Some xs) (Some ys) (Some zs) text w k = k ∙ w
 
 -- the same where the sink handed on what it held
-pub still : {size : ℕ} {S : Type 0} (does : Meaning S) (old now : S) (reader : LineReader size) (count : ℕ) (before after held holds keeps : Option (List ℕ)) → Progress does old now reader count before after held holds → Keeps holds keeps → Progress does old now reader count before after held keeps
+pub still : {size : ℕ} {S : Type 0} (does : Meaning S) (old now : S) (reader : LineReader size) (count : ℕ) (before after held holds keeps : Option (List ℕ))
+    → Progress does old now reader count before after held holds → Keeps holds keeps → Progress does old now reader count before after held keeps
 still does old now reader count before after held holds keeps p k =
-    record { lines = p.lines; answers = p.answers; done = p.done; count_is = p.count_is; number = p.number; consumed = p.consumed; came = p.came; written = stays held holds keeps _ p.written k }
+    record {
+      lines = p.lines;
+      answers = p.answers;
+      done = p.done;
+      count_is = p.count_is;
+      number = p.number;
+      consumed = p.consumed;
+      came = p.came;
+      written =
+          stays held holds keeps _ p.written k;
+    }
 
 -- no line has an LF in it
 abbrev NoEnds : List (List ℕ) → Type 0
@@ -60,7 +74,8 @@ ended-snoc (first ∷ lines) line = ap (λ xs. first ++ 10 ∷ xs) (ended-snoc l
 -- one line more, and what stands after its LF
 ended-rest : (lines : List (List ℕ)) (line rest : List ℕ) → ended lines ++ (line ++ 10 ∷ rest) ≡ ended (lines ++ line ∷ []) ++ rest
 ended-rest lines line rest =
-    sym (ap (λ xs. xs ++ rest) (ended-snoc lines line) ∙ append_assoc (ended lines) (line ++ 10 ∷ []) rest ∙ ap (λ xs. ended lines ++ xs) (append_assoc line (10 ∷ []) rest))
+    sym (ap (λ xs. xs ++ rest) (ended-snoc lines line) ∙ append_assoc (ended lines) (line ++ 10 ∷ []) rest
+    ∙ ap (λ xs. ended lines ++ xs) (append_assoc line (10 ∷ []) rest))
 
 -- lines with their LFs, and the lines of what stands after them
 are_lines : (lines : List (List ℕ)) (rest : List ℕ) (tail : List (List ℕ)) → NoEnds lines → AreLines rest tail → AreLines (ended lines ++ rest) (lines ++ tail)
@@ -71,13 +86,15 @@ are_lines (line ∷ lines) rest tail h a = (h.0, ended lines ++ rest, inl (appen
 concat-snoc : (answers : List (List ℕ)) (text : List ℕ) → concat (answers ++ text ∷ []) ≡ concat answers ++ text
 concat-snoc answers text = concat-append answers (text ∷ []) ∙ ap (λ xs. concat answers ++ xs) (append-nil text)
 
-gathered : (before now middle after : Option (List ℕ)) (e p bytes beyond : List ℕ) → Consumes before now (e ++ p) → Consumes now middle bytes → Consumes middle after beyond → Consumes before after ((e ++ (p ++ bytes)) ++ beyond)
+gathered : (before now middle after : Option (List ℕ)) (e p bytes beyond : List ℕ) → Consumes before now (e ++ p) → Consumes now middle bytes
+    → Consumes middle after beyond → Consumes before after ((e ++ (p ++ bytes)) ++ beyond)
 gathered before now middle after e p bytes beyond a b c =
     let ab : Consumes before middle (e ++ (p ++ bytes)) = rw (← append_assoc e p bytes) (Consumes-trans before now middle (e ++ p) bytes a b) in
     Consumes-trans before middle after (e ++ (p ++ bytes)) beyond ab c
 
 -- the same where no byte came beyond the limit
-gathered_all : (before now middle after : Option (List ℕ)) (e p bytes beyond : List ℕ) → Consumes before now (e ++ p) → Consumes now middle bytes → Consumes middle after beyond → beyond ≡ [] → Consumes before after (e ++ (p ++ bytes))
+gathered_all : (before now middle after : Option (List ℕ)) (e p bytes beyond : List ℕ) → Consumes before now (e ++ p) → Consumes now middle bytes
+    → Consumes middle after beyond → beyond ≡ [] → Consumes before after (e ++ (p ++ bytes))
 gathered_all before now middle after e p bytes beyond a b c nothing_more =
     let all : Consumes before after ((e ++ (p ++ bytes)) ++ []) = rw (← nothing_more) (gathered before now middle after e p bytes beyond a b c) in
     rw (← append-nil (e ++ (p ++ bytes))) all
@@ -95,11 +112,13 @@ few_as : (n : ℕ) (xs : List ℕ) → n ≡ length xs → n ≤ 2 ^ 40 → leng
 few_as n xs e h = omega (arith, e, h)
 
 -- no more came than may
-pub few_by : {size : ℕ} (reader next : LineReader size) → came_of next ≤ most_of next → most_of next ≡ most_of reader → most_of reader ≡ 2 ^ 40 → came_of next ≤ 2 ^ 40
+pub few_by : {size : ℕ} (reader next : LineReader size) → came_of next ≤ most_of next → most_of next ≡ most_of reader → most_of reader ≡ 2 ^ 40
+    → came_of next ≤ 2 ^ 40
 few_by reader next few same limit = omega (arith, few, same, limit)
 
 -- a line was handed out after those that are interpreted
-pub record Handed {size : ℕ} {S : Type 0} (does : Meaning S) (old now : S) (reader : LineReader size) (count : ℕ) (before after held holds : Option (List ℕ)) : Type 0 where
+pub record Handed {size : ℕ} {S : Type 0} (does : Meaning S) (old now : S) (reader : LineReader size) (count : ℕ)
+    (before after held holds : Option (List ℕ)) : Type 0 where
   pub lines : List (List ℕ)
   pub answers : List (List ℕ)
   pub done : Does does old lines answers now
@@ -113,9 +132,12 @@ pub record Handed {size : ℕ} {S : Type 0} (does : Meaning S) (old now : S) (re
   pub consumed : Consumes before after (ended lines ++ bytes)
   pub came : came_of reader ≡ length (ended lines ++ bytes)
   pub few : came_of reader ≤ 2 ^ 40
-  pub ends : ((bytes ≡ line ++ 10 ∷ pending_of reader) × (ended_of reader ≡ false)) ⊎ ((0 < length line) × (bytes ≡ line) × (pending_of reader ≡ []) × IsAtEnd after × (ended_of reader ≡ true))
+  pub ends : ((bytes ≡ line ++ 10 ∷ pending_of reader) × (ended_of reader ≡ false))
+      ⊎ ((0 < length line) × (bytes ≡ line) × (pending_of reader ≡ []) × IsAtEnd after × (ended_of reader ≡ true))
 
-pub hands : {size : ℕ} {S : Type 0} (does : Meaning S) (old now : S) (reader next : LineReader size) (count : ℕ) (before middle after held holds : Option (List ℕ)) → Progress does old now reader count before middle held holds → NextLine (Ok true) reader next middle after → came_of next ≤ 2 ^ 40 → Handed does old now next count before after held holds
+pub hands : {size : ℕ} {S : Type 0} (does : Meaning S) (old now : S) (reader next : LineReader size) (count : ℕ)
+    (before middle after held holds : Option (List ℕ)) → Progress does old now reader count before middle held holds
+    → NextLine (Ok true) reader next middle after → came_of next ≤ 2 ^ 40 → Handed does old now next count before after held holds
 hands does old now reader next count before middle after held holds p n few = record {
   lines = p.lines;
   answers = p.answers;
@@ -140,20 +162,36 @@ pub record Grown {S : Type 0} (does : Meaning S) (old new : S) (lines answers : 
   pub count : length all ≡ counted (length answers) said
   pub text : concat all ≡ concat answers ++ told said
 
-grown : {S : Type 0} (does : Meaning S) (old now new : S) (lines answers : List (List ℕ)) (line : List ℕ) (said : Option (List ℕ)) → Does does old lines answers now → IsShortLine line → does now (length answers) (without_return line) said new → Grown does old new lines answers line said
-grown does old now new lines answers line None done short is = record { all = answers; done = silent done line short new is; count = refl; text = sym (append-nil (concat answers)) }
-grown does old now new lines answers line (Some text) done short is = record { all = answers ++ text ∷ []; done = answer done line short new text is; count = length-append answers (text ∷ []); text = concat-snoc answers text }
+grown : {S : Type 0} (does : Meaning S) (old now new : S) (lines answers : List (List ℕ)) (line : List ℕ) (said : Option (List ℕ))
+    → Does does old lines answers now → IsShortLine line → does now (length answers) (without_return line) said new → Grown does old new lines answers line said
+grown does old now new lines answers line None done short is = record {
+  all = answers;
+  done = silent done line short new is;
+  count = refl;
+  text = sym
+      (append-nil (concat answers));
+}
+grown does old now new lines answers line (Some text) done short is = record
+    { all = answers ++ text ∷ []; done = answer done line short new text is; count = length-append answers (text ∷ []); text = concat-snoc answers text }
 
 -- the line that was handed out, interpreted
-handed_grown : {size : ℕ} {S : Type 0} (does : Meaning S) (old now new : S) (reader : LineReader size) (count : ℕ) (before after held holds : Option (List ℕ)) (h : Handed does old now reader count before after held holds) (said : Option (List ℕ)) → does now count (line_of reader) said new → Grown does old new h.lines h.answers h.line said
-handed_grown does old now new reader count before after held holds h said is = grown does old now new h.lines h.answers h.line said h.done h.short (rw (h.count_is, h.is_text) at is)
+handed_grown : {size : ℕ} {S : Type 0} (does : Meaning S) (old now new : S) (reader : LineReader size) (count : ℕ) (before after held holds : Option (List ℕ))
+    (h : Handed does old now reader count before after held holds) (said : Option (List ℕ)) → does now count (line_of reader) said new
+    → Grown does old new h.lines h.answers h.line said
+handed_grown does old now new reader count before after held holds h said is = grown does old now new h.lines h.answers h.line said h.done h.short
+    (rw (h.count_is, h.is_text) at is)
 
 -- what came, with the LF of the line that was handed out
-parted : {size : ℕ} {S : Type 0} (does : Meaning S) (old now : S) (reader : LineReader size) (count : ℕ) (before after held holds : Option (List ℕ)) (h : Handed does old now reader count before after held holds) → h.bytes ≡ h.line ++ 10 ∷ pending_of reader → ended h.lines ++ h.bytes ≡ ended (h.lines ++ h.line ∷ []) ++ pending_of reader
+parted : {size : ℕ} {S : Type 0} (does : Meaning S) (old now : S) (reader : LineReader size) (count : ℕ) (before after held holds : Option (List ℕ))
+    (h : Handed does old now reader count before after held holds) → h.bytes ≡ h.line ++ 10 ∷ pending_of reader
+    → ended h.lines ++ h.bytes ≡ ended (h.lines ++ h.line ∷ []) ++ pending_of reader
 parted does old now reader count before after held holds h e = ap (λ xs. ended h.lines ++ xs) e ∙ ended-rest h.lines h.line (pending_of reader)
 
 -- a line that its LF ended is interpreted and answered, and the next may come
-pub goes_on : {size : ℕ} {S : Type 0} (does : Meaning S) (old now new : S) (reader : LineReader size) (count : ℕ) (before after held middle holds : Option (List ℕ)) (h : Handed does old now reader count before after held middle) (said : Option (List ℕ)) → does now count (line_of reader) said new → Appends middle holds (told said) → ended_of reader ≡ false → Progress does old new reader (counted count said) before after held holds
+pub goes_on : {size : ℕ} {S : Type 0} (does : Meaning S) (old now new : S) (reader : LineReader size) (count : ℕ)
+    (before after held middle holds : Option (List ℕ)) (h : Handed does old now reader count before after held middle) (said : Option (List ℕ))
+    → does now count (line_of reader) said new → Appends middle holds (told said) → ended_of reader ≡ false
+    → Progress does old new reader (counted count said) before after held holds
 goes_on does old now new reader count before after held middle holds h said is w unclosed =
     let g = handed_grown does old now new reader count before after held middle h said is in
     elim h.ends [
@@ -171,7 +209,9 @@ goes_on does old now new reader count before after held middle holds h said is w
     ]
 
 -- the last line is interpreted and answered
-pub ends : {size : ℕ} {S : Type 0} (does : Meaning S) (old now new : S) (reader : LineReader size) (count : ℕ) (before after held middle holds : Option (List ℕ)) (h : Handed does old now reader count before after held middle) (said : Option (List ℕ)) → does now count (line_of reader) said new → Appends middle holds (told said) → ended_of reader ≡ true → DoesAll does old new before after held holds
+pub ends : {size : ℕ} {S : Type 0} (does : Meaning S) (old now new : S) (reader : LineReader size) (count : ℕ)
+    (before after held middle holds : Option (List ℕ)) (h : Handed does old now reader count before after held middle) (said : Option (List ℕ))
+    → does now count (line_of reader) said new → Appends middle holds (told said) → ended_of reader ≡ true → DoesAll does old new before after held holds
 ends does old now new reader count before after held middle holds h said is w closed =
     let g = handed_grown does old now new reader count before after held middle h said is in
     elim h.ends [
@@ -190,7 +230,9 @@ ends does old now new reader count before after held middle holds h said is w cl
     ]
 
 -- no line is left
-pub finishes : {size : ℕ} {S : Type 0} (does : Meaning S) (old now : S) (reader next : LineReader size) (count : ℕ) (before middle after held holds : Option (List ℕ)) → Progress does old now reader count before middle held holds → NextLine (Ok false) reader next middle after → came_of next ≤ 2 ^ 40 → DoesAll does old now before after held holds
+pub finishes : {size : ℕ} {S : Type 0} (does : Meaning S) (old now : S) (reader next : LineReader size) (count : ℕ)
+    (before middle after held holds : Option (List ℕ)) → Progress does old now reader count before middle held holds
+    → NextLine (Ok false) reader next middle after → came_of next ≤ 2 ^ 40 → DoesAll does old now before after held holds
 finishes does old now reader next count before middle after held holds p n few =
     let all = gathered_all before middle n.2 after (ended p.lines) (pending_of reader) n.0 n.1 p.consumed n.3.consumed n.4 n.5 in
     let same = ap (λ xs. ended p.lines ++ xs) n.6.0 in
@@ -207,7 +249,10 @@ finishes does old now reader next count before middle after held holds p n few =
     }
 
 -- what was read before a fault
-read_before : {size : ℕ} {S : Type 0} (does : Meaning S) (old now : S) (reader next : LineReader size) (count : ℕ) (before middle read after held holds : Option (List ℕ)) (bytes beyond : List ℕ) (p : Progress does old now reader count before middle held holds) → Consumes middle read bytes → Consumes read after beyond → beyond ≡ [] → DoesLines does old now before after held holds p.lines (pending_of reader ++ bytes)
+read_before : {size : ℕ} {S : Type 0} (does : Meaning S) (old now : S) (reader next : LineReader size) (count : ℕ)
+    (before middle read after held holds : Option (List ℕ)) (bytes beyond : List ℕ) (p : Progress does old now reader count before middle held holds)
+    → Consumes middle read bytes → Consumes read after beyond → beyond ≡ []
+    → DoesLines does old now before after held holds p.lines (pending_of reader ++ bytes)
 read_before does old now reader next count before middle read after held holds bytes beyond p a b e = record {
   answers = p.answers;
   done = p.done;
@@ -216,7 +261,9 @@ read_before does old now reader next count before middle read after held holds b
 }
 
 -- a line is too long
-pub stops_long : {size : ℕ} {S : Type 0} (does : Meaning S) (refuses : S → List ℕ → Type 0) (old now : S) (reader next : LineReader size) (count m : ℕ) (before middle after held holds : Option (List ℕ)) → Progress does old now reader count before middle held holds → NextLine (Err (LongLine m)) reader next middle after → came_of next ≤ 2 ^ 40 → StopsAt m does refuses old now before after held holds
+pub stops_long : {size : ℕ} {S : Type 0} (does : Meaning S) (refuses : S → List ℕ → Type 0) (old now : S) (reader next : LineReader size) (count m : ℕ)
+    (before middle after held holds : Option (List ℕ)) → Progress does old now reader count before middle held holds
+    → NextLine (Err (LongLine m)) reader next middle after → came_of next ≤ 2 ^ 40 → StopsAt m does refuses old now before after held holds
 stops_long does refuses old now reader next count m before middle after held holds p n few = record {
   lines = p.lines;
   bytes = pending_of reader ++ n.0;
@@ -227,7 +274,9 @@ stops_long does refuses old now reader next count m before middle after held hol
 }
 
 -- a byte came after the limit
-pub stops_past : {size : ℕ} {S : Type 0} (does : Meaning S) (old now : S) (reader next : LineReader size) (count : ℕ) (before middle after held holds : Option (List ℕ)) → Progress does old now reader count before middle held holds → NextLine (Err TooManyBytes) reader next middle after → most_of reader ≡ 2 ^ 40 → StopsTooLong does old now before after held holds
+pub stops_past : {size : ℕ} {S : Type 0} (does : Meaning S) (old now : S) (reader next : LineReader size) (count : ℕ)
+    (before middle after held holds : Option (List ℕ)) → Progress does old now reader count before middle held holds
+    → NextLine (Err TooManyBytes) reader next middle after → most_of reader ≡ 2 ^ 40 → StopsTooLong does old now before after held holds
 stops_past does old now reader next count before middle after held holds p n limit = record {
   lines = p.lines;
   bytes = pending_of reader ++ n.0;
@@ -235,7 +284,8 @@ stops_past does old now reader next count before middle after held holds p n lim
   before_it = record {
     answers = p.answers;
     done = p.done;
-    consumed = consumed_as before after _ _ (append_assoc (ended p.lines) (pending_of reader ++ n.0) n.1) (gathered before middle n.2 after (ended p.lines) (pending_of reader) n.0 n.1 p.consumed n.3.consumed n.4);
+    consumed = consumed_as before after _ _ (append_assoc (ended p.lines) (pending_of reader ++ n.0) n.1)
+        (gathered before middle n.2 after (ended p.lines) (pending_of reader) n.0 n.1 p.consumed n.3.consumed n.4);
     written = p.written;
   };
   unended = n.6.1;
@@ -244,7 +294,9 @@ stops_past does old now reader next count before middle after held holds p n lim
 }
 
 -- the source failed
-pub stops_reading : {size : ℕ} {S : Type 0} (does : Meaning S) (old now : S) (reader next : LineReader size) (count : ℕ) (before middle after held holds : Option (List ℕ)) → Progress does old now reader count before middle held holds → NextLine (Err Device) reader next middle after → came_of next ≤ 2 ^ 40 → StopsReading does old now before after held holds
+pub stops_reading : {size : ℕ} {S : Type 0} (does : Meaning S) (old now : S) (reader next : LineReader size) (count : ℕ)
+    (before middle after held holds : Option (List ℕ)) → Progress does old now reader count before middle held holds
+    → NextLine (Err Device) reader next middle after → came_of next ≤ 2 ^ 40 → StopsReading does old now before after held holds
 stops_reading does old now reader next count before middle after held holds p n few = record {
   lines = p.lines;
   bytes = pending_of reader ++ n.0;
@@ -254,11 +306,14 @@ stops_reading does old now reader next count before middle after held holds p n 
 }
 
 -- the line stands where it was handed out
-stands : {size : ℕ} {S : Type 0} (does : Meaning S) (old now : S) (reader : LineReader size) (count : ℕ) (before after held holds : Option (List ℕ)) (h : Handed does old now reader count before after held holds) → Stands h.bytes after h.line
+stands : {size : ℕ} {S : Type 0} (does : Meaning S) (old now : S) (reader : LineReader size) (count : ℕ) (before after held holds : Option (List ℕ))
+    (h : Handed does old now reader count before after held holds) → Stands h.bytes after h.line
 stands does old now reader count before after held holds h = elim h.ends [ inl p ↦ inl (pending_of reader, p.0) | inr p ↦ inr (p.0, p.1, p.3) ]
 
 -- a line is not understood
-pub stops_at : {size : ℕ} {S : Type 0} (does : Meaning S) (refuses : S → List ℕ → Type 0) (old now : S) (reader : LineReader size) (count : ℕ) (before after held holds : Option (List ℕ)) (h : Handed does old now reader count before after held holds) → refuses now (line_of reader) → StopsAt (number_of reader) does refuses old now before after held holds
+pub stops_at : {size : ℕ} {S : Type 0} (does : Meaning S) (refuses : S → List ℕ → Type 0) (old now : S) (reader : LineReader size) (count : ℕ)
+    (before after held holds : Option (List ℕ)) (h : Handed does old now reader count before after held holds) → refuses now (line_of reader)
+    → StopsAt (number_of reader) does refuses old now before after held holds
 stops_at does refuses old now reader count before after held holds h e = record {
   lines = h.lines;
   bytes = h.bytes;
@@ -268,7 +323,8 @@ stops_at does refuses old now reader count before after held holds h e = record 
   refused = inr (h.line, h.short, stands does old now reader count before after held holds h, rw h.is_text at e);
 }
 
-comes_to : {size : ℕ} {S : Type 0} (does : Meaning S) (old now : S) (reader : LineReader size) (count : ℕ) (before after held holds : Option (List ℕ)) (h : Handed does old now reader count before after held holds) → ComesTo does old now before after h.answers h.line
+comes_to : {size : ℕ} {S : Type 0} (does : Meaning S) (old now : S) (reader : LineReader size) (count : ℕ) (before after held holds : Option (List ℕ))
+    (h : Handed does old now reader count before after held holds) → ComesTo does old now before after h.answers h.line
 comes_to does old now reader count before after held holds h = record {
   lines = h.lines;
   bytes = h.bytes;
@@ -290,7 +346,10 @@ part_of None old new part = absurd (none_less part.0 part.1)
 part_of (Some text) old new part = (text, part.0, refl, part.1, part.2)
 
 -- an answer was written in part
-pub stops_writing : {size : ℕ} {S : Type 0} (does : Meaning S) (old now new : S) (reader : LineReader size) (count : ℕ) (before after held middle holds : Option (List ℕ)) (h : Handed does old now reader count before after held middle) (said : Option (List ℕ)) (text : List ℕ) (part : ℕ) → does now count (line_of reader) said new → said ≡ Some text → part < length text → Appends middle holds (take part text) → StopsWriting does old new before after held holds
+pub stops_writing : {size : ℕ} {S : Type 0} (does : Meaning S) (old now new : S) (reader : LineReader size) (count : ℕ)
+    (before after held middle holds : Option (List ℕ)) (h : Handed does old now reader count before after held middle) (said : Option (List ℕ)) (text : List ℕ)
+    (part : ℕ) → does now count (line_of reader) said new → said ≡ Some text → part < length text → Appends middle holds (take part text)
+    → StopsWriting does old new before after held holds
 stops_writing does old now new reader count before after held middle holds h said text part is e less w = record {
   now = now;
   answers = h.answers;
@@ -304,7 +363,9 @@ stops_writing does old now new reader count before after held middle holds h sai
 }
 
 -- memory was refused
-pub stops_for_memory : {size : ℕ} {S : Type 0} (does : Meaning S) (starves : S → List ℕ → S → Type 0) (old now new : S) (reader : LineReader size) (count : ℕ) (before after held holds : Option (List ℕ)) (h : Handed does old now reader count before after held holds) → starves now (line_of reader) new → StopsForMemory does starves old new before after held holds
+pub stops_for_memory : {size : ℕ} {S : Type 0} (does : Meaning S) (starves : S → List ℕ → S → Type 0) (old now new : S) (reader : LineReader size) (count : ℕ)
+    (before after held holds : Option (List ℕ)) (h : Handed does old now reader count before after held holds) → starves now (line_of reader) new
+    → StopsForMemory does starves old new before after held holds
 stops_for_memory does starves old now new reader count before after held holds h e = record {
   now = now;
   answers = h.answers;
@@ -315,7 +376,8 @@ stops_for_memory does starves old now new reader count before after held holds h
 }
 
 -- nothing has come and nothing was written
-pub begins : {size : ℕ} {S : Type 0} (does : Meaning S) (old : S) (reader : LineReader size) (before held : Option (List ℕ)) → pending_of reader ≡ [] → number_of reader ≡ 0 → came_of reader ≡ 0 → Progress does old old reader 0 before before held held
+pub begins : {size : ℕ} {S : Type 0} (does : Meaning S) (old : S) (reader : LineReader size) (before held : Option (List ℕ)) → pending_of reader ≡ []
+    → number_of reader ≡ 0 → came_of reader ≡ 0 → Progress does old old reader 0 before before held held
 begins does old reader before held pending number came = record {
   lines = [];
   answers = [];

@@ -33,7 +33,8 @@ and_again true b c = refl
 and_again false b c = refl
 
 -- one more element of a list passes a test, or it does not
-pub one_tested : (p : ℕ → Bool) (xs : List ℕ) (i d : ℕ) (all t whole : Bool) → i < length xs → t ≡ p (get_or xs i d) → (all && list_all p (drop i xs)) ≡ whole → ((all && t) && list_all p (drop (i + 1) xs)) ≡ whole
+pub one_tested : (p : ℕ → Bool) (xs : List ℕ) (i d : ℕ) (all t whole : Bool) → i < length xs → t ≡ p (get_or xs i d) → (all && list_all p (drop i xs)) ≡ whole
+    → ((all && t) && list_all p (drop (i + 1) xs)) ≡ whole
 one_tested p xs i d all t whole inside is before =
     and_again all t (list_all p (drop (i + 1) xs))
     ∙ ap (λ u. all && (u && list_all p (drop (i + 1) xs))) is

@@ -9,7 +9,8 @@ use Rattle.text_lines.specs.Words.{joined, split_by}
 one_more : (n : ℕ) → 1 + n ≡ suc n
 one_more n = omega arith
 
-skipped : (p : ℕ → Bool) (b : ℕ) (bytes : List ℕ) (t : Bool) → p b ≡ t → split_by p (drop (prefix_len p bytes) bytes) ≡ split_by p bytes → split_by p (drop (prefix_len p (b ∷ bytes)) (b ∷ bytes)) ≡ split_by p (b ∷ bytes)
+skipped : (p : ℕ → Bool) (b : ℕ) (bytes : List ℕ) (t : Bool) → p b ≡ t → split_by p (drop (prefix_len p bytes) bytes) ≡ split_by p bytes
+    → split_by p (drop (prefix_len p (b ∷ bytes)) (b ∷ bytes)) ≡ split_by p (b ∷ bytes)
 skipped p b bytes true h e = rw (h, one_more (prefix_len p bytes)) e
 skipped p b bytes false h e = rw h (cond-false (p b) (split_by p bytes) (joined p b bytes (split_by p bytes)) h)
 
@@ -27,7 +28,9 @@ joined_alone p b next rest (word ∷ words) h = rw h refl
 abbrev pub behind : (ℕ → Bool) → List ℕ → List ℕ
 behind p bytes = drop (position_or_len p bytes) bytes
 
-word_joined : (p : ℕ → Bool) (b c : ℕ) (bytes : List ℕ) (t : Bool) → p c ≡ t → (p c ≡ false → split_by p (c ∷ bytes) ≡ (c ∷ before_first p bytes) ∷ split_by p (behind p bytes)) → joined p b (c ∷ bytes) (split_by p (c ∷ bytes)) ≡ (b ∷ before_first p (c ∷ bytes)) ∷ split_by p (behind p (c ∷ bytes))
+word_joined : (p : ℕ → Bool) (b c : ℕ) (bytes : List ℕ) (t : Bool) → p c ≡ t
+    → (p c ≡ false → split_by p (c ∷ bytes) ≡ (c ∷ before_first p bytes) ∷ split_by p (behind p bytes))
+    → joined p b (c ∷ bytes) (split_by p (c ∷ bytes)) ≡ (b ∷ before_first p (c ∷ bytes)) ∷ split_by p (behind p (c ∷ bytes))
 word_joined p b c bytes true h e = joined_alone p b c bytes (split_by p (c ∷ bytes)) h ∙ rw (h, h) refl
 word_joined p b c bytes false h e = ap (joined p b (c ∷ bytes)) (e h) ∙ rw (h, one_more (position_or_len p bytes)) refl
 
@@ -37,7 +40,8 @@ split_by-word p b [] h = rw h refl
 split_by-word p b (c ∷ bytes) h = rw h (word_joined p b c bytes (p c) refl (split_by-word p c bytes))
 
 -- a text that does not begin with a blank
-pub first_word : (p : ℕ → Bool) (text : List ℕ) → 0 < length text → p (get_or text 0 0) ≡ false → split_by p text ≡ before_first p text ∷ split_by p (behind p text)
+pub first_word : (p : ℕ → Bool) (text : List ℕ) → 0 < length text → p (get_or text 0 0) ≡ false
+    → split_by p text ≡ before_first p text ∷ split_by p (behind p text)
 first_word p [] h f = absurd (omega arith)
 first_word p (b ∷ bytes) h f = split_by-word p b bytes f ∙ rw (f, one_more (position_or_len p bytes)) refl
 
@@ -58,7 +62,8 @@ pub only_blanks : (p : ℕ → Bool) (text rest : List ℕ) → rest ≡ drop (p
 only_blanks p text rest e h = sym (split_by-blanks p text) ∙ ap (split_by p) (sym e) ∙ nothing_split p rest h
 
 -- the first word is after the blanks, and the other words after it
-pub next_word_is : (p : ℕ → Bool) (text rest : List ℕ) (n : ℕ) → rest ≡ drop (prefix_len p text) text → (length rest ≡ 0 → ⊥) → n ≡ position_or_len p rest → split_by p text ≡ take n rest ∷ split_by p (drop n rest)
+pub next_word_is : (p : ℕ → Bool) (text rest : List ℕ) (n : ℕ) → rest ≡ drop (prefix_len p text) text → (length rest ≡ 0 → ⊥) → n ≡ position_or_len p rest
+    → split_by p text ≡ take n rest ∷ split_by p (drop n rest)
 next_word_is p text rest n e h f =
     let some : 0 < length rest = omega arith in
     let begun : p (get_or rest 0 0) ≡ false = rw e (begins_word p text (rw (← e) some)) in

@@ -23,5 +23,7 @@ first_lanes before digits = pick_l 0 (before ++ digits) (0 ∷ 1 ∷ 2 ∷ 3 ∷
 abbrev second_lanes : List ℕ → List ℕ
 second_lanes digits = pick_l 0 (digits ++ replicate 16 10) (10 ∷ 11 ∷ 12 ∷ 13 ∷ 14 ∷ 15 ∷ 16 ∷ 17 ∷ 18 ∷ 19 ∷ 20 ∷ 21 ∷ 22 ∷ 23 ∷ 24 ∷ 25 ∷ [])
 
-pub lanes_are : (before : List ℕ) (v : ℕ) → length before ≡ 16 → take 16 (first_lanes before (hex 16 v)) ++ take 7 (second_lanes (hex 16 v)) ≡ take 6 before ++ hex 16 v ++ 10 ∷ []
-lanes_are before v long = subst (λ (xs : List ℕ). take 16 (first_lanes xs (hex 16 v)) ++ take 7 (second_lanes (hex 16 v)) ≡ take 6 xs ++ hex 16 v ++ 10 ∷ []) (listed_is 16 before long) refl
+pub lanes_are : (before : List ℕ) (v : ℕ) → length before ≡ 16 → take 16 (first_lanes before (hex 16 v)) ++ take 7
+    (second_lanes (hex 16 v)) ≡ take 6 before ++ hex 16 v ++ 10 ∷ []
+lanes_are before v long = subst (λ (xs : List ℕ). take 16 (first_lanes xs (hex 16 v)) ++ take 7 (second_lanes (hex 16 v)) ≡ take 6 xs ++ hex 16 v ++ 10 ∷ [])
+    (listed_is 16 before long) refl

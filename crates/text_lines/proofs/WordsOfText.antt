@@ -14,23 +14,29 @@ one_letter : (p : ℕ → Bool) (b : ℕ) → p b ≡ false → IsWord p (b ∷ 
 one_letter p b letter = (omega arith, and_from _ _ (not_from_false _ letter) refl)
 
 -- a byte more at the front of the first word
-longer : (p : ℕ → Bool) (b next : ℕ) (rest word blanks after : List ℕ) (words : List (List ℕ)) → p b ≡ false → p next ≡ false → IsWord p word → list_all p blanks ≡ true → EndsWord p after → next ∷ rest ≡ blanks ++ (word ++ after) → HasWords p after words → HasWords p (b ∷ next ∷ rest) ((b ∷ word) ∷ words)
-longer p b next rest word [] after words letter also is blank ends e more = ((omega arith, and_from _ _ (not_from_false _ letter) is.1), [], after, refl, ends, ap (λ xs. b ∷ xs) e, more)
+longer : (p : ℕ → Bool) (b next : ℕ) (rest word blanks after : List ℕ) (words : List (List ℕ)) → p b ≡ false → p next ≡ false → IsWord p word
+    → list_all p blanks ≡ true → EndsWord p after → next ∷ rest ≡ blanks ++ (word ++ after) → HasWords p after words
+    → HasWords p (b ∷ next ∷ rest) ((b ∷ word) ∷ words)
+longer p b next rest word [] after words letter also is blank ends e more =
+    ((omega arith, and_from _ _ (not_from_false _ letter) is.1), [], after, refl, ends, ap (λ xs. b ∷ xs) e, more)
 longer p b next rest word (c ∷ blanks) after words letter also is blank ends e more =
     let same : next ≡ c = cc in
     absurd (both_ways (p next) also (ap p same ∙ (and_parts (p c) (list_all p blanks) blank).0))
 
-joined_words : (p : ℕ → Bool) (b next : ℕ) (rest word : List ℕ) (words : List (List ℕ)) (t : Bool) → p next ≡ t → p b ≡ false → HasWords p (next ∷ rest) (word ∷ words) → HasWords p (b ∷ next ∷ rest) (cond t ((b ∷ []) ∷ word ∷ words) ((b ∷ word) ∷ words))
+joined_words : (p : ℕ → Bool) (b next : ℕ) (rest word : List ℕ) (words : List (List ℕ)) (t : Bool) → p next ≡ t → p b ≡ false
+    → HasWords p (next ∷ rest) (word ∷ words) → HasWords p (b ∷ next ∷ rest) (cond t ((b ∷ []) ∷ word ∷ words) ((b ∷ word) ∷ words))
 joined_words p b next rest word words true e letter h = (one_letter p b letter, [], next ∷ rest, refl, e, refl, h)
 joined_words p b next rest word words false e letter h = longer p b next rest word h.1 h.2 words letter e h.0 h.3 h.4 h.5 h.6
 
 -- a byte of a word more at the front
-HasWords-joined : (p : ℕ → Bool) (b : ℕ) (text : List ℕ) (words : List (List ℕ)) → p b ≡ false → HasWords p text words → HasWords p (b ∷ text) (joined p b text words)
+HasWords-joined : (p : ℕ → Bool) (b : ℕ) (text : List ℕ) (words : List (List ℕ)) → p b ≡ false → HasWords p text words
+    → HasWords p (b ∷ text) (joined p b text words)
 HasWords-joined p b [] words letter h = (one_letter p b letter, [], [], refl, tt, refl, h)
 HasWords-joined p b (next ∷ rest) [] letter h = (one_letter p b letter, [], next ∷ rest, refl, (and_parts (p next) (list_all p rest) h).0, refl, h)
 HasWords-joined p b (next ∷ rest) (word ∷ words) letter h = joined_words p b next rest word words (p next) refl letter h
 
-split_one : (p : ℕ → Bool) (b : ℕ) (text : List ℕ) (t : Bool) → p b ≡ t → HasWords p text (split_by p text) → HasWords p (b ∷ text) (cond t (split_by p text) (joined p b text (split_by p text)))
+split_one : (p : ℕ → Bool) (b : ℕ) (text : List ℕ) (t : Bool) → p b ≡ t → HasWords p text (split_by p text)
+    → HasWords p (b ∷ text) (cond t (split_by p text) (joined p b text (split_by p text)))
 split_one p b text true e h = HasWords-blank p b text (split_by p text) e h
 split_one p b text false e h = HasWords-joined p b text (split_by p text) e h
 
@@ -56,7 +62,8 @@ last_letter : (p : ℕ → Bool) (b : ℕ) (rest : List ℕ) → EndsWord p rest
 last_letter p b [] h = refl
 last_letter p b (c ∷ rest) h = joined_alone p b c rest (split_by p (c ∷ rest)) h
 
-word_first : (p : ℕ → Bool) (b : ℕ) (word rest : List ℕ) → p b ≡ false → list_all (λ c. not (p c)) word ≡ true → EndsWord p rest → split_by p (b ∷ word ++ rest) ≡ (b ∷ word) ∷ split_by p rest
+word_first : (p : ℕ → Bool) (b : ℕ) (word rest : List ℕ) → p b ≡ false → list_all (λ c. not (p c)) word ≡ true → EndsWord p rest
+    → split_by p (b ∷ word ++ rest) ≡ (b ∷ word) ∷ split_by p rest
 word_first p b [] rest letter all ends = cond-false (p b) (split_by p rest) (joined p b rest (split_by p rest)) letter ∙ last_letter p b rest ends
 word_first p b (c ∷ word) rest letter all ends =
     let both = and_parts (not (p c)) (list_all (λ c. not (p c)) word) all in

@@ -1,5 +1,6 @@
 -- A comment behind an answer, told of what stands behind the answer's number.
-use Rattle.std.proofs.Common.{◌≡◌, ◌∙◌, ℕ, ◌+◌, ◌-◌, ◌^◌, ◌<◌, ◌≤◌, false, List, [], ◌∷◌, ◌++◌, length, take, map, codes, decimal, suc, zero, refl, sym, ap, append_assoc, arith}
+use Rattle.std.proofs.Common.{◌≡◌, ◌∙◌, ℕ, ◌+◌, ◌-◌, ◌^◌, ◌<◌, ◌≤◌, false, List, [], ◌∷◌, ◌++◌, length, take, map, codes, decimal, suc, zero, refl, sym, ap}
+use Rattle.std.proofs.Common.{append_assoc, arith}
 use Rattle.std.specs.Prelude.{◌==◌}
 use Rattle.std.specs.List.{position_or_len}
 use Rattle.std.specs.Int.Digits.{digits_of}
@@ -43,7 +44,9 @@ explained_behind n answer comment fits few =
     let text = unended answer ++ rest in
     let room = 127 - length number in
     let all : length number + room ≡ 127 = omega (arith, few) in
-    let whole : unended (number ++ answer) ++ rest ≡ number ++ text = ap (λ l. l ++ rest) (behind_number n answer fits) ∙ append_assoc number (unended answer) rest in
-    let cut : take 127 (unended (number ++ answer) ++ rest) ≡ number ++ take room text = ap (take 127) whole ∙ ap (λ k. take k (number ++ text)) (sym all) ∙ take-append-add number text room in
+    let whole : unended (number ++ answer) ++ rest ≡ number ++ text = ap (λ l. l ++ rest) (behind_number n answer fits)
+    ∙ append_assoc number (unended answer) rest in
+    let cut : take 127 (unended (number ++ answer) ++ rest) ≡ number ++ take room text = ap (take 127) whole ∙ ap (λ k. take k (number ++ text)) (sym all)
+    ∙ take-append-add number text room in
     ap (λ l. number ++ (take room l ++ codes "\n")) (append_assoc (unended answer) (codes " # ") comment)
     ∙ sym (ap (λ l. l ++ codes "\n") cut ∙ append_assoc number (take room text) (codes "\n"))

@@ -1,5 +1,6 @@
 -- What the lines whose answers were compared come to.
-use Rattle.std.proofs.Common.{◌≡◌, ◌∙◌, ℕ, ◌+◌, ◌-◌, ◌^◌, ◌<◌, ◌≤◌, Bool, true, false, min, if◌then◌else◌, List, [], ◌∷◌, ◌++◌, length, Option, Some, None, option_map, append_assoc, length-append, refl, ap, arith, inl, inr}
+use Rattle.std.proofs.Common.{◌≡◌, ◌∙◌, ℕ, ◌+◌, ◌-◌, ◌^◌, ◌<◌, ◌≤◌, Bool, true, false, min, if◌then◌else◌, List, [], ◌∷◌, ◌++◌, length, Option, Some, None}
+use Rattle.std.proofs.Common.{option_map, append_assoc, length-append, refl, ap, arith, inl, inr}
 use Rattle.arrayvec.specs.declared.array_vec.ArrayVec.{ArrayVec}
 use Rattle.text_lines.specs.Lines.{AreLines, IsShortLine, without_return}
 use Rattle.text_lines.specs.LineLoop.{Meaning, Does, DoesAll}
@@ -15,7 +16,8 @@ text_in first = option_map (λ d. d.items) first
 
 abbrev pub comparing : {L : Type 0} → Meaning L → Meaning (Comparing L)
 comparing does = λ old n line said new.
-    does old.lines n line said new.lines × (new.number ≡ min (old.number + 1) (2 ^ 64 - 1)) × (text_in new.first ≡ first_with (text_in old.first) new.number line said)
+    does old.lines n line said new.lines × (new.number ≡ min (old.number + 1) (2 ^ 64 - 1))
+    × (text_in new.first ≡ first_with (text_in old.first) new.number line said)
 
 -- what some lines came to, by the first difference among them
 abbrev pub Found : {S : Type 0} → Meaning S → S → List (List ℕ) → List (List ℕ) → S → Option (List ℕ) → Type 0
@@ -23,11 +25,13 @@ Found does old lines answers new None = Does (agreeing does) old lines answers n
 Found does old lines answers new (Some text) = Does does old lines answers new × IsFirstDifference does old lines text
 
 -- lines that agree were interpreted
-forgotten : {S : Type 0} (does : Meaning S) {old new : S} {lines answers : List (List ℕ)} → Does (agreeing does) old lines answers new → Does does old lines answers new
+forgotten : {S : Type 0} (does : Meaning S) {old new : S} {lines answers : List (List ℕ)} → Does (agreeing does) old lines answers new
+    → Does does old lines answers new
 forgotten {S} does d = (mapped (λ (s : S). Unit {0}) (λ (s : S). s) (agreeing does) does (λ s n line said t h is. (tt, is.0)) tt d).1
 
 -- the first difference among some lines is that among them and one more
-still_first : {S : Type 0} (does : Meaning S) (old : S) (lines more : List (List ℕ)) (text : List ℕ) → IsFirstDifference does old lines text → IsFirstDifference does old (lines ++ more) text
+still_first : {S : Type 0} (does : Meaning S) (old : S) (lines more : List (List ℕ)) (text : List ℕ) → IsFirstDifference does old lines text
+    → IsFirstDifference does old (lines ++ more) text
 still_first does old lines more text d = record {
   before = d.before;
   line = d.line;
@@ -49,7 +53,8 @@ more_silent :
     → Found does old lines answers now first → does now (length answers) (without_return line) None new
     → Found does old (lines ++ line ∷ []) answers new (first_with first n (without_return line) None)
 more_silent does old now new lines answers line n None short found is = silent found line short new (is, refl)
-more_silent does old now new lines answers line n (Some text) short found is = (silent found.0 line short new is, still_first does old lines (line ∷ []) text found.1)
+more_silent does old now new lines answers line n (Some text) short found is =
+    (silent found.0 line short new is, still_first does old lines (line ∷ []) text found.1)
 
 -- one line more with an answer, before which none differs
 more_agreeing :
@@ -78,7 +83,8 @@ more_agreeing does old now new lines answers line said n false short e number fo
 
 -- one line more with an answer
 more_answered :
-    {S : Type 0} (does : Meaning S) (old now new : S) (lines answers : List (List ℕ)) (line said : List ℕ) (n : ℕ) (first : Option (List ℕ)) → IsShortLine line → n ≡ length lines + 1
+    {S : Type 0} (does : Meaning S) (old now new : S) (lines answers : List (List ℕ)) (line said : List ℕ) (n : ℕ) (first : Option (List ℕ)) → IsShortLine line
+    → n ≡ length lines + 1
     → Found does old lines answers now first → does now (length answers) (without_return line) (Some said) new
     → Found does old (lines ++ line ∷ []) (answers ++ said ∷ []) new (first_with first n (without_return line) (Some said))
 more_answered does old now new lines answers line said n None short number found is =
@@ -100,19 +106,26 @@ less_by_one n few = omega arith
 
 -- lines that were compared: their number, and the first difference among them
 pub found :
-    {L : Type 0} (does : Meaning L) {old new : Comparing L} {lines answers : List (List ℕ)} → Does (comparing does) old lines answers new → old.number ≡ 0 → text_in old.first ≡ None → length lines < 2 ^ 64
+    {L : Type 0} (does : Meaning L) {old new : Comparing L} {lines answers : List (List ℕ)} → Does (comparing does) old lines answers new → old.number ≡ 0
+    → text_in old.first ≡ None → length lines < 2 ^ 64
     → (new.number ≡ length lines) × Found does old.lines lines answers new.lines (text_in new.first)
 found does {old} none number first few = (number, rw first none)
 found does {old} (silent {lines} {answers} {mid} done line short new is) number first few =
     let less = fewer lines line few in
     let m = found does done number first (less_by_one (length lines) less) in
-    let n = next_number mid.number new.number (length lines) less m.0 is.1 in
-    (one_longer lines line new.number n, rw is.2 (more_silent does old.lines mid.lines new.lines lines answers line new.number (text_in mid.first) short m.1 is.0))
+    let n = next_number mid.number new.number (length lines) less m.0 is.1 in (
+      one_longer lines line new.number n,
+      rw is.2 (more_silent does old.lines mid.lines new.lines lines answers line new.number
+          (text_in mid.first) short m.1 is.0),
+    )
 found does {old} (answer {lines} {answers} {mid} done line short new said is) number first few =
     let less = fewer lines line few in
     let m = found does done number first (less_by_one (length lines) less) in
-    let n = next_number mid.number new.number (length lines) less m.0 is.1 in
-    (one_longer lines line new.number n, rw is.2 (more_answered does old.lines mid.lines new.lines lines answers line said new.number (text_in mid.first) short n m.1 is.0))
+    let n = next_number mid.number new.number (length lines) less m.0 is.1 in (
+      one_longer lines line new.number n,
+      rw is.2 (more_answered does old.lines mid.lines new.lines lines answers line said new.number
+          (text_in mid.first) short n m.1 is.0),
+    )
 
 -- an input has no more lines than bytes
 few_lines : (input : List ℕ) (lines : List (List ℕ)) → AreLines input lines → length lines ≤ length input
@@ -134,10 +147,35 @@ pub compared_all :
 compared_all {L} does old new before after held holds number first d =
     packed (text_in new.first) (found does d.done number first (few_enough _ _ (few_lines d.input d.lines d.are_lines) d.few)).1
   where
-    packed : (text : Option (List ℕ)) → Found does old.lines d.lines d.answers new.lines text → ComparesAll does old.lines new.lines before after held holds text
-    packed None is = record { input = d.input; lines = d.lines; answers = d.answers; consumed = d.consumed; at_end = d.at_end; few = d.few; are_lines = d.are_lines; done = is; written = d.written }
-    packed (Some text) is =
-        (record { input = d.input; lines = d.lines; answers = d.answers; consumed = d.consumed; at_end = d.at_end; few = d.few; are_lines = d.are_lines; done = is.0; written = d.written }, is.1)
+    packed : (text : Option (List ℕ)) → Found does old.lines d.lines d.answers new.lines text
+        → ComparesAll does old.lines new.lines before after held holds text
+    packed None is = record {
+      input = d.input;
+      lines = d.lines;
+      answers = d.answers;
+      consumed = d.consumed;
+      at_end = d.at_end;
+      few = d.few;
+      are_lines =
+          d.are_lines;
+      done = is;
+      written = d.written;
+    }
+    packed (Some text) is = (
+      record {
+        input = d.input;
+        lines = d.lines;
+        answers = d.answers;
+        consumed = d.consumed;
+        at_end = d.at_end;
+        few = d.few;
+        are_lines = d.are_lines;
+        done =
+            is.0;
+        written = d.written;
+      },
+      is.1,
+    )
 
 -- what is compared is interpreted
 pub follows : {L : Type 0} (does : Meaning L) → Follows (λ (c : Comparing L). Unit {0}) (λ (c : Comparing L). c.lines) (comparing does) does
@@ -145,7 +183,8 @@ follows does = λ s n line said t h is. (tt, is.0)
 
 -- the first difference in one state is that in another that it is mapped to
 mapped_first :
-    {S T : Type 0} (holds : S → Type 0) (f : S → T) (does : Meaning S) (other : Meaning T) → Follows holds f does other → (old : S) (lines : List (List ℕ)) (text : List ℕ) → holds old
+    {S T : Type 0} (holds : S → Type 0) (f : S → T) (does : Meaning S) (other : Meaning T) → Follows holds f does other
+    → (old : S) (lines : List (List ℕ)) (text : List ℕ) → holds old
     → IsFirstDifference does old lines text → IsFirstDifference other (f old) lines text
 mapped_first holds f does other follows old lines text h d =
     let m = mapped holds f (agreeing does) (agreeing other) (λ s n line said t h is. let u = follows s n line said t h is.0 in (u.0, (u.1, is.1))) h d.agreed in
@@ -167,7 +206,8 @@ mapped_first holds f does other follows old lines text h d =
 
 -- what was compared in one state was in another that it is mapped to
 pub mapped_compared :
-    {S T : Type 0} (holds : S → Type 0) (f : S → T) (does : Meaning S) (other : Meaning T) → Follows holds f does other → (old new : S) (before after held holds_now : Option (List ℕ)) (first : Option (List ℕ)) → holds old
+    {S T : Type 0} (holds : S → Type 0) (f : S → T) (does : Meaning S) (other : Meaning T) → Follows holds f does other
+    → (old new : S) (before after held holds_now : Option (List ℕ)) (first : Option (List ℕ)) → holds old
     → ComparesAll does old new before after held holds_now first → ComparesAll other (f old) (f new) before after held holds_now first
 mapped_compared holds f does other follows old new before after held holds_now None h d = record {
   input = d.input;

@@ -15,10 +15,12 @@ use Rattle.trace_answers.specs.Deciders.{DecidesIn, found_from}
 -- of entries, the first of which has this number, the first that meets the access
 abbrev DecidesFrom : ℕ → List Entry → Access → Option Decider → Type 0
 DecidesFrom n entries a None = All (λ x. ¬ Meets x.region a) entries
-DecidesFrom n entries a (Some found) = (e : Entry) × (first : IsFirstMatch entries a e) × (found.number ≡ n + length first.before) × (found.extent ≡ extent_of e)
+DecidesFrom n entries a (Some found) = (e : Entry) × (first : IsFirstMatch entries a e) × (found.number ≡ n + length first.before)
+    × (found.extent ≡ extent_of e)
 
 -- one that does not meet it stands before them
-later : (n : ℕ) (e : Entry) (entries : List Entry) (a : Access) → ¬ Meets e.region a → (found : Option Decider) → DecidesFrom (n + 1) entries a found → DecidesFrom n (e ∷ entries) a found
+later : (n : ℕ) (e : Entry) (entries : List Entry) (a : Access) → ¬ Meets e.region a → (found : Option Decider) → DecidesFrom (n + 1) entries a found
+    → DecidesFrom n (e ∷ entries) a found
 later n e entries a off None none = All-cons (λ x. ¬ Meets x.region a) e entries off none
 later n e entries a off (Some found) at = (
   at.0,
@@ -40,8 +42,21 @@ from n (e ∷ entries) a = go (touches (extent_of e) a) refl (from (n + 1) entri
     go :
         (t : Bool) → touches (extent_of e) a ≡ t → DecidesFrom (n + 1) entries a (found_from (n + 1) (map extent_of entries) a)
         → DecidesFrom n (e ∷ entries) a (cond t (Some (record { number = n; extent = extent_of e })) (found_from (n + 1) (map extent_of entries) a))
-    go true is rest = (e, record { before = []; after = entries; split = refl; missed = All-nil (λ x. ¬ Meets x.region a); met = Meets-from_test e.region a is }, omega arith, refl)
-    go false is rest = later n e entries a (λ m. both_ways (touches (extent_of e) a) is (test_from_Meets e.region a m)) (found_from (n + 1) (map extent_of entries) a) rest
+    go true is rest = (
+      e,
+      record {
+        before = [];
+        after = entries;
+        split = refl;
+        missed = All-nil
+            (λ x. ¬ Meets x.region a);
+        met = Meets-from_test e.region a is;
+      },
+      omega arith,
+      refl,
+    )
+    go false is rest = later n e entries a (λ m. both_ways (touches (extent_of e) a) is (test_from_Meets e.region a m))
+        (found_from (n + 1) (map extent_of entries) a) rest
 
 whole : (entries : List Entry) (a : Access) (found : Option Decider) → DecidesFrom 0 entries a found → DecidesIn entries a found
 whole entries a None none = none

@@ -14,7 +14,8 @@ abbrev pub Keeps : {J D : Type 0} → J → D → ExplainingJudge J D → Type 0
 Keeps by deciders lines = (lines.by.now ≡ by) × (lines.deciders.now ≡ deciders)
 
 abbrev pub explains : {J D : Type 0} → (J → Outcomes) → (D → Decides) → Meaning (ExplainingJudge J D)
-explains outcomes decides = λ old n line said new. explaining (answered_by (outcomes old.by.now)) (on_access (decides old.deciders.now)) tt n line said tt × (new ≡ old)
+explains outcomes decides = λ old n line said new. explaining (answered_by (outcomes old.by.now)) (on_access (decides old.deciders.now)) tt n line said tt
+    × (new ≡ old)
 
 abbrev pub stateless : {J D : Type 0} → ExplainingJudge J D → Unit {0}
 stateless lines = tt
@@ -30,7 +31,8 @@ pub explained_where :
     (outcomes : Outcomes) (decides : Decides) (n : ℕ) (line : List ℕ) (answered : Bool) (old new comment : List ℕ) → answered ≡ true
     → answered_by outcomes tt n line (text_of answered n old) tt
     → ((access : Access) → access_on line ≡ Some (Some access) → (reason : Reason) × IsReason decides access reason × (comment ≡ reason_text reason))
-    → decimal (n + 1) ++ new ≡ explained (decimal (n + 1) ++ old) comment → explaining (answered_by outcomes) (on_access decides) tt n line (text_of answered n new) tt
+    → decimal (n + 1) ++ new ≡ explained (decimal (n + 1) ++ old) comment
+    → explaining (answered_by outcomes) (on_access decides) tt n line (text_of answered n new) tt
 explained_where outcomes decides n line false old new comment e done says is = cc
 explained_where outcomes decides n line true old new comment e (None, said, none) says is = cc
 explained_where outcomes decides n line true old new comment e (Some a, said, judged) says is =

@@ -9,4 +9,5 @@ returns-then-marked c =
     (rw c.table-table.ensures.kept at (subst (HasList c.of-woken.result) c.host_entries.ensures.value c.of-woken.ensures.list)) c.reason_of.ensures
 
 pub returns : goal.returns
-returns c = reason_loaded c.args.machine.now c.args.hart c.args.access.now c.reason_of-2.result c.bank.result.now (sym c.marked.ensures ∙ c.if-marked.false) c.bank.ensures.bank c.reason_of-2.ensures
+returns c = reason_loaded c.args.machine.now c.args.hart c.args.access.now c.reason_of-2.result c.bank.result.now
+    (sym c.marked.ensures ∙ c.if-marked.false) c.bank.ensures.bank c.reason_of-2.ensures

@@ -13,4 +13,5 @@ returns c happened is =
     _ _ _ _ _ _ _ c.new-text.ensures (c.push_subject.ensures.items happened is.events) (c.push_subject-2.ensures.items happened is.faults)
     (c.push_subject-3.ensures.items happened is.calls) (c.push_subject-4.ensures.items happened is.refusals)
     (rw is.most at c.push_most.ensures.items)
-    (c.push_end.ensures.items ∙ ap₂ (λ live marked. c.push_most.new.text.items ++ end_text live marked) (c.live_count.ensures ∙ ap live_count c.table.ensures.state) c.marked_count.ensures)
+    (c.push_end.ensures.items ∙ ap₂ (λ live marked. c.push_most.new.text.items ++ end_text live marked)
+    (c.live_count.ensures ∙ ap live_count c.table.ensures.state) c.marked_count.ensures)

@@ -44,7 +44,8 @@ loop-i-preserved c =
       within = c.in-Some.ensures.within;
       fit = λ rest.
           c.loop-i.invariant.fit
-          (fit_more (may_end c.args.kind) (drop i slots) (drop (i + 1) slots) _ (words_in (placed_at c.args.text.now c.loop-i.end)) (words_in (placed_at c.args.text.now c.in-Some.placed.end)) c.in-Some.placed.word.now
+          (fit_more (may_end c.args.kind) (drop i slots) (drop (i + 1) slots) _ (words_in (placed_at c.args.text.now c.loop-i.end))
+          (words_in (placed_at c.args.text.now c.in-Some.placed.end)) c.in-Some.placed.word.now
           (drop_more slots i Mode c.loop-i-test.true) (ap words_in c.in-Some.ensures.word) (sym c.fits.ensures ∙ c.if-not-fits.false) rest);
     }
 

@@ -9,5 +9,6 @@ invariant-loop-i l = record {
   few : l.i ≤ length (placed_at l.text l.keyword.end);
   last : (last : PlacedWord) × (slice_get ((l.keyword.before, l.keyword.word.now) ∷ placed_at l.text l.keyword.end) l.i ≡ Some last) × (l.end ≡ end_of last);
   within : l.end ≤ length l.text;
-  fit : fit_all (may_end l.kind) (drop l.i l.slots) (words_in (placed_at l.text l.end)) ≡ true → fit_all (may_end l.kind) l.slots (words_in (placed_at l.text l.keyword.end)) ≡ true;
+  fit : fit_all (may_end l.kind) (drop l.i l.slots) (words_in (placed_at l.text l.end)) ≡ true
+      → fit_all (may_end l.kind) l.slots (words_in (placed_at l.text l.keyword.end)) ≡ true;
 }

@@ -30,4 +30,5 @@ returns-in_default-clause-clear c = λ counted none.
 pub returns-in-Some-number-clause-clear : goal.returns-in-Some-number-clause-clear
 returns-in-Some-number-clause-clear c = λ counted none.
     let there = ap (λ key. get_member key (table_view c.args.document.now)) (sym c.name.ensures) ∙ sym c.in-Some.ensures in
-    clear_count (table_view c.args.document.now) c.args.key counted (λ value is wrong. let h : None ≡ c.number.result = sym wrong ∙ ap number (same_Some _ _ (sym is ∙ there)) ∙ sym c.number.ensures in cc)
+    clear_count (table_view c.args.document.now) c.args.key counted (λ value is wrong. let h : None ≡ c.number.result = sym wrong
+    ∙ ap number (same_Some _ _ (sym is ∙ there)) ∙ sym c.number.ensures in cc)

@@ -56,7 +56,8 @@ returns-clause-some c =
     let before-3 : NonePartBefore document 3 = part_up document 2 before-2 (c.memory_breach.ensures.clear c.in_default-memory_breach.is) in
     let before-4 : NonePartBefore document 4 = part_up document 3 before-3 (c.device_list_breach.ensures.clear c.in_default-device_list_breach.is) in
     let before-5 : NonePartBefore document 5 = part_up document 4 before-4 (c.count_breach.ensures.clear refl c.in_default-count_breach.is) in
-    carried c.count_breach-2.result (λ breach both. first_of document 5 breach both.0 both.1 before-5) (paired _ _ c.count_breach-2.result (c.count_breach-2.ensures.some refl) (c.count_breach-2.ensures.first refl))
+    carried c.count_breach-2.result (λ breach both. first_of document 5 breach both.0 both.1 before-5)
+    (paired _ _ c.count_breach-2.result (c.count_breach-2.ensures.some refl) (c.count_breach-2.ensures.first refl))
 
 pub returns-clause-clear : goal.returns-clause-clear
 returns-clause-clear c = λ none.

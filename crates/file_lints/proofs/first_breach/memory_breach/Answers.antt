@@ -18,7 +18,9 @@ pub returns-in-None-clause-some : goal.returns-in-None-clause-some
 returns-in-None-clause-some c = no_array keys.Ram _ (inl refl) (sym c.in-Some.ensures) (sym c.in-None.ensures)
 
 pub returns-in-Some-as_array-clause-some : goal.returns-in-Some-as_array-clause-some
-returns-in-Some-as_array-clause-some c = carried c.ram_breach.result (λ breach broken. at_place (places.Ram (broken.0 + 1)) broken.1 breach (item_of _ _ _ broken.0 broken.1 (sym c.in-Some.ensures) (sym c.in-Some-as_array.ensures) (ap (λ vs. get_item broken.0 (items_view vs)) (sym c.as_slice.ensures.value) ∙ broken.2)) broken.3) c.ram_breach.ensures.some
+returns-in-Some-as_array-clause-some c = carried c.ram_breach.result (λ breach broken. at_place (places.Ram (broken.0 + 1)) broken.1 breach
+    (item_of _ _ _ broken.0 broken.1 (sym c.in-Some.ensures) (sym c.in-Some-as_array.ensures)
+    (ap (λ vs. get_item broken.0 (items_view vs)) (sym c.as_slice.ensures.value) ∙ broken.2)) broken.3) c.ram_breach.ensures.some
 
 pub returns-in_default-clause-first : goal.returns-in_default-clause-first
 returns-in_default-clause-first c = lowest (table_view c.args.document.now) 2 _ refl refl refl
@@ -28,8 +30,10 @@ returns-in-None-clause-first c = lowest (table_view c.args.document.now) 2 _ ref
 
 pub returns-in-Some-as_array-clause-first : goal.returns-in-Some-as_array-clause-first
 returns-in-Some-as_array-clause-first c =
-    carried c.ram_breach.result (λ breach both. first_ram (table_view c.args.document.now) _ _ breach (sym c.in-Some.ensures) (sym c.in-Some-as_array.ensures) (placed_at _ (places.Ram (both.0.0 + 1)) breach (λ h. cc) both.0.3).0 (rw (c.as_slice.ensures.value) at both.1))
+    carried c.ram_breach.result (λ breach both. first_ram (table_view c.args.document.now) _ _ breach (sym c.in-Some.ensures) (sym c.in-Some-as_array.ensures)
+    (placed_at _ (places.Ram (both.0.0 + 1)) breach (λ h. cc) both.0.3).0 (rw (c.as_slice.ensures.value) at both.1))
     (paired _ _ c.ram_breach.result c.ram_breach.ensures.some c.ram_breach.ensures.first)
 
 pub returns-in-Some-as_array-clause-clear : goal.returns-in-Some-as_array-clause-clear
-returns-in-Some-as_array-clause-clear c = λ none. clear_ram (table_view c.args.document.now) _ _ (sym c.in-Some.ensures) (sym c.in-Some-as_array.ensures) (rw (c.as_slice.ensures.value) at (c.ram_breach.ensures.clear none))
+returns-in-Some-as_array-clause-clear c = λ none. clear_ram (table_view c.args.document.now) _ _ (sym c.in-Some.ensures) (sym c.in-Some-as_array.ensures)
+    (rw (c.as_slice.ensures.value) at (c.ram_breach.ensures.clear none))

@@ -9,4 +9,5 @@ pub words_finding-requires : goal.words_finding-requires
 words_finding-requires c =
     let content = c.content_of-content.ensures ∙ ap content_of c.without_return-line.ensures in
     let allowed = ap (list_all is_allowed) (sym content) ∙ (sym c.are_allowed.ensures ∙ c.if-not-are_allowed.false) in
-    ap (λ text. said_by c.args.harts (split_words text)) content ∙ words_say_nothing c.args.harts c.args.raw.now c.requires (omega (arith, c.if-raw-gt-LONGEST.false)) allowed
+    ap (λ text. said_by c.args.harts (split_words text)) content ∙ words_say_nothing c.args.harts c.args.raw.now c.requires
+    (omega (arith, c.if-raw-gt-LONGEST.false)) allowed

@@ -19,4 +19,5 @@ pub event_finding-requires-2-clause-fault : goal.event_finding-requires-2-clause
 event_finding-requires-2-clause-fault c =
     let text = c.args.text.now in
     let first = c.in-Some.first in
-    no_event c.args.harts text first.word.now (words_in (placed_at text first.end)) c.requires (words_are text _ c.in-Some.ensures.word) (sym c.names_hart.ensures ∙ c.if-names_hart.false)
+    no_event c.args.harts text first.word.now (words_in (placed_at text first.end)) c.requires (words_are text _ c.in-Some.ensures.word)
+    (sym c.names_hart.ensures ∙ c.if-names_hart.false)

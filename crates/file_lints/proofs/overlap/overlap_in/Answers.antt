@@ -22,7 +22,8 @@ returns-in-Some-clause-some c =
 
 pub loop-i-preserved : goal.loop-i-preserved
 loop-i-preserved c =
-    one_more (λ k (x : PlacedRange). All (λ (other : PlacedRange). AreRangesApart x.bounds other.bounds) (drop (k + 1) c.args.ranges.now)) c.args.ranges.now c.loop-i.i _ c.loop-i-test.true
+    one_more (λ k (x : PlacedRange). All (λ (other : PlacedRange). AreRangesApart x.bounds other.bounds) (drop (k + 1) c.args.ranges.now)) c.args.ranges.now
+    c.loop-i.i _ c.loop-i-test.true
     c.loop-i.invariant (rw (rest_is c.loop-i.i c.args.ranges.now) at (c.in_default.ensures.none refl))
 
 pub returns-clause-none : goal.returns-clause-none

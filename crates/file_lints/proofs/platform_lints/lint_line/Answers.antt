@@ -8,5 +8,6 @@ finding-requires c = λ platform said. c.platform_of.ensures.refused (c.in-Err-N
 pub returns-in_ok-finding-in-Err-NotAPlatform-clause-line : goal.returns-in_ok-finding-in-Err-NotAPlatform-clause-line
 returns-in_ok-finding-in-Err-NotAPlatform-clause-line c =
     let none : IsNoPlatform c.args.bytes.now = λ platform said.
-    c.platform_of.ensures.refused (c.in-Err-NotAPlatform.is ∙ ap (λ f. Err f) c.in-Err-NotAPlatform.field-0-is) platform (rw (sym c.in-Ok.ensures.cases.0) at said.platform_text) in
+    c.platform_of.ensures.refused (c.in-Err-NotAPlatform.is ∙ ap (λ f. Err f) c.in-Err-NotAPlatform.field-0-is) platform
+    (rw (sym c.in-Ok.ensures.cases.0) at said.platform_text) in
     (none, inr (c.in-Ok.ensures.cases.1, rw c.in-Ok.ensures.cases.0 at c.in_ok-finding-in-Err-NotAPlatform.ensures))

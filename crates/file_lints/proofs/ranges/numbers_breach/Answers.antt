@@ -10,7 +10,8 @@ returns-in-Some-clause-first c = λ before. subst (BreaksNoneBelow (table_view c
 pub returns-in-Some-number_breach-clause-first : goal.returns-in-Some-number_breach-clause-first
 returns-in-Some-number_breach-clause-first c = λ before.
     let base = c.number_breach.ensures.none c.in_default.is in
-    subst (BreaksNoneBelow (table_view c.args.table.now) c.args.place) (sym c.in-Some-number_breach.ensures.step) (below_base (table_view c.args.table.now) c.args.place base.0 base.1 before)
+    subst (BreaksNoneBelow (table_view c.args.table.now) c.args.place) (sym c.in-Some-number_breach.ensures.step)
+    (below_base (table_view c.args.table.now) c.args.place base.0 base.1 before)
 
 pub returns-then-is_range-clause-clear : goal.returns-then-is_range-clause-clear
 returns-then-is_range-clause-clear c = λ before none.

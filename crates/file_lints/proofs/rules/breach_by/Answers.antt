@@ -6,4 +6,5 @@ use Rattle.file_lints.proofs.rules.breach_by.Goals as goal
 pub unreachable-requires : goal.unreachable-requires
 unreachable-requires c =
     c.requires c.in-Overlap.is
-    (subst EachApart (ap (map bounds_of) (c.as_slice.ensures.value ∙ c.in_ok-ranges-in-Overlap.ensures) ∙ bounds_are c.args.ram.now c.args.devices.now) (c.in_default.ensures.none refl))
+    (subst EachApart (ap (map bounds_of) (c.as_slice.ensures.value ∙ c.in_ok-ranges-in-Overlap.ensures) ∙ bounds_are c.args.ram.now c.args.devices.now)
+    (c.in_default.ensures.none refl))

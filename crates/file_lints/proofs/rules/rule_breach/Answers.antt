@@ -8,7 +8,11 @@ use Rattle.file_lints.proofs.rules.rule_breach.Goals as goal
 pub breach_by-requires : goal.breach_by-requires
 breach_by-requires c = λ is each.
     not_apart _ _ _ _ _ c.in-Some-broken_rule.fault is c.in-Some-broken_rule.ensures.some
-    (rw (c.as_slice-in-Some-broken_rule.ensures.value ∙ sym c.as_slice.ensures.value, c.as_slice-in-Some-broken_rule-2.ensures.value ∙ sym c.as_slice-2.ensures.value) at each)
+    (rw (
+      c.as_slice-in-Some-broken_rule.ensures.value ∙ sym c.as_slice.ensures.value,
+      c.as_slice-in-Some-broken_rule-2.ensures.value
+          ∙ sym c.as_slice-2.ensures.value,
+    ) at each)
 
 pub returns-in-Some-broken_rule-clause-some : goal.returns-in-Some-broken_rule-clause-some
 returns-in-Some-broken_rule-clause-some c =
@@ -26,7 +30,11 @@ returns-in-Some-broken_rule-clause-some c =
       entries_are = sym c.in-Some-number_or-2.ensures;
     } in
     rule form c.in-Some-broken_rule.fault _ c.in-Some-broken_rule.ensures.some
-    (rw (c.as_slice-in-Some-broken_rule.ensures.value ∙ sym c.as_slice.ensures.value, c.as_slice-in-Some-broken_rule-2.ensures.value ∙ sym c.as_slice-2.ensures.value) at c.in_ok-breach-in-Some-broken_rule.ensures.broken)
+    (rw (
+      c.as_slice-in-Some-broken_rule.ensures.value ∙ sym c.as_slice.ensures.value,
+      c.as_slice-in-Some-broken_rule-2.ensures.value
+          ∙ sym c.as_slice-2.ensures.value,
+    ) at c.in_ok-breach-in-Some-broken_rule.ensures.broken)
 
 pub returns-clause-none : goal.returns-clause-none
 returns-clause-none c = λ _.

@@ -10,9 +10,11 @@ returns-then-not-is_line-clause-found c = for_neither c.args.raw.now _ _ _ c.lin
 pub unreachable-requires : goal.unreachable-requires
 unreachable-requires c =
     let content = c.content_of.ensures ∙ ap content_of c.without_return.ensures in
-    never_without_words c.args.raw.now (sym c.is_line.ensures ∙ c.if-not-is_line.false) c.requires (ap split_words (sym content) ∙ words_are c.content_of.result.now _ c.in_default.ensures.word)
+    never_without_words c.args.raw.now (sym c.is_line.ensures ∙ c.if-not-is_line.false) c.requires
+    (ap split_words (sym content) ∙ words_are c.content_of.result.now _ c.in_default.ensures.word)
 
 pub returns-clause-found : goal.returns-clause-found
 returns-clause-found c =
     let content = c.content_of.ensures ∙ ap content_of c.without_return.ensures in
-    rw c.reason_by.ensures (for_run c.args.raw.now c.content_of.result.now _ _ _ _ refl (sym c.is_line.ensures ∙ c.if-not-is_line.false) c.requires content c.in-Some.ensures.word)
+    rw c.reason_by.ensures (for_run c.args.raw.now c.content_of.result.now _ _ _ _ refl
+    (sym c.is_line.ensures ∙ c.if-not-is_line.false) c.requires content c.in-Some.ensures.word)

@@ -15,7 +15,8 @@ loop-i-preserved c =
     let same : get_or extents i (extent_of entry) ≡ extent_of entry =
     get_or_default extents i (extent_of entry) _ low ∙ c.is_extent_of.ensures.0 c.if-not-is_extent_of.false in
     take_more extents i (extent_of entry) low ∙ ap (λ xs. xs ++ get_or extents i (extent_of entry) ∷ []) c.loop-i.invariant
-    ∙ ap (λ x. map extent_of (take i entries) ++ x ∷ []) (same ∙ ap extent_of c.index-entries-i.is) ∙ sym (ap (map extent_of) (take_more entries i entry c.loop-i-test.true) ∙ map-append extent_of (take i entries) _)
+    ∙ ap (λ x. map extent_of (take i entries) ++ x ∷ []) (same ∙ ap extent_of c.index-entries-i.is)
+    ∙ sym (ap (map extent_of) (take_more entries i entry c.loop-i-test.true) ∙ map-append extent_of (take i entries) _)
 
 pub returns : goal.returns
 returns c =
@@ -23,5 +24,6 @@ returns c =
     let entries = c.args.entries.now in
     let all : c.loop-i.i ≡ length entries = omega (arith, c.loop-i-test.false, c.loop-i.auto.i-end) in
     let same : extents ≡ map extent_of entries =
-    sym (take_all c.loop-i.i extents (omega (arith, all, c.if-extents-entries.false))) ∙ c.loop-i.invariant ∙ ap (map extent_of) (take_all c.loop-i.i entries (omega (arith, all))) in
+    sym (take_all c.loop-i.i extents (omega (arith, all, c.if-extents-entries.false))) ∙ c.loop-i.invariant
+    ∙ ap (map extent_of) (take_all c.loop-i.i entries (omega (arith, all))) in
     ((λ _. has_same c.args.bank.now extents entries c.extents-extents.ensures same), (λ _. refl))

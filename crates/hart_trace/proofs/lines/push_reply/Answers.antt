@@ -13,6 +13,7 @@ returns-in-Loaded-clause-text c = λ some n.
 pub returns-in-Call-clause-text : goal.returns-in-Call-clause-text
 returns-in-Call-clause-text c = λ some n.
     let behind : c.push_call.new.line
-    ≡ codes " call " ++ signed_decimal c.in-Call.status ++ codes " 0x" ++ hex 16 c.in-Call.value ++ codes " " ++ decimal c.in-Call.world ++ codes " " ++ decimal c.in-Call.used ++ codes "\n"
+    ≡ codes " call " ++ signed_decimal c.in-Call.status ++ codes " 0x" ++ hex 16 c.in-Call.value ++ codes " " ++ decimal c.in-Call.world ++ codes " "
+    ++ decimal c.in-Call.used ++ codes "\n"
     = search rules in
     ap (λ l. decimal n ++ l) behind ∙ called n c.in-Call.status c.in-Call.value c.in-Call.world c.in-Call.used ∙ ap (reply_text n) (sym c.in-Call.is)

@@ -12,5 +12,6 @@ returns c =
     let said = c.keyword_of-said.result in
     let line = c.args.line.now in
     let len : said.len % 8 ≡ said.len = omega (arith, c.keyword_of-said.ensures.short) in
-    let rest : drop said.len line ≡ take (length line - said.len % 8) (drop (said.len % 8) line) = ap (λ k. drop k line) (sym len) ∙ sym (rest_from (said.len % 8) line) in
+    let rest : drop said.len line ≡ take (length line - said.len % 8) (drop (said.len % 8) line) = ap (λ k. drop k line) (sym len)
+    ∙ sym (rest_from (said.len % 8) line) in
     c.keyword_of-said.ensures.said line c.in_ok-first.first c.in_ok-first.ensures c.if-first-said.false ∙ ap (λ xs. keyword said.kind ++ 32 ∷ xs) rest

@@ -12,5 +12,6 @@ returns c = λ platform events replies a.
     let left = c.step-left.ensures.after platform _ _ resumed in
     let destroyed = c.step-destroyed.ensures.after platform _ _ left in
     c.headline_law.ensures platform _ _ _
-    (after_six platform events replies c.step-destroyed.new.self (0, Ecall c.args.create) (0, Ecall c.args.enter) (0, Irq) (1, Ecall c.args.resume) (1, Ecall c.args.leave) (0, Ecall c.args.destroy)
+    (after_six platform events replies c.step-destroyed.new.self (0, Ecall c.args.create) (0, Ecall c.args.enter) (0, Irq) (1, Ecall c.args.resume)
+    (1, Ecall c.args.leave) (0, Ecall c.args.destroy)
     c.step-created.result c.step-entered.result c.step-stopped.result c.step-resumed.result c.step-left.result c.step-destroyed.result destroyed)

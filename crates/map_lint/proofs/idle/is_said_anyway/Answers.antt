@@ -6,4 +6,5 @@ pub returns-then-not-denies : goal.returns-then-not-denies
 returns-then-not-denies c = allows (c.denies.ensures.no c.if-not-denies.true)
 
 pub returns : goal.returns
-returns c = said_by c.args.kept.now c.args.setting.now c.in_ok-map.map _ c.in_ok-map.ensures (c.denies.ensures.yes c.if-not-denies.false) c.is_denied.ensures.yes c.is_denied.ensures.no
+returns c = said_by c.args.kept.now c.args.setting.now c.in_ok-map.map _ c.in_ok-map.ensures
+    (c.denies.ensures.yes c.if-not-denies.false) c.is_denied.ensures.yes c.is_denied.ensures.no

@@ -18,5 +18,9 @@ returns-then-settings-gt-MOST c =
 pub returns : goal.returns
 returns c =
     let set = rw c.new-map.ensures at (rw c.in_default.is at c.in_ok-line.ensures.all) in
-    let said = c.in_ok-push_warnings.ensures in
-    (said.0, rw c.if-not-is_map.false (warned c.in_ok-whole.whole said.0 (rw c.in_ok-whole.ensures.map set) (omega (arith, c.if-settings-gt-MOST.false)) said.1), said.2)
+    let said = c.in_ok-push_warnings.ensures in (
+      said.0,
+      rw c.if-not-is_map.false (warned c.in_ok-whole.whole said.0 (rw c.in_ok-whole.ensures.map set)
+          (omega (arith, c.if-settings-gt-MOST.false)) said.1),
+      said.2,
+    )

@@ -30,8 +30,13 @@ loop-i-preserved c =
             inside = c.loop-i.invariant.inside;
             whole = set;
             named = λ named left are.
-                let all = c.loop-i.invariant.named (_ ∷ named) left (name_it whole kept settings i _ named left _ less (rw w.as_slice-then-branch.ensures.value at w.in_ok-anyway.ensures) set are) in
-                (all.0, all.1, ap (λ t. t ++ idle_texts name named) w.in_ok-push_idle.ensures ∙ (append_assoc c.loop-i.text.items _ (idle_texts name named) ∙ all.2));
+                let all = c.loop-i.invariant.named (_ ∷ named) left (name_it whole kept settings i _ named left _ less
+                (rw w.as_slice-then-branch.ensures.value at w.in_ok-anyway.ensures) set are) in (
+                  all.0,
+                  all.1,
+                  ap (λ t. t ++ idle_texts name named) w.in_ok-push_idle.ensures
+                      ∙ (append_assoc c.loop-i.text.items _ (idle_texts name named) ∙ all.2),
+                );
           })
       | else-branch+in_ok-push w ↦
           let elsewhere = rw (c.as_slice.ensures.value, rest_from (i + 1) settings) at c.in_ok-is_whole.ensures.no (ap (λ b. Ok b) w.if-branch.false) in
@@ -48,5 +53,9 @@ returns c =
     let none = drop_of_length-le c.args.settings.now {i = c.loop-i.i} c.loop-i-test.false in
     let kept = c.loop-i.kept.items in
     let all = c.loop-i.invariant.named [] kept (rw none end) in
-    let set = rw (none, append-nil kept) at c.loop-i.invariant.whole in
-    (idle_texts c.args.name.now all.0, record { named = all.0; left = kept; are_named = all.1; same = set; text_is = refl }, sym (append-nil c.loop-i.text.items) ∙ all.2)
+    let set = rw (none, append-nil kept) at c.loop-i.invariant.whole in (
+      idle_texts c.args.name.now all.0,
+      record { named = all.0; left = kept; are_named = all.1; same = set; text_is = refl },
+      sym
+          (append-nil c.loop-i.text.items) ∙ all.2,
+    )

@@ -8,5 +8,6 @@ invariant-loop-i l = record {
   inside : All IsInside l.kept.items;
   whole : SetTo [] (l.kept.items ++ drop l.i l.settings) l.whole;
   named : (named : List Named) (left : List Numbered) → AreNamed l.whole l.kept.items (drop l.i l.settings) named left
-      → (all : List Named) × AreNamed l.whole [] l.settings all left × (l.text.items ++ idle_texts l.name named ≡ l.initial.text.items ++ idle_texts l.name all);
+      → (all : List Named) × AreNamed l.whole [] l.settings all left × (l.text.items ++ idle_texts l.name named ≡ l.initial.text.items
+      ++ idle_texts l.name all);
 }

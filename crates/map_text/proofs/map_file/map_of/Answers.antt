@@ -11,7 +11,13 @@ use Rattle.map_text.proofs.map_file.map_of.Goals as goal
 
 pub lines-init : goal.lines-init
 lines-init c = record {
-  followed = ([], ap (λ p. raw_lines (p ++ c.args.bytes.now)) (sym c.with_limit-lines.ensures.pending), sym c.with_limit-lines.ensures.number, rw c.new-map.ensures start);
+  followed = (
+    [],
+    ap (λ p. raw_lines (p ++ c.args.bytes.now)) (sym c.with_limit-lines.ensures.pending),
+    sym c.with_limit-lines.ensures.number,
+    rw
+        c.new-map.ensures start,
+  );
   grown = λ some. absurd (omega (arith, ap length c.new-map.ensures, some));
   came = omega (arith, c.with_limit-lines.ensures.came);
   limit = c.with_limit-lines.ensures.limit;
@@ -22,7 +28,8 @@ returns-in-Err-clause-unknown c = λ n e.
     let f = c.lines.invariant.followed in
     let long = c.in-Err.ensures.next in
     let number : c.in-Err.number ≡ n = cc in
-    fault_at c.args.bytes.now n IsUnknown f.0 long.0 long.1 _ c.lines.map f.1 long.2.lines (ap (λ k. k + 1) f.2 ∙ sym long.2.number ∙ number) f.3 (long_says long.0 long.2.long)
+    fault_at c.args.bytes.now n IsUnknown f.0 long.0 long.1 _ c.lines.map f.1 long.2.lines (ap (λ k. k + 1) f.2 ∙ sym long.2.number ∙ number) f.3
+    (long_says long.0 long.2.long)
 
 pub returns-in-Err-NotUnderstood-clause-unknown : goal.returns-in-Err-NotUnderstood-clause-unknown
 returns-in-Err-NotUnderstood-clause-unknown c = λ n e.
@@ -30,7 +37,8 @@ returns-in-Err-NotUnderstood-clause-unknown c = λ n e.
     let first = rw c.in-Ok-true.field-0-test at c.in-Ok-true.ensures.next in
     let says = short_says first.0 c.line.result.now first.1.short (c.line.ensures ∙ first.1.text) in
     let number : c.number.result ≡ n = cc in
-    fault_at c.args.bytes.now n IsUnknown f.0 first.0 _ _ c.lines.map f.1 first.1.lines (ap (λ k. k + 1) f.2 ∙ sym first.1.number ∙ sym c.number.ensures ∙ number) f.3
+    fault_at c.args.bytes.now n IsUnknown f.0 first.0 _ _ c.lines.map f.1 first.1.lines
+    (ap (λ k. k + 1) f.2 ∙ sym first.1.number ∙ sym c.number.ensures ∙ number) f.3
     (says ∙ c.in-Err-NotUnderstood.ensures.unknown (ap (λ e. Err e) c.in-Err-NotUnderstood.field-0-is))
 
 pub returns-in-Err-TooManyRanges-clause-many : goal.returns-in-Err-TooManyRanges-clause-many

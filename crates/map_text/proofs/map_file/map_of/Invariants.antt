@@ -7,7 +7,8 @@ use Rattle.map_text.proofs.map_file.map_of.Given as goal
 
 abbrev pub invariant-lines : goal.invariant-lines
 invariant-lines l = record {
-  followed : (before : List (List ℕ)) × (raw_lines l.bytes ≡ before ++ raw_lines (left_of l.lines l.rest)) × (length before ≡ number_of l.lines) × LeadTo [] before l.map;
+  followed : (before : List (List ℕ)) × (raw_lines l.bytes ≡ before ++ raw_lines (left_of l.lines l.rest)) × (length before ≡ number_of l.lines)
+      × LeadTo [] before l.map;
   grown : 0 < length l.map → (n : ℕ) × FaultAt l.bytes n MakesFirst;
   came : came_of l.lines + length l.rest ≡ length l.bytes;
   limit : most_of l.lines ≡ 2 ^ 64 - 1;

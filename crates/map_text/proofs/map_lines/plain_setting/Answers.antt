@@ -13,4 +13,5 @@ returns-clause-says c =
     c.in_ok-digits.ensures
     ∙ ap (λ (xs : List ℕ). 48 ∷ 120 ∷ xs) (low.parts ∙ ap (λ xs. low.digits ++ xs) (c.in_ok-second.ensures ∙ ap (λ (xs : List ℕ). 32 ∷ xs) second)) in
     rw line
-    (plain_says-if low.digits high.digits word c.in_ok-base.base c.in_ok-size.size c.in_ok-first.first c.in_ok-count.count c.in_ok-perm.perm c.setting_on.result low.value_is high.value_is c.in_ok-first.ensures c.in_ok-count.ensures c.in_ok-perm.ensures.some c.in_ok-perm.ensures.value c.setting_on.ensures.value)
+    (plain_says-if low.digits high.digits word c.in_ok-base.base c.in_ok-size.size c.in_ok-first.first c.in_ok-count.count c.in_ok-perm.perm c.setting_on.result
+    low.value_is high.value_is c.in_ok-first.ensures c.in_ok-count.ensures c.in_ok-perm.ensures.some c.in_ok-perm.ensures.value c.setting_on.ensures.value)

@@ -20,7 +20,8 @@ loop-left-preserved g c =
       counted = omega (arith, c.split_at.ensures.front_len, c.split_at.ensures.back_len, c.loop-left.invariant.counted);
       taken = (
         w.0 ++ text,
-        append_assoc w.0 text rest ∙ ap (λ x. w.0 ++ x) (sym (entries_text-append xlen k these others) ∙ ap (entries_text xlen k) (sym c.split_at.ensures.by_index.0)) ∙ w.1,
+        append_assoc w.0 text rest ∙ ap (λ x. w.0 ++ x) (sym (entries_text-append xlen k these others)
+            ∙ ap (entries_text xlen k) (sym c.split_at.ensures.by_index.0)) ∙ w.1,
         takes_then g.W.Sink.contents g.W.Sink.failures g.W.Sink.stalls w.2 (rw lines at c.in_ok-write_whole.ensures),
       );
     }

@@ -21,7 +21,8 @@ abbrev words_of : Xlen → Limit → ℕ → List Entry → List ℕ
 words_of xlen limit first entries = words_text xlen first entries (whole_word xlen first) (word_count xlen limit - whole_word xlen first)
 
 -- the text of a list that does not fit
-listed : (xlen : Xlen) (limit : Limit) (first : ℕ) (entries : List Entry) (m : ℕ) → m < length entries → m ≡ limit_number limit - first → IsPlanText xlen limit first entries (list_text xlen first entries)
+listed : (xlen : Xlen) (limit : Limit) (first : ℕ) (entries : List Entry) (m : ℕ) → m < length entries → m ≡ limit_number limit - first
+    → IsPlanText xlen limit first entries (list_text xlen first entries)
 listed xlen limit first entries m beyond is = record {
   words = [];
   lines = sym (append-nil (list_text xlen first entries));
@@ -30,7 +31,8 @@ listed xlen limit first entries m beyond is = record {
 }
 
 -- the text of a list that fits, with its words
-with_words : (xlen : Xlen) (limit : Limit) (first : ℕ) (entries : List Entry) (m : ℕ) → length entries ≤ m → m ≡ limit_number limit - first → IsPlanText xlen limit first entries (list_text xlen first entries ++ words_of xlen limit first entries)
+with_words : (xlen : Xlen) (limit : Limit) (first : ℕ) (entries : List Entry) (m : ℕ) → length entries ≤ m → m ≡ limit_number limit - first
+    → IsPlanText xlen limit first entries (list_text xlen first entries ++ words_of xlen limit first entries)
 with_words xlen limit first entries m fits is = record {
   words = words_of xlen limit first entries;
   lines = refl;
@@ -42,7 +44,8 @@ fits_or_not : (n m : ℕ) → (n ≤ m) ⊎ (m < n)
 fits_or_not n m = grind arith
 
 -- the text of a list, whether or not it fits
-some_text : (xlen : Xlen) (limit : Limit) (first : ℕ) (entries : List Entry) → (words : List ℕ) × IsPlanText xlen limit first entries (list_text xlen first entries ++ words)
+some_text : (xlen : Xlen) (limit : Limit) (first : ℕ) (entries : List Entry)
+    → (words : List ℕ) × IsPlanText xlen limit first entries (list_text xlen first entries ++ words)
 some_text xlen limit first entries = elim (fits_or_not (length entries) (limit_number limit - first)) [
   | inl h ↦ (words_of xlen limit first entries, with_words xlen limit first entries _ h refl)
   | inr h ↦ ([], rw (append-nil (list_text xlen first entries)) (listed xlen limit first entries _ h refl))
@@ -51,20 +54,34 @@ some_text xlen limit first entries = elim (fits_or_not (length entries) (limit_n
 pub returns-in_err-print_list : goal.returns-in_err-print_list
 returns-in_err-print_list g c =
     let some = some_text c.args.xlen c.args.limit c.args.first c.args.entries.now in
-    rw (err_from_is_err_and c.from_residual.result c.from_residual.ensures.1).1
-    (list_text c.args.xlen c.args.first c.args.entries.now ++ some.0, some.1, breaks_before g.W.Sink.contents g.W.Sink.failures g.W.Sink.stalls some.0 c.in_err-print_list.ensures)
+    rw (err_from_is_err_and c.from_residual.result c.from_residual.ensures.1).1 (
+      list_text c.args.xlen c.args.first c.args.entries.now ++ some.0,
+      some.1,
+      breaks_before g.W.Sink.contents g.W.Sink.failures g.W.Sink.stalls some.0
+          c.in_err-print_list.ensures,
+    )
 
 pub returns-in_err-print_words : goal.returns-in_err-print_words
 returns-in_err-print_words g c =
     let words = words_of c.args.xlen c.args.limit c.args.first c.args.entries.now in
     let is_text = with_words c.args.xlen c.args.limit c.args.first c.args.entries.now _ c.if-entries-room.false c.room_from-room.ensures in
-    let broken : Breaks words (writing g.W.Sink.contents g.W.Sink.failures g.W.Sink.stalls c.print_list.new.out c.print_words.new.out) = rw c.words-count.ensures.value at c.in_err-print_words.ensures in
-    rw (err_from_is_err_and c.from_residual-in_err-print_words.result c.from_residual-in_err-print_words.ensures.1).1
-    (list_text c.args.xlen c.args.first c.args.entries.now ++ words, is_text, breaks_after g.W.Sink.contents g.W.Sink.failures g.W.Sink.stalls c.in_ok-print_list.ensures broken)
+    let broken : Breaks words (writing g.W.Sink.contents g.W.Sink.failures g.W.Sink.stalls c.print_list.new.out c.print_words.new.out) = rw
+    c.words-count.ensures.value at c.in_err-print_words.ensures in
+    rw (err_from_is_err_and c.from_residual-in_err-print_words.result c.from_residual-in_err-print_words.ensures.1).1 (
+      list_text c.args.xlen c.args.first c.args.entries.now ++ words,
+      is_text,
+      breaks_after g.W.Sink.contents g.W.Sink.failures g.W.Sink.stalls
+          c.in_ok-print_list.ensures broken,
+    )
 
 pub returns : goal.returns
 returns g c =
     let words = words_of c.args.xlen c.args.limit c.args.first c.args.entries.now in
     let is_text = with_words c.args.xlen c.args.limit c.args.first c.args.entries.now _ c.if-entries-room.false c.room_from-room.ensures in
-    let taken : TakesAll words (writing g.W.Sink.contents g.W.Sink.failures g.W.Sink.stalls c.print_list.new.out c.print_words.new.out) = rw c.words-count.ensures.value at c.in_ok-print_words.ensures in
-    (list_text c.args.xlen c.args.first c.args.entries.now ++ words, is_text, takes_then g.W.Sink.contents g.W.Sink.failures g.W.Sink.stalls c.in_ok-print_list.ensures taken)
+    let taken : TakesAll words (writing g.W.Sink.contents g.W.Sink.failures g.W.Sink.stalls c.print_list.new.out c.print_words.new.out) = rw
+    c.words-count.ensures.value at c.in_ok-print_words.ensures in (
+      list_text c.args.xlen c.args.first c.args.entries.now ++ words,
+      is_text,
+      takes_then g.W.Sink.contents g.W.Sink.failures g.W.Sink.stalls
+          c.in_ok-print_list.ensures taken,
+    )

@@ -34,4 +34,5 @@ returns-in_err-write_whole g c =
     c.as_slice.ensures.value ∙ c.word_line-line.ensures ∙ ap₂ (word_text c.args.xlen) c.word_number.ensures c.word_from.ensures in
     let whole = ap (λ x. w.0 ++ x) (sym (words_text-first c.args.xlen first entries i c.args.end c.loop-i-test.true)) ∙ w.1 in
     rw (err_from_is_err_and c.from_residual.result c.from_residual.ensures.1).1
-    (rw c.whole_word-begin.ensures.value at (breaks_within g.W.Sink.contents g.W.Sink.failures g.W.Sink.stalls (words_text c.args.xlen first entries (i + 1) (c.args.end - (i + 1))) whole w.2 (rw line at c.in_err-write_whole.ensures)))
+    (rw c.whole_word-begin.ensures.value at (breaks_within g.W.Sink.contents g.W.Sink.failures g.W.Sink.stalls
+    (words_text c.args.xlen first entries (i + 1) (c.args.end - (i + 1))) whole w.2 (rw line at c.in_err-write_whole.ensures)))

@@ -14,8 +14,12 @@ returns-in_err-print_arrays g c =
     let entries = c.args.entries.now in
     let start = c.args.first in
     let first : Breaks (c_arrays (prefix_of name) (array_link name) xlen limit start entries) (writing g.W.Sink.contents g.W.Sink.failures g.W.Sink.stalls c.args.out.now c.print_arrays.new.out) = rw c.array_link-link.ensures at (rw c.prefix_of-prefix.ensures at c.in_err-print_arrays.ensures) in
-    rw (err_from_is_err_and c.from_residual.result c.from_residual.ensures.1).1
-    (c_text name xlen limit start entries, refl, breaks_before g.W.Sink.contents g.W.Sink.failures g.W.Sink.stalls (c_loader (prefix_of name) (array_link name) xlen limit start (decimal (length entries))) first)
+    rw (err_from_is_err_and c.from_residual.result c.from_residual.ensures.1).1 (
+      c_text name xlen limit start entries,
+      refl,
+      breaks_before g.W.Sink.contents g.W.Sink.failures g.W.Sink.stalls
+          (c_loader (prefix_of name) (array_link name) xlen limit start (decimal (length entries))) first,
+    )
 
 pub returns-in_err-print_loader : goal.returns-in_err-print_loader
 returns-in_err-print_loader g c =

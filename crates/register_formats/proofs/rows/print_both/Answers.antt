@@ -6,7 +6,8 @@ use Rattle.register_formats.proofs.rows.print_both.Goals as goal
 pub returns-in_err-print_rows : goal.returns-in_err-print_rows
 returns-in_err-print_rows g c =
     rw (err_from_is_err_and c.from_residual.result c.from_residual.ensures.1).1
-    (breaks_before g.W.Sink.contents g.W.Sink.failures g.W.Sink.stalls (rows_text (g.B.Rows.row_text c.args.others.now) 0 c.args.other_count) c.in_err-print_rows.ensures)
+    (breaks_before g.W.Sink.contents g.W.Sink.failures g.W.Sink.stalls (rows_text (g.B.Rows.row_text c.args.others.now) 0 c.args.other_count)
+    c.in_err-print_rows.ensures)
 
 pub returns-in_err-print_rows-2 : goal.returns-in_err-print_rows-2
 returns-in_err-print_rows-2 g c =

@@ -9,7 +9,12 @@ none_less : (n : ℕ) → n - 0 ≡ n
 none_less n = omega arith
 
 pub loop-i-init : goal.loop-i-init
-loop-i-init g c = ([], ap (rows_text (g.R.Rows.row_text c.args.rows.now) 0) (none_less c.args.count), takes_none g.W.Sink.contents g.W.Sink.failures g.W.Sink.stalls _)
+loop-i-init g c = (
+  [],
+  ap (rows_text (g.R.Rows.row_text c.args.rows.now) 0)
+      (none_less c.args.count),
+  takes_none g.W.Sink.contents g.W.Sink.failures g.W.Sink.stalls _,
+)
 
 pub loop-i-preserved : goal.loop-i-preserved
 loop-i-preserved g c =
@@ -28,4 +33,5 @@ returns-in_err-print_row g c =
     let w = c.loop-i.invariant in
     let whole = ap (λ x. w.0 ++ x) (sym (rows_text-first row i c.args.count c.loop-i-test.true)) ∙ w.1 in
     rw (err_from_is_err_and c.from_residual.result c.from_residual.ensures.1).1
-    (breaks_within g.W.Sink.contents g.W.Sink.failures g.W.Sink.stalls (rows_text row (i + 1) (c.args.count - (i + 1))) whole w.2 (rw c.row-row.ensures at c.in_err-print_row.ensures))
+    (breaks_within g.W.Sink.contents g.W.Sink.failures g.W.Sink.stalls (rows_text row (i + 1) (c.args.count - (i + 1))) whole w.2
+    (rw c.row-row.ensures at c.in_err-print_row.ensures))

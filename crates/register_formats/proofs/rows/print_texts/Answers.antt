@@ -27,5 +27,6 @@ returns-in_err-write_whole g c =
 pub returns : goal.returns
 returns g c =
     let w = c.loop-text.invariant in
-    let whole = sym (append-nil w.0) ∙ ap (λ xs. w.0 ++ concat (map (λ s. s.now) xs)) (sym (texts-none c.args.texts.now c.loop-text.text-index c.loop-text-test.false)) ∙ w.1 in
+    let whole = sym (append-nil w.0) ∙ ap (λ xs. w.0 ++ concat (map (λ s. s.now) xs))
+    (sym (texts-none c.args.texts.now c.loop-text.text-index c.loop-text-test.false)) ∙ w.1 in
     subst (λ text. TakesAll text (writing g.W.Sink.contents g.W.Sink.failures g.W.Sink.stalls c.args.out.now c.loop-text.out)) whole w.2

@@ -6,7 +6,8 @@ use Rattle.register_formats.proofs.rows.print_titled.Goals as goal
 pub returns-in_err-print_texts : goal.returns-in_err-print_texts
 returns-in_err-print_texts g c =
     rw (err_from_is_err_and c.from_residual.result c.from_residual.ensures.1).1
-    (breaks_before g.W.Sink.contents g.W.Sink.failures g.W.Sink.stalls (rows_text (g.R.Rows.row_text c.args.rows.now) 0 c.args.count) c.in_err-print_texts.ensures)
+    (breaks_before g.W.Sink.contents g.W.Sink.failures g.W.Sink.stalls (rows_text (g.R.Rows.row_text c.args.rows.now) 0 c.args.count)
+    c.in_err-print_texts.ensures)
 
 pub returns-in_err-print_rows : goal.returns-in_err-print_rows
 returns-in_err-print_rows g c =

@@ -18,4 +18,10 @@ returns-clause-digits c =
     counted v _ _ _ long (chunk-fits w8 0 16 c.args.text.now c.type_inv.text) (zip2_of_maps bit_and _ _ v zero_up a_up) c.first_set.ensures refl
 
 pub returns-clause-most : goal.returns-clause-most
-returns-clause-most c = omega (arith, returns-clause-digits c, prefix_len-le-length (λ b. nat_lt (digit_of b) 16) (take 16 c.args.text.now), length-take-le 16 c.args.text.now c.requires)
+returns-clause-most c = omega (
+  arith,
+  returns-clause-digits c,
+  prefix_len-le-length (λ b. nat_lt (digit_of b) 16)
+      (take 16 c.args.text.now),
+  length-take-le 16 c.args.text.now c.requires,
+)

@@ -6,12 +6,14 @@ use Rattle.text_lines.proofs.lexical.leading_decimals.Goals.{else-loop-len-test,
 
 pub overflow_mul-value : goal.overflow_mul-value
 overflow_mul-value c =
-    let most = decimal_fits (c.loop-len.value * 10 + 0) (c.loop-len.len + 1) (decimal_more c.loop-len.value c.loop-len.len 0 c.loop-len.invariant.fits (lit< tt)) (omega arith) in
+    let most = decimal_fits (c.loop-len.value * 10 + 0) (c.loop-len.len + 1)
+    (decimal_more c.loop-len.value c.loop-len.len 0 c.loop-len.invariant.fits (lit< tt)) (omega arith) in
     record { fits = omega (arith, most) }
 
 pub overflow_add-value : goal.overflow_add-value
 overflow_add-value c = record {
-  fits = decimal_fits _ (c.loop-len.len + 1) (decimal_more c.loop-len.value c.loop-len.len c.decimal-digit.result c.loop-len.invariant.fits (omega arith)) (omega arith);
+  fits = decimal_fits _ (c.loop-len.len + 1) (decimal_more c.loop-len.value c.loop-len.len c.decimal-digit.result c.loop-len.invariant.fits (omega arith))
+      (omega arith);
 }
 
 pub returns : goal.returns
@@ -21,7 +23,12 @@ returns c =
     let ends : EndsDigits 10 (drop c.loop-len.len text) =
     elim c.loop-len-test.branch [
       | else-loop-len-test w ↦ ends_all 10 text c.loop-len.len (omega (arith, c.loop-len.invariant.within, w.loop-len-test.false, c.if-len-eq-DECIMALS.false))
-      | then-loop-len-test+then-digit-ge10 w ↦ ends_here 10 text c.loop-len.len _ (omega (arith, w.loop-len-test.true)) refl (w.decimal-digit.ensures.other w.if-digit-ge10.true)
+      | then-loop-len-test+then-digit-ge10 w ↦ ends_here 10 text c.loop-len.len _ (omega (arith, w.loop-len-test.true)) refl
+          (w.decimal-digit.ensures.other w.if-digit-ge10.true)
     ] in
     let fits = decimal_fits c.loop-len.value c.loop-len.len c.loop-len.invariant.fits (omega (arith, c.loop-len.invariant.within)) in
-    rw c.if-base-ne10.false (begins_numeral 10 text c.loop-len.len c.loop-len.value within c.if-len-eq0.false c.loop-len.invariant.so_far fits c.loop-len.invariant.digits ends, within)
+    rw c.if-base-ne10.false (
+      begins_numeral 10 text c.loop-len.len c.loop-len.value within c.if-len-eq0.false c.loop-len.invariant.so_far fits
+          c.loop-len.invariant.digits ends,
+      within,
+    )

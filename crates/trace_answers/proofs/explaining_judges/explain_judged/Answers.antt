@@ -17,7 +17,8 @@ returns-clause-all g c =
     let deciders = c.args.deciders.now in
     let begun : ExplainingJudge _ _ = record { by = c.args.by; deciders = c.args.deciders } in
     if_ok c.interpret_lines.result
-    (mapped_all (Keeps by deciders) stateless (explains outcomes decides) (explaining (answered_by (outcomes by)) (on_access (decides deciders))) (follows outcomes decides by deciders) begun _ _ _ _ _ (refl, refl))
+    (mapped_all (Keeps by deciders) stateless (explains outcomes decides) (explaining (answered_by (outcomes by)) (on_access (decides deciders)))
+    (follows outcomes decides by deciders) begun _ _ _ _ _ (refl, refl))
     (c.interpret_lines.ensures.all tt)
 
 pub returns-clause-line : goal.returns-clause-line
@@ -27,7 +28,8 @@ returns-clause-line g c = λ n e.
     let by = c.args.by.now in
     let deciders = c.args.deciders.now in
     let begun : ExplainingJudge _ _ = record { by = c.args.by; deciders = c.args.deciders } in
-    mapped_at (Keeps by deciders) stateless (explains outcomes decides) (explaining (answered_by (outcomes by)) (on_access (decides deciders))) _ is_no_access (follows outcomes decides by deciders) (λ s line h. h) n begun _ _ _ _ _
+    mapped_at (Keeps by deciders) stateless (explains outcomes decides) (explaining (answered_by (outcomes by)) (on_access (decides deciders))) _ is_no_access
+    (follows outcomes decides by deciders) (λ s line h. h) n begun _ _ _ _ _
     (refl, refl) (c.interpret_lines.ensures.line tt n e)
 
 pub returns-clause-too_long : goal.returns-clause-too_long
@@ -37,7 +39,8 @@ returns-clause-too_long g c = λ e.
     let by = c.args.by.now in
     let deciders = c.args.deciders.now in
     let begun : ExplainingJudge _ _ = record { by = c.args.by; deciders = c.args.deciders } in
-    mapped_too_long (Keeps by deciders) stateless (explains outcomes decides) (explaining (answered_by (outcomes by)) (on_access (decides deciders))) (follows outcomes decides by deciders) begun _ _ _ _ _ (refl, refl)
+    mapped_too_long (Keeps by deciders) stateless (explains outcomes decides) (explaining (answered_by (outcomes by)) (on_access (decides deciders)))
+    (follows outcomes decides by deciders) begun _ _ _ _ _ (refl, refl)
     (c.interpret_lines.ensures.too_long tt e)
 
 pub returns-clause-read : goal.returns-clause-read
@@ -47,7 +50,8 @@ returns-clause-read g c = λ e.
     let by = c.args.by.now in
     let deciders = c.args.deciders.now in
     let begun : ExplainingJudge _ _ = record { by = c.args.by; deciders = c.args.deciders } in
-    mapped_reading (Keeps by deciders) stateless (explains outcomes decides) (explaining (answered_by (outcomes by)) (on_access (decides deciders))) (follows outcomes decides by deciders) begun _ _ _ _ _ (refl, refl)
+    mapped_reading (Keeps by deciders) stateless (explains outcomes decides) (explaining (answered_by (outcomes by)) (on_access (decides deciders)))
+    (follows outcomes decides by deciders) begun _ _ _ _ _ (refl, refl)
     (c.interpret_lines.ensures.read tt e)
 
 pub returns-clause-write : goal.returns-clause-write
@@ -57,5 +61,6 @@ returns-clause-write g c = λ e.
     let by = c.args.by.now in
     let deciders = c.args.deciders.now in
     let begun : ExplainingJudge _ _ = record { by = c.args.by; deciders = c.args.deciders } in
-    mapped_writing (Keeps by deciders) stateless (explains outcomes decides) (explaining (answered_by (outcomes by)) (on_access (decides deciders))) (follows outcomes decides by deciders) begun _ _ _ _ _ (refl, refl)
+    mapped_writing (Keeps by deciders) stateless (explains outcomes decides) (explaining (answered_by (outcomes by)) (on_access (decides deciders)))
+    (follows outcomes decides by deciders) begun _ _ _ _ _ (refl, refl)
     (c.interpret_lines.ensures.write tt e)

@@ -16,8 +16,16 @@ returns-then-wants_memory-clause-starved c = λ is k.
       judged = c.step-reply.ensures.judged;
       others = c.step-reply.ensures.others;
       kept = c.step-reply.ensures.kept k;
-    } in
-    ((c.in-Some.hart, c.in-Some.event, sym c.in-Ok.ensures.meaning ∙ ap Some c.in-Some.is, subst (λ r. Happens c.args.self.now.machine c.in-Some.hart c.in-Some.event r c.step-reply.new.self) wanted happens), refl)
+    } in (
+      (
+        c.in-Some.hart,
+        c.in-Some.event,
+        sym c.in-Ok.ensures.meaning ∙ ap Some c.in-Some.is,
+        subst
+            (λ r. Happens c.args.self.now.machine c.in-Some.hart c.in-Some.event r c.step-reply.new.self) wanted happens,
+      ),
+      refl,
+    )
 
 -- and its answer is explained
 pub returns-clause-done : goal.returns-clause-done
@@ -33,5 +41,8 @@ returns-clause-done c = λ k.
     } in
     let number = decimal (c.args.count + 1) in
     let text : number ++ c.push_reply.new.line ≡ reply_text (c.args.count + 1) c.step-reply.result = c.push_reply.ensures.text answered (c.args.count + 1) in
-    explained_next c.args.self.now.machine c.step-reply.new.self c.args.self.now.tally c.add.new.self c.args.count c.args.line.now c.in-Some.hart c.in-Some.event c.step-reply.result c.asked_of-asked.result (number ++ c.push_reply.new.line) c.comment_on-comment.result.items (number ++ c.explain.new.answer) c.table.result.now.table
-    (sym c.in-Ok.ensures.meaning ∙ ap Some c.in-Some.is) happens answered c.asked_of-asked.ensures c.add.ensures text c.comment_on-comment.ensures c.table.ensures.state c.explain.ensures
+    explained_next c.args.self.now.machine c.step-reply.new.self c.args.self.now.tally c.add.new.self c.args.count c.args.line.now c.in-Some.hart
+    c.in-Some.event c.step-reply.result c.asked_of-asked.result (number ++ c.push_reply.new.line) c.comment_on-comment.result.items
+    (number ++ c.explain.new.answer) c.table.result.now.table
+    (sym c.in-Ok.ensures.meaning ∙ ap Some c.in-Some.is) happens answered c.asked_of-asked.ensures c.add.ensures text c.comment_on-comment.ensures
+    c.table.ensures.state c.explain.ensures

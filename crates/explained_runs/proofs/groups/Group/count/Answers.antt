@@ -12,5 +12,6 @@ returns-in_default c subject happened happening is counted = record {
 pub returns : goal.returns
 returns c subject happened happening is counted = record {
   total = c.saturating_add-self.ensures ∙ ap (λ n. kept (n + 1)) counted.total ∙ sym (total_more subject happened happening c.in-Some.kind (is ∙ c.in-Some.is));
-  counts = (rw (c.new-counts.ensures) at c.push_counted.ensures) ∙ ap (map (with_one c.in-Some.kind)) (c.as_slice.ensures.value ∙ counted.counts) ∙ counts_more subject happened happening c.in-Some.kind (is ∙ c.in-Some.is);
+  counts = (rw (c.new-counts.ensures) at c.push_counted.ensures) ∙ ap (map (with_one c.in-Some.kind)) (c.as_slice.ensures.value ∙ counted.counts)
+      ∙ counts_more subject happened happening c.in-Some.kind (is ∙ c.in-Some.is);
 }

@@ -52,7 +52,8 @@ returns-clause-platform c = c.step.ensures.frame.layout
 pub returns-clause-private : goal.returns-clause-private
 unfolding state_of bank_on
 returns-clause-private c = λ right.
-    keeps_private (state_in c.args.self.now.parts) c.args.hart c.args.event c.step.result (state_in c.step.new.self) c.cite_invariant.ensures.table (c.step.ensures.step right)
+    keeps_private (state_in c.args.self.now.parts) c.args.hart c.args.event c.step.result (state_in c.step.new.self) c.cite_invariant.ensures.table
+    (c.step.ensures.step right)
 
 pub returns-clause-allowed : goal.returns-clause-allowed
 unfolding state_of bank_on
@@ -62,7 +63,8 @@ returns-clause-allowed c = λ right.
 pub returns-clause-denied : goal.returns-clause-denied
 unfolding state_of bank_on
 returns-clause-denied c = λ right.
-    denies_others (state_in c.args.self.now.parts) c.args.hart c.args.event c.step.result (state_in c.step.new.self) c.cite_invariant.ensures.table (c.step.ensures.step right)
+    denies_others (state_in c.args.self.now.parts) c.args.hart c.args.event c.step.result (state_in c.step.new.self) c.cite_invariant.ensures.table
+    (c.step.ensures.step right)
 
 pub returns-clause-destroyed : goal.returns-clause-destroyed
 unfolding state_of bank_on
@@ -72,7 +74,8 @@ returns-clause-destroyed c = λ right.
 pub returns-clause-entries : goal.returns-clause-entries
 unfolding state_of bank_on
 returns-clause-entries c = λ right.
-    refuses_by_need (state_in c.args.self.now.parts) c.args.hart c.args.event c.step.result (state_in c.step.new.self) c.cite_invariant.ensures.table (c.step.ensures.step right)
+    refuses_by_need (state_in c.args.self.now.parts) c.args.hart c.args.event c.step.result (state_in c.step.new.self) c.cite_invariant.ensures.table
+    (c.step.ensures.step right)
 
 pub returns-clause-after : goal.returns-clause-after
 unfolding state_of kept_of bank_on

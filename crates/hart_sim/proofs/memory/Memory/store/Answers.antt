@@ -11,5 +11,6 @@ returns-in-Some-clause-bytes c =
     let put = (c.get_mut.follows.holds now).3 (ap (λ o. is_some o) (sym there)) in
     let was = c.deref_mut.ensures.value in
     both c.store.result
-    (λ bytes others. stores_in c.args.self.now record { spans = c.get_mut.follows.lender now } (Some span) now c.args.address c.args.size c.args.value c.requires.inside there put.0 (rw was at bytes) (rw was at others))
+    (λ bytes others. stores_in c.args.self.now record { spans = c.get_mut.follows.lender now }
+    (Some span) now c.args.address c.args.size c.args.value c.requires.inside there put.0 (rw was at bytes) (rw was at others))
     c.store.ensures.bytes c.store.ensures.others

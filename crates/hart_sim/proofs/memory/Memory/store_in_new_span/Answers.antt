@@ -8,4 +8,5 @@ pub returns-clause-bytes : goal.returns-clause-bytes
 returns-clause-bytes c =
     let made = c.in_ok-span.ensures in
     let there = absent_is_none (get nat_cmp c.args.self.now.spans (c.args.address / 4096 / 4096)) c.requires.new in
-    stores_in c.args.self.now record { spans = c.insert.new.self } None c.in_ok-span.span c.args.address c.args.size c.args.value c.requires.inside there c.in_ok-insert.ensures.updates.0 made.bytes made.others
+    stores_in c.args.self.now record { spans = c.insert.new.self } None c.in_ok-span.span c.args.address c.args.size c.args.value c.requires.inside there
+    c.in_ok-insert.ensures.updates.0 made.bytes made.others

@@ -17,7 +17,8 @@ pub returns-in-Ok-clause-step : goal.returns-in-Ok-clause-step
 returns-in-Ok-clause-step c = λ right.
     let old = c.args.self.now in
     let loads = right c.args.hart c.bank.result.now c.requires.on.known c.requires.awake c.bank.ensures in
-    accesses_ok (view_on (state_in old) c.args.hart) loads.list (state_by old.monitor) old.memory c.reach.new.memory c.args.access.now c.args.value c.reach.result loads.fewest.means c.requires.event (c.in-Ok.ensures.by_no_other loads.list loads.loaded) c.reach.ensures
+    accesses_ok (view_on (state_in old) c.args.hart) loads.list (state_by old.monitor) old.memory c.reach.new.memory c.args.access.now c.args.value
+    c.reach.result loads.fewest.means c.requires.event (c.in-Ok.ensures.by_no_other loads.list loads.loaded) c.reach.ensures
 
 pub returns-in-Err-clause-judged : goal.returns-in-Err-clause-judged
 returns-in-Err-clause-judged c = λ bank list cause has lists.
@@ -29,14 +30,16 @@ pub returns-in-Err-clause-step : goal.returns-in-Err-clause-step
 returns-in-Err-clause-step c = λ right.
     let old = c.args.self.now in
     let loads = right c.args.hart c.bank.result.now c.requires.on.known c.requires.awake c.bank.ensures in
-    accesses_err (view_on (state_in old) c.args.hart) loads.list (state_by old.monitor) old.memory c.args.access.now c.args.value c.in-Err.cause loads.fewest.means c.requires.event (c.in-Err.ensures.by_no_other loads.list loads.loaded)
+    accesses_err (view_on (state_in old) c.args.hart) loads.list (state_by old.monitor) old.memory c.args.access.now c.args.value c.in-Err.cause
+    loads.fewest.means c.requires.event (c.in-Err.ensures.by_no_other loads.list loads.loaded)
 
 pub returns-in-Ok-clause-effect : goal.returns-in-Ok-clause-effect
 returns-in-Ok-clause-effect c = λ bank list said has lists judged.
     let old = c.args.self.now in
     let same : c.bank.result.now ≡ bank = same_Some _ _ (sym c.bank.ensures ∙ has) in
     let loaded = subst (λ b. HasList b list) (sym same) lists in
-    effect_ok list (state_by old.monitor) old.memory c.reach.new.memory c.args.access.now c.args.value c.reach.result said (c.in-Ok.ensures.by_no_other list loaded) c.reach.ensures judged
+    effect_ok list (state_by old.monitor) old.memory c.reach.new.memory c.args.access.now c.args.value c.reach.result said
+    (c.in-Ok.ensures.by_no_other list loaded) c.reach.ensures judged
 
 pub returns-in-Err-clause-effect : goal.returns-in-Err-clause-effect
 returns-in-Err-clause-effect c = λ bank list said has lists judged.

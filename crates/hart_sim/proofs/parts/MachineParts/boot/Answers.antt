@@ -33,7 +33,12 @@ returns-clause-banks c = λ hart bank low off has.
     let s = state_by c.in-Ok.monitor in
     let is = c.in-Ok.ensures.state in
     let world : s.worlds 0 ≡ s.worlds hart = ap (λ x. x.worlds 0) is ∙ sym (ap (λ x. x.worlds hart) is) in
-    let loaded : LoadsFewest c.of-bank.result (view_on s 0) = record { list = c.entries.result.now; loaded = c.of-bank.ensures.list; fewest = c.entries.ensures.fewest } in
+    let loaded : LoadsFewest c.of-bank.result (view_on s 0) = record {
+      list = c.entries.result.now;
+      loaded = c.of-bank.ensures.list;
+      fewest =
+          c.entries.ensures.fewest;
+    } in
     let at : slice_get (replicate 4 c.of-bank.result) hart ≡ Some bank = ap (λ banks. slice_get banks hart) (sym c.in-Ok-four_of.ensures) ∙ has in
     subst (λ b. LoadsFewest b (view_on s hart)) (sym (each_is c.of-bank.result hart bank at))
     (loads_same c.of-bank.result (view_on s 0) (view_on s hart) (λ page small. ap (λ w. view_of s.table w page) world) loaded)

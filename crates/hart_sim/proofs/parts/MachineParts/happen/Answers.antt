@@ -18,7 +18,9 @@ returns-in-Ecall-clause-step c = λ right.
     let s = state_in c.args.self.now in
     let new = state_in c.ecall.new.self in
     subst (λ e. DoesEvent e s c.args.hart c.ecall.result new) (sym c.in-Ecall.is)
-    (subst (λ words. Serves (DoesCall (call_of (calling s c.args.hart words)) (measured_in s.bytes) (with_running (core_of s) c.args.hart (calling s c.args.hart words)) c.args.hart) s c.args.hart c.ecall.result new) c.as_slice.ensures.value c.ecall.ensures.step)
+    (subst (λ words. Serves (DoesCall (call_of (calling s c.args.hart words)) (measured_in s.bytes)
+    (with_running (core_of s) c.args.hart (calling s c.args.hart words)) c.args.hart) s c.args.hart c.ecall.result new) c.as_slice.ensures.value
+    c.ecall.ensures.step)
 
 -- the list of the bank that is loaded on a hart
 abbrev Loaded : MachineParts → ℕ → List Entry → Type 0
@@ -27,12 +29,14 @@ Loaded parts hart list = (bank : Bank) × (bank_in parts hart ≡ Some bank) × 
 pub returns-in-Access-clause-effect : goal.returns-in-Access-clause-effect
 returns-in-Access-clause-effect c =
     let old = c.args.self.now in
-    subst (λ e. DoesBy (Loaded old c.args.hart) e (state_in old) c.args.hart c.access.result (state_in c.access.new.self)) (sym c.in-Access.is) (λ list said met judged. c.access.ensures.effect met.0 list said met.1 met.2 judged)
+    subst (λ e. DoesBy (Loaded old c.args.hart) e (state_in old) c.args.hart c.access.result (state_in c.access.new.self)) (sym c.in-Access.is)
+    (λ list said met judged. c.access.ensures.effect met.0 list said met.1 met.2 judged)
 
 pub returns-in-Reg-clause-effect : goal.returns-in-Reg-clause-effect
 returns-in-Reg-clause-effect c =
     let old = c.args.self.now in
-    subst (λ e. DoesBy (Loaded old c.args.hart) e (state_in old) c.args.hart c.set_register.result (state_in c.set_register.new.self)) (sym c.in-Reg.is) c.set_register.ensures.step
+    subst (λ e. DoesBy (Loaded old c.args.hart) e (state_in old) c.args.hart c.set_register.result (state_in c.set_register.new.self))
+    (sym c.in-Reg.is) c.set_register.ensures.step
 
 pub returns-in-Ecall-clause-effect : goal.returns-in-Ecall-clause-effect
 returns-in-Ecall-clause-effect c =
@@ -40,9 +44,12 @@ returns-in-Ecall-clause-effect c =
     let s = state_in old in
     let new = state_in c.ecall.new.self in
     subst (λ e. DoesBy (Loaded old c.args.hart) e s c.args.hart c.ecall.result new) (sym c.in-Ecall.is)
-    (subst (λ words. Serves (DoesCall (call_of (calling s c.args.hart words)) (measured_in s.bytes) (with_running (core_of s) c.args.hart (calling s c.args.hart words)) c.args.hart) s c.args.hart c.ecall.result new) c.as_slice.ensures.value c.ecall.ensures.step)
+    (subst (λ words. Serves (DoesCall (call_of (calling s c.args.hart words)) (measured_in s.bytes)
+    (with_running (core_of s) c.args.hart (calling s c.args.hart words)) c.args.hart) s c.args.hart c.ecall.result new) c.as_slice.ensures.value
+    c.ecall.ensures.step)
 
 pub returns-in-Irq-clause-effect : goal.returns-in-Irq-clause-effect
 returns-in-Irq-clause-effect c =
     let old = c.args.self.now in
-    subst (λ e. DoesBy (Loaded old c.args.hart) e (state_in old) c.args.hart c.interrupt.result (state_in c.interrupt.new.self)) (sym c.in-Irq.is) c.interrupt.ensures.step
+    subst (λ e. DoesBy (Loaded old c.args.hart) e (state_in old) c.args.hart c.interrupt.result (state_in c.interrupt.new.self))
+    (sym c.in-Irq.is) c.interrupt.ensures.step

@@ -30,5 +30,10 @@ returns-clause-frame c =
     (subst (λ m. AreBanks new.banks (state_by m).table.layout.limit) (sym c.load_where.ensures.monitor) c.load_where.ensures.limited)
     (λ same. ap kept_by is ∙ e.lists (ap (λ m. (state_by m).table) (sym is) ∙ same))
     c.load_where.ensures.others
-    (λ yes. let f = c.load_where.ensures.fewest yes in (f.0, f.1, subst (λ m. LoadsFewest f.0 (view_on (shown (state_by m) old.memory) c.args.hart)) (sym c.load_where.ensures.monitor) f.2))
+    (λ yes. let f = c.load_where.ensures.fewest yes in (
+      f.0,
+      f.1,
+      subst (λ m. LoadsFewest f.0 (view_on (shown (state_by m) old.memory) c.args.hart))
+          (sym c.load_where.ensures.monitor) f.2,
+    ))
     c.load_where.ensures.calm

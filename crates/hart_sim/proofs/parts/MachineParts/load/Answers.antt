@@ -33,4 +33,5 @@ returns-clause-limited c =
     let banks = c.args.self.now.banks in
     let was = slice_index_or banks c.args.hart c.index-banks-hart.result in
     let at = read_at banks c.args.hart c.index-banks-hart.result (omega (arith, c.requires.limited.four, c.requires.hart)) in
-    put_limited banks _ c.args.hart c.load.new.self c.requires.hart c.requires.limited (ap limit_number c.load.ensures.limit ∙ c.requires.limited.limited c.args.hart was at)
+    put_limited banks _ c.args.hart c.load.new.self c.requires.hart c.requires.limited
+    (ap limit_number c.load.ensures.limit ∙ c.requires.limited.limited c.args.hart was at)

@@ -15,7 +15,8 @@ use Rattle.hart_sim.proofs.parts.MachineParts.serve.Goals as goal
 use Rattle.hart_sim.specs.Memory.{measured_in}
 
 -- pages that are to be zero are in the space
-in_space : (layout : PlatformLayout) (pages : Option PageRange) → IfSome pages (λ (range : PageRange). ClearsMemory layout range) → IfSome pages (λ (range : PageRange). range.first + range.count ≤ 2 ^ 44)
+in_space : (layout : PlatformLayout) (pages : Option PageRange) → IfSome pages (λ (range : PageRange). ClearsMemory layout range)
+    → IfSome pages (λ (range : PageRange). range.first + range.count ≤ 2 ^ 44)
 in_space layout None x = tt
 in_space layout (Some range) x = x.inside
 
@@ -37,7 +38,8 @@ returns-clause-served c =
     let file = with_words (running_registers before c.args.hart) (17 ∷ (16 ∷ (10 ∷ (11 ∷ (12 ∷ (13 ∷ (14 ∷ (15 ∷ [])))))))) c.args.words.now in (
       r.zero,
       core,
-      call_there before (state_by c.put_call.new.monitor) core c.args.hart file (measured_in s.bytes) r.answer r.zero c.put_call.ensures.state c.serve-served.ensures.step,
+      call_there before (state_by c.put_call.new.monitor) core c.args.hart file
+          (measured_in s.bytes) r.answer r.zero c.put_call.ensures.state c.serve-served.ensures.step,
       ap₂ (λ m y. shown (state_by m) y) c.load_where.ensures.monitor c.load_where.ensures.memory ∙ c.zero.ensures.state,
     )
 
@@ -60,5 +62,10 @@ returns-clause-frame c =
     (subst (λ m. AreBanks new.banks (state_by m).table.layout.limit) (sym c.load_where.ensures.monitor) c.load_where.ensures.limited)
     (λ same. ap kept_by is ∙ e.lists (ap (λ m. (state_by m).table) (sym is) ∙ same ∙ sym (ap (λ s. s.table) put)) ∙ c.put_call.ensures.kept)
     (λ i other. c.load_where.ensures.others i other ∙ ap (λ bs. slice_get bs i) c.zero.ensures.banks)
-    (λ yes. let f = c.load_where.ensures.fewest yes in (f.0, f.1, subst (λ m. LoadsFewest f.0 (view_on (shown (state_by m) old.memory) c.args.hart)) (sym c.load_where.ensures.monitor) f.2))
+    (λ yes. let f = c.load_where.ensures.fewest yes in (
+      f.0,
+      f.1,
+      subst (λ m. LoadsFewest f.0 (view_on (shown (state_by m) old.memory) c.args.hart))
+          (sym c.load_where.ensures.monitor) f.2,
+    ))
     (λ no. c.load_where.ensures.calm no ∙ c.zero.ensures.banks)

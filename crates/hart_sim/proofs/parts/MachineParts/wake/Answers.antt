@@ -23,5 +23,6 @@ returns-clause-frame c =
     frame_woken old new c.args.hart (sym c.is_marked.ensures ∙ c.if-not-is_marked.false) c.load.ensures.limited
     (ap (λ s. s.table) c.wake.ensures.state ∙ ap (λ m. (state_by m).table) same)
     (λ i. ap (λ s. s.worlds i) c.wake.ensures.state ∙ ap (λ m. (state_by m).worlds i) same)
-    (λ i other. ap (λ s. s.marked i) c.wake.ensures.state ∙ ap (λ (b : Bool). if b then false else was i) (ne_eqb i c.args.hart other) ∙ ap (λ m. (state_by m).marked i) same)
+    (λ i other. ap (λ s. s.marked i) c.wake.ensures.state ∙ ap (λ (b : Bool). if b then false else was i) (ne_eqb i c.args.hart other)
+    ∙ ap (λ m. (state_by m).marked i) same)
     (c.wake.ensures.kept ∙ ap kept_by same) c.load.ensures.others c.load.ensures.fewest

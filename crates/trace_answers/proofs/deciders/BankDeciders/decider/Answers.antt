@@ -5,4 +5,5 @@ use Rattle.trace_answers.proofs.deciders.BankDeciders.decider.Goals as goal
 
 pub returns : goal.returns
 returns c = λ entries list.
-    subst (λ found. DecidesIn entries c.args.access.now found) (sym (c.first_of.ensures ∙ ap (λ extents. found_from 0 extents c.args.access.now) (c.extents.ensures entries list))) (first_found entries c.args.access.now)
+    subst (λ found. DecidesIn entries c.args.access.now found) (sym (c.first_of.ensures
+    ∙ ap (λ extents. found_from 0 extents c.args.access.now) (c.extents.ensures entries list))) (first_found entries c.args.access.now)
