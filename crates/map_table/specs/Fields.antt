@@ -1,4 +1,4 @@
--- The column of sizes.
+-- Sizes as people say them, and the column of a table that has them.
 use Rattle.std.specs.Prelude.{ℕ, ◌-◌, ◌*◌, ◌/◌, ◌%◌, ◌^◌, nat_lt, if◌then◌else◌, List, ◌++◌, codes}
 use Rattle.std.specs.Prelude.{decimal, length, take}
 use Rattle.printed_lines.specs.Fields.{size_text}
@@ -22,6 +22,6 @@ rounded_text size =
     else if nat_lt size (1000 * 2 ^ 40) then more_than size (2 ^ 40) (codes " TiB")
     else more_than size (2 ^ 50) (codes " PiB")
 
--- a size as it stands in the column: exact where that takes at most eight bytes
-abbrev pub column_size : ℕ → List ℕ
-column_size size = if nat_lt 8 (length (size_text size)) then rounded_text size else size_text size
+-- a size as people say it: exact where that takes at most eight bytes, otherwise rounded down
+abbrev pub short_size : ℕ → List ℕ
+short_size size = if nat_lt 8 (length (size_text size)) then rounded_text size else size_text size

@@ -7,7 +7,8 @@ use Rattle.pmp_encoding.specs.declared.perm.Perm.{Perm}
 use Rattle.pmp_encoding.specs.Perms.{perm_word}
 use Rattle.text_lines.specs.Written.{hex}
 use Rattle.map_table.specs.declared.stretch.Stretch.{Stretch}
-use Rattle.printed_lines.specs.Fields.{letters_of, size_text}
+use Rattle.printed_lines.specs.Fields.{letters_of}
+use Rattle.map_table.specs.Fields.{short_size}
 use Rattle.map_table.specs.Rows.{number_text, overridden_from}
 
 -- how high the band of so many bytes is: higher from 64 KiB, 16 MiB and 4 GiB on
@@ -39,7 +40,7 @@ place_text y address = codes "<text class=\"at\" x=\"160\" y=\"" ++ decimal y ++
 -- the letters of a permission and a size in it
 abbrev pub band_text : Perm → ℕ → ℕ → List ℕ
 band_text perm size y = codes "<text class=\"in\" x=\"280\" y=\"" ++ decimal y ++ codes "\">"
-    ++ letters_of perm ++ codes ", " ++ size_text size ++ codes "</text>\n"
+    ++ letters_of perm ++ codes ", " ++ short_size size ++ codes "</text>\n"
 
 -- the mark of a gap
 abbrev pub mark_text : ℕ → List ℕ
@@ -48,7 +49,7 @@ mark_text y = codes "<use href=\"#gap\" x=\"170\" y=\"" ++ decimal y ++ codes "\
 -- and its size
 abbrev pub gap_text : ℕ → ℕ → List ℕ
 gap_text size y = codes "<text class=\"in\" x=\"280\" y=\"" ++ decimal y ++ codes "\">no entry, "
-    ++ size_text size ++ codes "</text>\n"
+    ++ short_size size ++ codes "</text>\n"
 
 -- what stands before the entry beside a band
 abbrev pub beside_text : ℕ → List ℕ

@@ -8,7 +8,7 @@ use Rattle.pmp_encoding.specs.Limits.{limit_number}
 use Rattle.text_lines.specs.Written.{hex}
 use Rattle.map_table.specs.declared.stretch.Stretch.{Stretch}
 use Rattle.printed_lines.specs.Fields.{letters_of}
-use Rattle.map_table.specs.Fields.{column, column_size}
+use Rattle.map_table.specs.Fields.{column, short_size}
 
 -- a stretch with a byte, and with the number of an extent of the list or of none
 pub record IsRow (extents : List Extent) (s : Stretch) : Type 0 where
@@ -19,7 +19,7 @@ pub record IsRow (extents : List Extent) (s : Stretch) : Type 0 where
 abbrev pub range_text : Stretch → List ℕ
 range_text s =
     codes "0x" ++ hex 16 s.first ++ codes " 0x" ++ hex 16 (s.end - 1) ++ codes " "
-    ++ column (column_size (s.end - s.first)) ++ codes "  " ++ letters_of s.wanted ++ codes "  "
+    ++ column (short_size (s.end - s.first)) ++ codes "  " ++ letters_of s.wanted ++ codes "  "
 
 -- whether the extent has some byte of the stretch
 abbrev pub meets : Extent → Stretch → Bool

@@ -1,7 +1,7 @@
-//! The column of sizes.
+//! Sizes as people say them.
 
 ghost use Rattle.std.specs.Prelude.{◌≡◌, ◌++◌, ◌+◌, ◌*◌, ◌^◌, ◌<◌, ◌≤◌, [], length};
-ghost use Rattle.map_table.specs.Fields.{column, column_size, more_than, rounded_text};
+ghost use Rattle.map_table.specs.Fields.{column, short_size, more_than, rounded_text};
 
 use printed_lines::push_size;
 use text_lines::{Line, push_decimal, push_text};
@@ -47,9 +47,9 @@ fn rounded(size: u64) -> Line
     line
 }
 
-/// A size as it stands in the column: exact where that is short.
-fn column_size(size: u64) -> Line
-    ensures items { result ≡ column_size size }
+/// A size as people say it: exact where that is short, otherwise rounded down after a `>`.
+pub(crate) fn short_size(size: u64) -> Line
+    ensures items { result ≡ short_size size }
     ensures len { length result ≤ 50 }
 {
     let mut exact = Line::new();
@@ -60,13 +60,13 @@ fn column_size(size: u64) -> Line
     exact
 }
 
-/// Appends a size, with blanks before one of fewer than seven bytes.
+/// Appends a size as the column of a table has it, with blanks before one of fewer than seven bytes.
 pub(crate) fn push_column(line: &mut Line, size: u64)
     requires room { length line.old + 57 ≤ 128 }
-    ensures items { line.new ≡ line.old ++ column (column_size size) }
+    ensures items { line.new ≡ line.old ++ column (short_size size) }
     ensures len { length line.new ≤ length line.old + 57 }
 {
-    let text = column_size(size);
+    let text = short_size(size);
     let blanks = b"       ";
     push_text(line, &blanks[..7usize.saturating_sub(text.len())]);
     push_text(line, text.as_slice());

@@ -1,7 +1,16 @@
-//! The table of a map as people look at it: its stretches, and which entry decides each.
+//! The table of a map, as text, as JSON and as a picture: its stretches, and which entry decides each.
 //!
-//! For the layer above: [`table_of`] answers the table of a map and its fewest entries, and [`extent_table`] that of what extents
-//! give by themselves. [`number_line`] and [`count_line`] are pieces of it that other forms of it share.
+//! A [`Stretch`] is a maximal piece of the space of bytes on which the map has one permission and one entry, or none, is the
+//! first that has each byte.
+//!
+//! - `stretch`: [`stretches`] answers all of them in order, for any list of extents; they leave no byte out and have none twice.
+//!   [`stretches_by_entries`] does so for a list of NA4 and NAPOT entries, and [`extents_of`] answers what each entry matches.
+//! - `extent_tree`: an [`ExtentTree`] finds the next extent of a list that has a byte of a stretch, without a look at each.
+//! - `table`: [`table_of`] answers the table of a map and its fewest entries, and [`extent_table`] that of what extents give by
+//!   themselves. `rows` has the pieces of it that other forms of it share, [`number_line`] and [`count_line`].
+//! - `tables`: [`json_table`] answers the same as one JSON object for programs, and [`picture`] as an SVG for people: a band for
+//!   each stretch that an entry decides, coloured by its permission, and a gap of one height for each other stretch. Both say
+//!   which entries the deciding one overrides.
 //!
 //! ```text
 //! from               to                 size    perm by
@@ -10,30 +19,6 @@
 //! 0x0000000080200000 0x0000000087ffffff 126 MiB  rwx  2
 //! all else                                       ---  no entry
 //! 3 entries: fewest possible; fits 16
-//! ```
-//!
-//! The space of bytes as a map and a list of extents cut it: stretches of one permission and one deciding entry.
-//!
-//! A [`Stretch`] is a maximal piece of the space on which the map has one permission and one entry, or
-//! none, is the first that has each byte. [`stretches`] answers all of them in order; they leave no byte
-//! out and have none twice. [`stretches_by_entries`] does so for a list of NA4 and NAPOT entries, and [`extents_of`]
-//! answers what each of them matches. [`ExtentTree`] finds the next extent of a list that has a byte of a stretch
-//! without a look at each.
-//!
-//! ```rust
-//! for stretch in &stretches_by_entries(alloc, &map, plan.entries())? {
-//!     // stretch.wanted is the map's permission, stretch.given that of the entry stretch.entry
-//! }
-//! ```
-//!
-//! The table of a map as one JSON object for programs, and as a picture for people.
-//!
-//! For the layer above: [`json_table`] and [`picture`] answer the stretches of a map by its fewest entries, each with the
-//! entry that decides it and those that this one overrides there, and how many entries there are. The picture is an SVG: a band
-//! for each stretch that an entry decides, coloured by its permission, and a gap of one height for each other stretch.
-//!
-//! ```rust
-//! let text = picture(rt.alloc(), &map, plan.entries(), Limit::Sixteen)?;
 //! ```
 #![tactic(auto)]
 

@@ -4,8 +4,9 @@ ghost use Rattle.std.specs.Prelude.{◌≡◌, ◌<◌, ◌≤◌};
 ghost use Rattle.map_table.specs.Pictures.{band_height, band_text, beside_text, gap_text, key_begin, left_text, mark_text, place_text, rect_text, row_height, viewed_text};
 
 use crate::Stretch;
+use crate::fields::short_size;
 use pmp_encoding::Perm;
-use printed_lines::{letters, push_size};
+use printed_lines::letters;
 use text_lines::{Line, push_decimal, push_hex, push_text};
 
 /// How high the band of so many bytes is.
@@ -75,7 +76,7 @@ pub(crate) fn band_line(perm: Perm, size: u64, y: u64) -> Line
     push_text(&mut line, b"\">");
     push_text(&mut line, letters(perm).as_bytes());
     push_text(&mut line, b", ");
-    push_size(&mut line, size);
+    push_text(&mut line, short_size(size).as_slice());
     push_text(&mut line, b"</text>\n");
     line
 }
@@ -99,7 +100,7 @@ pub(crate) fn gap_line(size: u64, y: u64) -> Line
     push_text(&mut line, b"<text class=\"in\" x=\"280\" y=\"");
     push_decimal(&mut line, y);
     push_text(&mut line, b"\">no entry, ");
-    push_size(&mut line, size);
+    push_text(&mut line, short_size(size).as_slice());
     push_text(&mut line, b"</text>\n");
     line
 }

@@ -1,5 +1,5 @@
 -- The letters of a region, as `(R,W)`.
-use Rattle.std.specs.Prelude.{ℕ, ◌-◌, ◌==◌, ◌||◌, ◌&&◌, Bool, true, false, nat_lt, nat_le}
+use Rattle.std.specs.Prelude.{ℕ, ◌-◌, ◌==◌, ◌||◌, ◌&&◌, Bool, true, false, nat_lt}
 use Rattle.std.specs.Prelude.{if◌then◌else◌, List, [], ◌∷◌, length, take, drop, Option, Some, None}
 use Rattle.std.specs.Prelude.{codes, bytes_eq}
 use Rattle.std.specs.List.{position_or_len}
@@ -32,7 +32,8 @@ of_letters text = if are_letters text then Some text else None
 
 -- the letters in parentheses
 abbrev pub letters_of : List ℕ → Option (List ℕ)
-letters_of word = option_and_then of_letters (option_and_then before_end (after_text word (codes "(")))
+letters_of word = option_and_then of_letters
+    (option_and_then before_end (after_text word (codes "(")))
 
 -- whether a letter is among them
 abbrev pub has_letter : ℕ → List ℕ → Bool

@@ -3,4 +3,5 @@ pub mod Listings
 pub mod Texts
 pub mod Blocks
 pub mod Letters
+pub mod Names
 pub mod LogLines

@@ -14,6 +14,7 @@ use Rattle.text_lines.specs.Numbers.{numeral_of, number_of}
 use Rattle.text_lines.specs.Lines.{without_return}
 use Rattle.register_text.specs.declared.entry.RegionEntry.{RegionEntry}
 use Rattle.register_text.specs.LogLines.{log_says}
+use Rattle.register_text.specs.Names.{is_about_pmp, names_hart, unpadded, value_of}
 use Rattle.register_text.specs.declared.setting.Setting.{Setting}
 use Rattle.register_text.specs.declared.setting.Setting.TheVariants as settings
 
@@ -64,9 +65,15 @@ is_foreign name =
     str_eq_ignore_ascii_case name (codes "pc") || str_eq_ignore_ascii_case name (codes "priv")
     || (begins_with_letter name && not (begins_with name (codes "p")))
 
--- another register, which is passed over; `mseccfgh` and the like only where they are zero
+-- a register that leaves those of the protection their meaning: none of them, or `mseccfgh` where
+-- it is zero
+abbrev pub is_harmless : List ℕ → ℕ → Bool
+is_harmless name value = not (is_about_pmp name)
+    || (value == 0 && str_eq_ignore_ascii_case name (codes "mseccfgh"))
+
+-- another register, which is passed over
 abbrev pub is_other : List ℕ → ℕ → Bool
-is_other name value = is_foreign name && (value == 0 || not (begins_with name (codes "mseccfg")))
+is_other name value = is_foreign name && (not (names_hart name) && is_harmless name value)
 
 -- mseccfg, whose bits change what the entries mean, or a register that is passed over
 abbrev pub other_setting : List ℕ → ℕ → Option Setting
@@ -88,7 +95,8 @@ without_colon name = if bytes_eq (drop (length name - 1) name) (codes ":")
 -- a register holds the value
 abbrev pub plain_setting : Xlen → List ℕ → ℕ → Option Setting
 plain_setting xlen name value = if fits xlen value
-    then by_digits xlen name value (after_name name (codes "pmpaddr")) (after_name name (codes "pmpcfg"))
+    then by_digits xlen name value (after_name name (codes "pmpaddr"))
+    (after_name name (codes "pmpcfg"))
     else None
 
 abbrev pub register_setting : Xlen → List ℕ → ℕ → Option Setting
@@ -102,7 +110,7 @@ abbrev pub set_by_one : Xlen → List ℕ → Option Setting
 set_by_one xlen word =
     if nat_lt (equals_at word) (length word)
     then option_and_then (plain_setting xlen (take (equals_at word) word))
-    (number_of (drop (equals_at word + 1) word)) else None
+    (value_of (take (equals_at word) word) (drop (equals_at word + 1) word)) else None
 
 -- a register, or a count of entries, which sets nothing
 abbrev pub named_setting : Xlen → List ℕ → ℕ → Option Setting
@@ -116,8 +124,8 @@ pair_setting xlen place cfg address = if nat_lt place 64 && (nat_lt cfg 256 && f
 
 abbrev pub pair_by_words : Xlen → ℕ → List ℕ → List ℕ → Option Setting
 pair_by_words xlen place cfg address =
-    option_and_then (λ c. option_and_then (pair_setting xlen place c) (number_of address))
-    (number_of cfg)
+    option_and_then (λ c. option_and_then (pair_setting xlen place c) (unpadded address))
+    (unpadded cfg)
 
 -- the width of a register in bits, as OpenOCD writes it
 abbrev pub width_sign : Xlen → List ℕ
@@ -129,19 +137,24 @@ abbrev pub is_between : Xlen → List ℕ → Bool
 is_between xlen word = bytes_eq word (codes ":") || bytes_eq word (codes "=")
     || bytes_eq word (width_sign xlen)
 
--- the value's word: the second, and what stands after it is not looked at
+-- the value's word: the second, or the third where the second comes between a name and its value
 abbrev pub value_word : Xlen → List ℕ → List ℕ → List ℕ
 value_word xlen second third = if is_between xlen second then third else second
 
--- the pair of an entry, where a number stands first; otherwise a register and its value
+-- a word that could be about the protection can be the name of another of its registers
+abbrev pub is_no_name : List ℕ → Bool
+is_no_name word = not (is_about_pmp word)
+
+-- a register and the word of its value
+abbrev pub register_by_word : Xlen → List ℕ → List ℕ → Option Setting
+register_by_word xlen name word = option_and_then (register_setting xlen name) (value_of name word)
+
+-- the pair of an entry, where a number comes first; otherwise a register and its value, and after
+-- the value no other name
 abbrev pub set_by_three : Xlen → Option ℕ → List ℕ → List ℕ → List ℕ → Option Setting
 set_by_three xlen (Some place) first second third = pair_by_words xlen place second third
-set_by_three xlen None first second third =
-    option_and_then (register_setting xlen first) (number_of (value_word xlen second third))
-
--- a word that begins with pmp can be the name of a register of the protection
-abbrev pub is_no_name : List ℕ → Bool
-is_no_name word = not (begins_with word (codes "pmp"))
+set_by_three xlen None first second third = if is_no_name third
+    then register_by_word xlen first (value_word xlen second third) else None
 
 -- another register with its fields after its value, as gdb prints mstatus; no word after the value
 -- is such a name
@@ -153,7 +166,8 @@ set_by_many first second rest = if list_all is_no_name rest
 abbrev pub set_by_words : Xlen → List (List ℕ) → Option Setting
 set_by_words xlen [] = Some settings.Nothing
 set_by_words xlen (word ∷ []) = set_by_one xlen word
-set_by_words xlen (name ∷ value ∷ []) = option_and_then (named_setting xlen name) (number_of value)
+set_by_words xlen (name ∷ value ∷ []) = option_and_then (named_setting xlen name)
+    (value_of name value)
 set_by_words xlen (first ∷ second ∷ third ∷ []) =
     set_by_three xlen (number_of first) first second third
 set_by_words xlen (first ∷ second ∷ third ∷ rest) = set_by_many first second (third ∷ rest)

@@ -13,6 +13,7 @@ use Rattle.text_lines.specs.Lines.{raw_lines, without_return}
 use Rattle.register_text.specs.declared.entry.RegionEntry.{RegionEntry}
 use Rattle.register_text.specs.Blocks.{address_by, block_from, cfg_by}
 use Rattle.register_text.specs.Letters.{perm_of}
+use Rattle.register_text.specs.Names.{mentions}
 
 -- the words of a line, and none where a byte outside its comment may not stand there
 abbrev pub words_in : List ℕ → List (List ℕ)
@@ -33,6 +34,29 @@ is_region_line raw = is_region (words_in raw)
 abbrev pub is_register : List (List ℕ) → Bool
 is_register [] = false
 is_register (name ∷ rest) = begins_with name (codes "pmp") || begins_with name (codes "mseccfg")
+
+-- a number of a domain that is not the first
+abbrev pub is_later : Option ℕ → Bool
+is_later (Some n) = not (n == 0)
+is_later None = false
+
+-- words on a region of another domain
+abbrev pub is_other_region : List (List ℕ) → Bool
+is_other_region (domain ∷ region ∷ rest) =
+    is_later (option_and_then (numeral_of 10) (after_text domain (codes "Domain")))
+    && is_some (after_text region (codes "Region"))
+is_other_region _ = false
+
+-- a line that could be on a region and is on none: it was damaged on its way
+abbrev pub is_damaged : List ℕ → Bool
+is_damaged raw = (mentions raw (codes "Domain") && mentions raw (codes "Region"))
+    && not (is_region (words_in raw) || is_other_region (words_in raw))
+
+-- words that say how many entries the hart has: none
+abbrev pub lacks_entries : List (List ℕ) → Bool
+lacks_entries (boot ∷ hart ∷ pmp ∷ count ∷ colon ∷ number ∷ rest) =
+    (bytes_eq pmp (codes "PMP") && bytes_eq count (codes "Count")) && bytes_eq number (codes "0")
+lacks_entries _ = false
 
 -- the number of a region, of `RegionNN`
 abbrev pub number_in : List ℕ → Option ℕ
@@ -82,14 +106,15 @@ entry_in xlen (domain ∷ region ∷ colon ∷ block ∷ rest) =
     (option_and_then perm_of (letters_in rest)) else None
 entry_in xlen _ = None
 
--- what words say: the entry of a region, or nothing; words on a register are not understood
+-- what words say: the entry of a region, or nothing; words on a register are not understood, nor
+-- are those of a hart without entries
 abbrev pub said_by : Xlen → List (List ℕ) → Option (Option RegionEntry)
 said_by xlen words = if is_region words then option_map (λ e. Some e) (entry_in xlen words)
-    else if is_register words then None else Some None
+    else if is_register words || lacks_entries words then None else Some None
 
 -- what a line of a log of a hart of that width says, where it is understood
 abbrev pub log_says : Xlen → List ℕ → Option (Option RegionEntry)
-log_says xlen raw = said_by xlen (words_in raw)
+log_says xlen raw = if is_damaged raw then None else said_by xlen (words_in raw)
 
 -- a text is a boot log where some line of it is on a region
 abbrev pub is_boot_log : List ℕ → Bool

@@ -27,6 +27,7 @@ mod letters;
 mod lines;
 mod listing;
 mod log;
+mod names;
 mod register_lines;
 mod setting;
 mod texts;

@@ -1,15 +1,18 @@
 //! What the lines of a boot log say.
 
-ghost use Rattle.std.specs.Prelude.{◌≡◌, ◌<◌, IfOk, IfSome, option_map, not};
+ghost use Rattle.std.specs.Prelude.{◌≡◌, ◌<◌, IfOk, IfSome, option_map, not, codes};
 ghost use Rattle.std.specs.Option.{is_some, option_and_then};
 ghost use Rattle.std.specs.Result.{result_ok};
+ghost use Rattle.text_lines.specs.Bytes.{after_text};
+ghost use Rattle.text_lines.specs.Numbers.{numeral_of};
 ghost use Rattle.text_lines.specs.Words.{split_words};
 ghost use Rattle.register_text.specs.Letters.{perm_of};
-ghost use Rattle.register_text.specs.LogLines.{block_in, entry_by, entry_in, is_boot_log, is_region, is_region_line, is_register, letters_in, log_says, number_in, said_by, words_in};
+ghost use Rattle.register_text.specs.LogLines.{block_in, entry_by, entry_in, is_boot_log, is_damaged, is_later, is_other_region, is_region, is_region_line, is_register, lacks_entries, letters_in, log_says, number_in, said_by, words_in};
 
 use crate::block::block_from;
 use crate::entry::RegionEntry;
 use crate::letters::perm_of;
+use crate::names::mentions;
 use lint_texts::{len_before, split_line};
 use pmp_encoding::{Entry, Perm, Region, Xlen};
 use text_lines::{
@@ -47,6 +50,59 @@ fn is_register(mut words: Words<'_>) -> bool
         Some(name) => begins_with(name, b"pmp") || begins_with(name, b"mseccfg"),
         None => false,
     }
+}
+
+/// Whether a word names a domain that is not the first.
+fn is_later_domain(word: &[u8]) -> bool
+    ensures { result ≡ is_later (option_and_then (numeral_of 10)
+        (after_text word.now (codes "Domain"))) }
+{
+    let Some(digits) = after_text(word, b"Domain") else {
+        return false;
+    };
+    match numeral(digits, 10) {
+        Some(n) => n != 0,
+        None => false,
+    }
+}
+
+/// Whether words are on a region of another domain.
+fn is_other_region(mut words: Words<'_>) -> bool
+    ensures { result ≡ is_other_region (split_words words.entry.rest.now) }
+{
+    let Some(domain) = words.next_word() else {
+        return false;
+    };
+    let Some(region) = words.next_word() else {
+        return false;
+    };
+    is_later_domain(domain) && after_text(region, b"Region").is_some()
+}
+
+/// Whether a line could be on a region and is on none: it was damaged on its way.
+fn is_damaged(raw: &[u8]) -> bool
+    ensures { result ≡ is_damaged raw.now }
+{
+    if !mentions(raw, b"Domain") || !mentions(raw, b"Region") {
+        return false;
+    }
+    !is_region(words_in(raw)) && !is_other_region(words_in(raw))
+}
+
+/// Whether words say that the hart has no entries.
+fn lacks_entries(mut words: Words<'_>) -> bool
+    ensures { result ≡ lacks_entries (split_words words.entry.rest.now) }
+{
+    let (Some(_), Some(_)) = (words.next_word(), words.next_word()) else {
+        return false;
+    };
+    let (Some(pmp), Some(count)) = (words.next_word(), words.next_word()) else {
+        return false;
+    };
+    let (Some(_), Some(number)) = (words.next_word(), words.next_word()) else {
+        return false;
+    };
+    (is_text(pmp, b"PMP") && is_text(count, b"Count")) && is_text(number, b"0")
 }
 
 /// The number of a region.
@@ -144,7 +200,7 @@ fn said_by(xlen: Xlen, words: Words<'_>) -> Result<Option<RegionEntry>, NotUnder
             None => Err(NotUnderstood),
         };
     }
-    if is_register(words) {
+    if is_register(words) || lacks_entries(words) {
         Err(NotUnderstood)
     } else {
         Ok(None)
@@ -156,6 +212,9 @@ pub fn log_says(xlen: Xlen, raw: &[u8]) -> Result<Option<RegionEntry>, NotUnders
     ensures value { result_ok result ≡ log_says xlen raw.now }
     ensures inside { IfOk result (λ said. IfSome said (λ entry. entry.place < 64)) }
 {
+    if is_damaged(raw) {
+        return Err(NotUnderstood);
+    }
     said_by(xlen, words_in(raw))
 }
 

@@ -1,6 +1,6 @@
 //! What one line of a listing sets.
 
-ghost use Rattle.std.specs.Prelude.{◌≡◌, ◌+◌, ◌*◌, ◌/◌, ◌%◌, ◌≤◌, ◌==◌, ◌&&◌, true, nat_lt, [], ◌∷◌, length, IfOk, IfSome, bytes_eq, option_map};
+ghost use Rattle.std.specs.Prelude.{◌≡◌, ◌+◌, ◌*◌, ◌/◌, ◌%◌, ◌≤◌, ◌==◌, ◌&&◌, true, nat_lt, [], ◌∷◌, length, None, IfOk, IfSome, bytes_eq};
 ghost use Rattle.std.specs.Result.{result_ok};
 ghost use Rattle.pmp_encoding.specs.declared.xlen.Xlen.{Xlen};
 ghost use Rattle.pmp_encoding.specs.Widths.{word_entries, xlen_bits};
@@ -9,8 +9,9 @@ ghost use Rattle.text_lines.specs.Numbers.{number_of};
 ghost use Rattle.std.specs.List.{list_all};
 ghost use Rattle.std.specs.Option.{option_and_then};
 ghost use Rattle.std.specs.Str.{str_eq_ignore_ascii_case};
-ghost use Rattle.register_text.specs.Lines.{IsInside, address_setting, begins_with_letter, equals_at, has_leading_zero, index_of, is_between, is_foreign, is_letter, is_no_name, is_other, line_sets, named_setting, other_setting, pair_by_words, pair_setting, plain_setting, register_setting, set_by_many, set_by_words, value_word, width_sign, without_colon, word_setting};
+ghost use Rattle.register_text.specs.Lines.{IsInside, address_setting, begins_with_letter, equals_at, has_leading_zero, index_of, is_between, is_foreign, is_harmless, is_letter, is_no_name, is_other, line_sets, named_setting, other_setting, pair_by_words, pair_setting, plain_setting, register_by_word, register_setting, set_by_many, set_by_three, set_by_words, value_word, width_sign, without_colon, word_setting};
 
+use crate::names::{is_about_pmp, names_hart, unpadded, value_of};
 use crate::setting::Setting;
 use pmp_encoding::Xlen;
 use text_lines::{
@@ -107,11 +108,18 @@ fn is_foreign(name: &[u8]) -> bool
     begins_with_letter(name) && !begins_with(name, b"p")
 }
 
-/// Whether a register is another one, and leaves those of the protection their meaning.
+/// Whether a register leaves those of the protection their meaning: it is none of them, or `mseccfgh` where it is zero.
+fn is_harmless(name: &[u8], value: u64) -> bool
+    ensures { result ≡ is_harmless name.now value }
+{
+    !is_about_pmp(name) || (value == 0 && is_name(name, b"mseccfgh"))
+}
+
+/// Whether a register is another one, which is passed over.
 fn is_other(name: &[u8], value: u64) -> bool
     ensures { result ≡ is_other name.now value }
 {
-    is_foreign(name) && (value == 0 || !begins_with(name, b"mseccfg"))
+    is_foreign(name) && (!names_hart(name) && is_harmless(name, value))
 }
 
 /// What another register sets.
@@ -197,7 +205,7 @@ fn set_by_two(xlen: Xlen, name: &[u8], value: &[u8]) -> Option<Setting>
     ensures value { result ≡ set_by_words xlen (name.now ∷ value.now ∷ []) }
     ensures inside { IfSome result (IsInside xlen) }
 {
-    let value = number(value)?;
+    let value = value_of(name, value)?;
     named_setting(xlen, name, value)
 }
 
@@ -206,18 +214,17 @@ fn pair_by_words(xlen: Xlen, place: u64, cfg: &[u8], address: &[u8]) -> Option<S
     ensures value { result ≡ pair_by_words xlen place cfg.now address.now }
     ensures inside { IfSome result (IsInside xlen) }
 {
-    let cfg = number(cfg)?;
-    let address = number(address)?;
+    let cfg = unpadded(cfg)?;
+    let address = unpadded(address)?;
     pair_setting(xlen, place, cfg, address)
 }
 
 /// What the name of a register and a word set.
 fn register_by_word(xlen: Xlen, name: &[u8], value: &[u8]) -> Option<Setting>
-    ensures value { result ≡ option_and_then (register_setting xlen name.now)
-        (number_of value.now) }
+    ensures value { result ≡ register_by_word xlen name.now value.now }
     ensures inside { IfSome result (IsInside xlen) }
 {
-    let value = number(value)?;
+    let value = value_of(name, value)?;
     register_setting(xlen, name, value)
 }
 
@@ -243,8 +250,9 @@ fn set_by_one(xlen: Xlen, word: &[u8]) -> Option<Setting>
     if place >= word.len() {
         return None;
     }
-    let value = number(&word[place + 1..])?;
-    plain_setting(xlen, &word[..place], value)
+    let name = &word[..place];
+    let value = value_of(name, &word[place + 1..])?;
+    plain_setting(xlen, name, value)
 }
 
 /// Whether a word is the width of the hart's registers in bits, as OpenOCD writes it.
@@ -275,6 +283,18 @@ fn value_word<'a>(xlen: Xlen, second: &'a [u8], third: &'a [u8]) -> &'a [u8]
     }
 }
 
+/// What a register sets that has three words: after its value comes no name of another.
+fn register_alone(xlen: Xlen, first: &[u8], second: &[u8], third: &[u8]) -> Option<Setting>
+    ensures value { result ≡ set_by_three xlen None first.now second.now third.now }
+    ensures inside { IfSome result (IsInside xlen) }
+{
+    if is_no_name(third) {
+        register_by_word(xlen, first, value_word(xlen, second, third))
+    } else {
+        None
+    }
+}
+
 /// What three words set: a pair, or a register.
 fn set_by_three(xlen: Xlen, first: &[u8], second: &[u8], third: &[u8]) -> Option<Setting>
     ensures value { result ≡ set_by_words xlen (first.now ∷ second.now ∷ third.now ∷ []) }
@@ -282,7 +302,7 @@ fn set_by_three(xlen: Xlen, first: &[u8], second: &[u8], third: &[u8]) -> Option
 {
     match number(first) {
         Some(place) => pair_by_words(xlen, place, second, third),
-        None => register_by_word(xlen, first, value_word(xlen, second, third)),
+        None => register_alone(xlen, first, second, third),
     }
 }
 
@@ -290,7 +310,7 @@ fn set_by_three(xlen: Xlen, first: &[u8], second: &[u8], third: &[u8]) -> Option
 fn is_no_name(word: &[u8]) -> bool
     ensures { result ≡ is_no_name word.now }
 {
-    !begins_with(word, b"pmp")
+    !is_about_pmp(word)
 }
 
 /// Whether none of the words is such a name.
