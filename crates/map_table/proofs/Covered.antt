@@ -1,5 +1,6 @@
 -- What extents say of the bytes from one on, as far as it stays the same.
-use Rattle.std.proofs.Common.{◌≡◌, ◌≢◌, ◌∙◌, ℕ, zero, suc, ◌+◌, ◌^◌, ◌<◌, ◌≤◌, List, [], ◌∷◌, All, length, get_or, Bool, true, false, Option, None, Some, ⊎_elim, nat_le, nat_lt, ◌&&◌, ap, sym, refl, arith, if◌then◌else◌}
+use Rattle.std.proofs.Common.{◌≡◌, ◌≢◌, ◌∙◌, ℕ, zero, suc, ◌+◌, ◌^◌, ◌<◌, ◌≤◌, List, [], ◌∷◌, All, length, get_or, Bool, true, false, Option, None, Some}
+use Rattle.std.proofs.Common.{⊎_elim, nat_le, nat_lt, ◌&&◌, ap, sym, refl, arith, if◌then◌else◌}
 use Rattle.std.proofs.lemmas.Bool.{cases_Bool, cases_lt}
 use Rattle.std.proofs.lemmas.Bool.Decides.{nat_tests}
 use Rattle.std.proofs.lemmas.List.{get_or_past}
@@ -63,7 +64,8 @@ nowhere_lacks byte = grind (arith, nat_tests)
 
 -- a byte that an extent has and none before it
 decided_by :
-    (n : ℕ) (extents : List Extent) (i byte : ℕ) → has_byte (get_or extents i nowhere) byte ≡ true → ((k : ℕ) → k < i → has_byte (get_or extents k nowhere) byte ≡ false)
+    (n : ℕ) (extents : List Extent) (i byte : ℕ) → has_byte (get_or extents i nowhere) byte ≡ true
+    → ((k : ℕ) → k < i → has_byte (get_or extents k nowhere) byte ≡ false)
     → (decider_from n extents byte ≡ Some (n + i)) × (perm_at extents byte ≡ (get_or extents i nowhere).perm)
 decided_by n [] i byte has before = absurd (let e : true ≡ false = sym has ∙ nowhere_lacks byte in cc)
 decided_by n (x ∷ extents) zero byte has before = (taken n x extents byte has ∙ ap (λ j. Some j) (omega arith), given x extents byte has)
@@ -83,7 +85,8 @@ undecided n (x ∷ extents) byte lacks =
     (left n x extents byte first ∙ rest.0, passed_on x extents byte first ∙ rest.1)
 
 -- a byte that an extent has: it decides, or one before it
-decided_up_to : (n : ℕ) (extents : List Extent) (k byte : ℕ) → has_byte (get_or extents k nowhere) byte ≡ true → (j : ℕ) × (j ≤ k) × (decider_from n extents byte ≡ Some (n + j))
+decided_up_to : (n : ℕ) (extents : List Extent) (k byte : ℕ) → has_byte (get_or extents k nowhere) byte ≡ true
+    → (j : ℕ) × (j ≤ k) × (decider_from n extents byte ≡ Some (n + j))
 decided_up_to n [] k byte has = absurd (let e : true ≡ false = sym has ∙ nowhere_lacks byte in cc)
 decided_up_to n (x ∷ extents) zero byte has = (0, omega arith, taken n x extents byte has ∙ ap (λ j. Some j) (omega arith))
 decided_up_to n (x ∷ extents) (suc k) byte has =
@@ -121,7 +124,8 @@ has_first x at words later =
 -- ---- where an extent begins before number `bound`
 
 -- none has a byte before the cut
-lacks_before : (extents : List Extent) (bound at end cut k byte : ℕ) → IsCut extents bound at end cut → k < bound → at ≤ byte → byte < cut → has_byte (get_or extents k nowhere) byte ≡ false
+lacks_before : (extents : List Extent) (bound at end cut k byte : ℕ) → IsCut extents bound at end cut → k < bound → at ≤ byte → byte < cut
+    → has_byte (get_or extents k nowhere) byte ≡ false
 lacks_before extents bound at end cut k byte is below low high = none_of (get_or extents k nowhere) at cut byte (is.missed k (omega arith) below) low high
 
 -- the cut lies after `at`
@@ -148,7 +152,8 @@ cut_turns :
 cut_turns extents bound at end cut words is nearer =
     let begun = is.begun nearer in
     let x : Extent = get_or extents begun.0 nowhere in
-    let has : has_byte x cut ≡ true = ap (has_byte x) (sym begun.3) ∙ has_first x at (words_at extents begun.0 at end words begun.2) (ends_after x at end begun.2) in
+    let has : has_byte x cut ≡ true = ap (has_byte x) (sym begun.3) ∙ has_first x at (words_at extents begun.0 at end words begun.2)
+    (ends_after x at end begun.2) in
     let first = decided_up_to 0 extents begun.0 cut has in
     (first.0, omega (arith, first.1, begun.1), first.2)
 
@@ -196,7 +201,8 @@ says_first extents i at cut x is words next cuts =
 
 -- no extent has the byte `at`
 pub says_none :
-    (extents : List Extent) (at cut : ℕ) → at < 2 ^ 56 → All IsWords extents → MissesAll extents 0 (length extents) at (at + 1) → IsCut extents (length extents) at (2 ^ 56) cut
+    (extents : List Extent) (at cut : ℕ) → at < 2 ^ 56 → All IsWords extents → MissesAll extents 0 (length extents) at (at + 1)
+    → IsCut extents (length extents) at (2 ^ 56) cut
     → Says extents at cut None NoAccess
 says_none extents at cut small words misses cuts =
     let says : (byte : ℕ) → at ≤ byte → byte < cut → (decider extents byte ≡ None) × (perm_at extents byte ≡ NoAccess) =

@@ -37,10 +37,12 @@ leaf_of_number extents j h inside is =
 all_leaves : (extents : List Extent) → All (IsLeaf extents) (numbered 0 extents)
 all_leaves extents = λ j d h.
     let inside : j < length extents = omega (arith, h, length_numbered 0 extents) in
-    leaf_of_number extents j (get_or (numbered 0 extents) j d) inside (numbered_at 0 j extents d inside ∙ ap (λ k. hull_of k (get_or extents j nowhere)) (omega arith))
+    leaf_of_number extents j (get_or (numbered 0 extents) j d) inside (numbered_at 0 j extents d inside
+    ∙ ap (λ k. hull_of k (get_or extents j nowhere)) (omega arith))
 
 -- the extent of a leaf
-pub leaf_at : (extents : List Extent) (leaves : List Hull) (p : ℕ) → IsPermutation (numbered 0 extents) leaves → p < length leaves → IsLeaf extents (get_or leaves p no_hull)
+pub leaf_at : (extents : List Extent) (leaves : List Hull) (p : ℕ) → IsPermutation (numbered 0 extents) leaves → p < length leaves
+    → IsLeaf extents (get_or leaves p no_hull)
 leaf_at extents leaves p same inside = All-permutation (IsLeaf extents) (numbered 0 extents) leaves same (all_leaves extents) p no_hull inside
 
 held : (leaves : List Hull) (h : Hull) → Contains leaves h → (p : ℕ) × (p < length leaves) × (get_or leaves p no_hull ≡ h)
@@ -58,7 +60,8 @@ leaf_of extents leaves k same inside =
 
 -- ---- leaves that are past
 
-past_less : (h : Hull) (bound less first end shorter : ℕ) → less ≤ bound → shorter ≤ end → is_past h bound first end ≡ true → is_past h less first shorter ≡ true
+past_less : (h : Hull) (bound less first end shorter : ℕ) → less ≤ bound → shorter ≤ end → is_past h bound first end ≡ true
+    → is_past h less first shorter ≡ true
 past_less h bound less first end shorter low short past = grind (arith, nat_tests)
 
 pub past_number : (h : Hull) (bound first end : ℕ) → bound ≤ h.number → is_past h bound first end ≡ true

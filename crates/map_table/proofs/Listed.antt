@@ -1,5 +1,6 @@
 -- The stretches of a list of entries as rows, and what the rows say.
-use Rattle.std.proofs.Common.{◌≡◌, ℕ, suc, rules, ◌+◌, ◌<◌, List, [], ◌∷◌, All, length, map, take, Bool, true, false, Option, None, Some, IfSome, refl, arith, if◌then◌else◌}
+use Rattle.std.proofs.Common.{◌≡◌, ℕ, suc, rules, ◌+◌, ◌<◌, List, [], ◌∷◌, All, length, map, take, Bool, true, false, Option, None, Some, IfSome, refl, arith}
+use Rattle.std.proofs.Common.{if◌then◌else◌}
 use Rattle.std.specs.List.{AllByRecursion}
 use Rattle.std.proofs.lemmas.List.Elements.{All-from_recursion}
 use Rattle.std.proofs.lemmas.Option.{same_Some}
@@ -24,7 +25,8 @@ inside_step n k m false rest h e = omega (arith, h e)
 -- a deciding extent is one of the list
 inside : (n : ℕ) (extents : List Extent) (byte k : ℕ) → decider_from n extents byte ≡ Some k → k < n + length extents
 inside n [] byte k e = absurd cc
-inside n (x ∷ extents) byte k e = inside_step n k (length extents) (has_byte x byte) (decider_from (n + 1) extents byte) (λ s. inside (n + 1) extents byte k s) e
+inside n (x ∷ extents) byte k e = inside_step n k (length extents) (has_byte x byte) (decider_from (n + 1) extents byte)
+    (λ s. inside (n + 1) extents byte k s) e
 
 number_of : (extents : List Extent) (byte : ℕ) (entry : Option ℕ) → decider extents byte ≡ entry → IfSome entry (λ i. i < length extents)
 number_of extents byte None e = search rules
@@ -40,12 +42,14 @@ rows_by view extents from to (s ∷ ss) are = (row_of view extents s are.1, rows
 pub rows_of : (view : View) (extents : List Extent) (from to : ℕ) (ss : List Stretch) → AreStretches view extents from ss to → All (IsRow extents) ss
 rows_of view extents from to ss are = All-from_recursion (IsRow extents) ss (rows_by view extents from to ss are)
 
-given_by : (view : View) (extents : List Extent) (from to : ℕ) (ss : List Stretch) → AreStretches view extents from ss to → AllByRecursion (IsRow extents) (map as_given ss)
+given_by : (view : View) (extents : List Extent) (from to : ℕ) (ss : List Stretch) → AreStretches view extents from ss to
+    → AllByRecursion (IsRow extents) (map as_given ss)
 given_by view extents from to [] are = tt
 given_by view extents from to (s ∷ ss) are =
     let row = row_of view extents s are.1 in
     (record { some = row.some; number = row.number }, given_by view extents s.end to ss are.2)
 
 -- the same with the permissions that the extents give
-pub given_rows : (view : View) (extents : List Extent) (from to : ℕ) (ss : List Stretch) → AreStretches view extents from ss to → All (IsRow extents) (map as_given ss)
+pub given_rows : (view : View) (extents : List Extent) (from to : ℕ) (ss : List Stretch) → AreStretches view extents from ss to
+    → All (IsRow extents) (map as_given ss)
 given_rows view extents from to ss are = All-from_recursion (IsRow extents) (map as_given ss) (given_by view extents from to ss are)

@@ -50,7 +50,8 @@ one_nested hulls leaves i h same some inside left right nested =
     (λ child.
     ⊎_elim
     (λ first. let is : m ≡ 2 * i = omega (arith, low, first) in nested_at hulls leaves i m h same inside (omega arith) (omega (arith, is)) (rw is left))
-    (λ second. let is : m ≡ 2 * i + 1 = omega (arith, child, second) in nested_at hulls leaves i m h same inside (omega arith) (omega (arith, is)) (rw is right))
+    (λ second. let is : m ≡ 2 * i + 1 = omega (arith, child, second) in nested_at hulls leaves i m h same inside (omega arith) (omega (arith, is))
+    (rw is right))
     (cases_lt m (2 * i + 1)))
     (λ later.
     rw (kept hulls leaves i (m / 2) h (omega (arith, later)), kept hulls leaves i m h (omega (arith, later))) (nested m (omega (arith, later)) high))
@@ -124,7 +125,8 @@ wide leaf height two =
     omega (arith, double, mul-le 2 (2 ^ height) (leaf / 2 ^ height + 1) (2 ^ height) (omega (arith, two)) (omega arith))
 
 pub level : (height n : ℕ) → 2 ^ height ≤ n → n < 2 ^ 64 → height < 64
-level height n some small = ⊎_elim (λ below. below) (λ over. absurd (omega (arith, some, small, pow-le-pow_right {n = 2} (omega arith) {i = 64} {j = height} over))) (cases_lt height 64)
+level height n some small = ⊎_elim (λ below. below) (λ over. absurd (omega
+    (arith, some, small, pow-le-pow_right {n = 2} (omega arith) {i = 64} {j = height} over))) (cases_lt height 64)
 
 pub lower : (height n : ℕ) → 2 ^ height ≤ n → 2 ^ (height - 1) ≤ n
 lower zero n some = some

@@ -37,7 +37,8 @@ next_more extents all i d t0 t1 t2 whole inside h k before =
 
 -- the first row, and those after it
 pub first_rows :
-    (extents : List Extent) (all rest : List Stretch) (s : Stretch) (t0 t1 t2 t3 : List ℕ) → t1 ≡ t0 ++ codes "\n" → t2 ≡ t1 ++ json_row extents s → t3 ≡ t2 ++ json_more extents rest
+    (extents : List Extent) (all rest : List Stretch) (s : Stretch) (t0 t1 t2 t3 : List ℕ) → t1 ≡ t0 ++ codes "\n" → t2 ≡ t1 ++ json_row extents s
+    → t3 ≡ t2 ++ json_more extents rest
     → all ≡ s ∷ rest → t3 ≡ t0 ++ json_rows extents all
 first_rows extents all rest s t0 t1 t2 t3 h k l e =
     three t0 t1 t2 t3 (codes "\n") (json_row extents s) (json_more extents rest) h k l ∙ ap (λ xs. t0 ++ json_rows extents xs) (sym e)

@@ -35,7 +35,8 @@ parted view extents from to (x ∷ before) behind s are =
     let rest = parted view extents x.end to before behind s are.2 in ((are.0, are.1, rest.0), rest.1)
 
 pub difference :
-    (view : View) (extents : List Extent) (to : ℕ) (all : List Stretch) (s : Stretch) → AreStretches view extents 0 all to → IsFirstOdd all s → IsFirstDifference view extents s
+    (view : View) (extents : List Extent) (to : ℕ) (all : List Stretch) (s : Stretch) → AreStretches view extents 0 all to → IsFirstOdd all s
+    → IsFirstDifference view extents s
 difference view extents to all s are odd =
     let parts = parted view extents 0 to odd.before odd.behind s (rw odd.split at are) in
     record {

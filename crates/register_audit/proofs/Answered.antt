@@ -16,7 +16,8 @@ use Rattle.register_audit.specs.Audits.{IsAnswer, judged, unmodelled}
 use Rattle.register_audit.specs.Verdicts.{IsVerdict, is_difference, is_meant}
 use Rattle.register_audit.proofs.Cut.{cut_not}
 
-differs_not : (view : View) (registers : Registers) (xs : List Extent) (s : Stretch) → AreExtents registers xs → IsFirstDifference view xs s → ¬ ExtentsMean xs view
+differs_not : (view : View) (registers : Registers) (xs : List Extent) (s : Stretch) → AreExtents registers xs → IsFirstDifference view xs s
+    → ¬ ExtentsMean xs view
 differs_not view registers xs s are d means =
     let stretch = d.stretch in
     d.differs
@@ -51,12 +52,14 @@ extents_given view registers true (verdicts.Cuts entry at) is e = absurd cc
 extents_given view registers true (verdicts.NoMeaning found) is e = absurd cc
 
 -- what an answer says of the registers
-pub answer_yes : (view : View) (fewest : ℕ) (all : Bool) (listing : Listing) (text : List ℕ) (means : Bool) → IsAnswer view fewest all listing text means → means ≡ true
+pub answer_yes : (view : View) (fewest : ℕ) (all : Bool) (listing : Listing) (text : List ℕ) (means : Bool) → IsAnswer view fewest all listing text means
+    → means ≡ true
     → (listing.mseccfg ≡ 0) × RegistersMean listing.registers view
 answer_yes view fewest all listing _ means (judged none verdict is text said) told = (none, verdict_yes view listing.registers verdict is (sym told))
 answer_yes view fewest all listing text means (unmodelled other) told = absurd cc
 
-pub answer_no : (view : View) (fewest : ℕ) (all : Bool) (listing : Listing) (text : List ℕ) (means : Bool) → IsAnswer view fewest all listing text means → means ≡ false
+pub answer_no : (view : View) (fewest : ℕ) (all : Bool) (listing : Listing) (text : List ℕ) (means : Bool) → IsAnswer view fewest all listing text means
+    → means ≡ false
     → (listing.mseccfg ≢ 0) ⊎ (¬ RegistersMean listing.registers view)
 answer_no view fewest all listing _ means (judged none verdict is text said) told = inr (verdict_no view listing.registers verdict is (sym told))
 answer_no view fewest all listing text means (unmodelled other) told = inl other

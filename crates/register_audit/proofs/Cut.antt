@@ -1,5 +1,6 @@
 -- Eight aligned bytes are cut by an entry with an end in their middle alone.
-use Rattle.std.proofs.Common.{◌≡◌, ◌≢◌, ◌∙◌, ℕ, ◌+◌, ◌/◌, ◌%◌, ◌^◌, ◌<◌, ◌≤◌, ◌⊎◌, ◌↔◌, inl, inr, ⊎_elim, suc, zero, List, [], ◌∷◌, ◌++◌, All, length, take, drop, get_or, Some, true, ap, refl, sym, subst, arith, max}
+use Rattle.std.proofs.Common.{◌≡◌, ◌≢◌, ◌∙◌, ℕ, ◌+◌, ◌/◌, ◌%◌, ◌^◌, ◌<◌, ◌≤◌, ◌⊎◌, ◌↔◌, inl, inr, ⊎_elim, suc, zero, List, [], ◌∷◌, ◌++◌, All, length, take}
+use Rattle.std.proofs.Common.{drop, get_or, Some, true, ap, refl, sym, subst, arith, max}
 use Rattle.std.specs.Prelude.{IsTrue, nat_lt, slice_get}
 use Rattle.std.specs.List.{AllByRecursion}
 use Rattle.std.proofs.lemmas.Bool.{cases_lt, eqb-true, lt-ltb, ltb-true, or_cases}
@@ -33,7 +34,8 @@ pub ends_from_met : (x : Extent) (at : ℕ) → Meets x (load_of_eight at) → (
 ends_from_met x at m = (omega (arith, m.1.1, m.2.0), omega (arith, m.1.0, m.2.1))
 
 -- an extent that has some of eight aligned bytes and not all has an end in their middle
-pub ends_inside : (x : Extent) (at : ℕ) → IsWords x → at % 8 ≡ 0 → Meets x (load_of_eight at) → ¬ ContainsAll x (load_of_eight at) → (at + 4 ≡ x.base) ⊎ (at + 4 ≡ x.end)
+pub ends_inside : (x : Extent) (at : ℕ) → IsWords x → at % 8 ≡ 0 → Meets x (load_of_eight at) → ¬ ContainsAll x (load_of_eight at)
+    → (at + 4 ≡ x.base) ⊎ (at + 4 ≡ x.end)
 ends_inside x at words aligned met partly =
     let ends = ends_from_met x at met in
     ⊎_elim (λ below. inl (omega (arith, below, ends.0, words.base, aligned)))
@@ -56,7 +58,8 @@ at_place P xs i x all is = subst P (get_or_from_slice_get xs i x nowhere is) (al
 split_by : (xs : List Extent) (i : ℕ) (x : Extent) → slice_get xs i ≡ Some x → xs ≡ take i xs ++ x ∷ drop (i + 1) xs
 split_by xs i x is = split_at xs i nowhere (slice_get_within xs i x is) ∙ ap (λ y. take i xs ++ y ∷ drop (i + 1) xs) (get_or_from_slice_get xs i x nowhere is)
 
-pub cut_boundary : (view : View) (xs : List Extent) (i at : ℕ) (x : Extent) → All IsWords xs → slice_get xs i ≡ Some x → IsCut view xs i at → (at + 4 ≡ x.base) ⊎ (at + 4 ≡ x.end)
+pub cut_boundary : (view : View) (xs : List Extent) (i at : ℕ) (x : Extent) → All IsWords xs → slice_get xs i ≡ Some x → IsCut view xs i at
+    → (at + 4 ≡ x.base) ⊎ (at + 4 ≡ x.end)
 cut_boundary view xs i at x words is cut =
     let same : cut.extent ≡ x = sym (get_or_from_slice_get xs i cut.extent nowhere cut.first.number) ∙ get_or_from_slice_get xs i x nowhere is in
     subst (λ y. (at + 4 ≡ y.base) ⊎ (at + 4 ≡ y.end)) same
@@ -115,7 +118,8 @@ all_misses [] a size none = tt
 all_misses (x ∷ xs) a size none =
     ((λ m. none.0 (m.0, (m.1.0, (let last = m.1.1 in omega (arith, last, size))), m.2)), all_misses xs a size none.1)
 
-eight_bytes : (view : View) (xs : List Extent) (a : Access) (x : Extent) → AllByRecursion IsWords xs → ((i : ℕ) → IsUncut view xs i) → a.size ≡ 8 → IsAligned a → a.address < 2 ^ 56
+eight_bytes : (view : View) (xs : List Extent) (a : Access) (x : Extent) → AllByRecursion IsWords xs → ((i : ℕ) → IsUncut view xs i) → a.size ≡ 8 → IsAligned a
+    → a.address < 2 ^ 56
     → holds (view (a.address / 4096)) Load ≡ true → IsFirstMatch xs a x → (¬ ContainsAll x (load_of_eight a.address)) → ⊥
 eight_bytes view xs a x words uncut size aligned inside may first partly =
     let P : Extent → Type 0 = λ y. ¬ Meets y (load_of_eight a.address) in
@@ -147,7 +151,8 @@ never_cut view xs words uncut a aligned inside user may x first = by (size_of a.
 
     whole : a.size ≡ 8 → a.kind ≢ Fetch → (x.base ≤ a.address) × (a.address + 8 ≤ x.end)
     whole size other =
-        let not : ¬ ¬ ContainsAll x (load_of_eight a.address) = λ partly. eight_bytes view xs a x words uncut size aligned inside (reads (view (a.address / 4096)) a.kind other may) first partly in
+        let not : ¬ ¬ ContainsAll x (load_of_eight a.address) = λ partly. eight_bytes view xs a x words uncut size aligned inside
+        (reads (view (a.address / 4096)) a.kind other may) first partly in
         ⊎_elim (λ below. absurd (not (λ c. let ends = ends_from_contains x (load_of_eight a.address) c in omega (arith, ends.0, below))))
         (λ begun.
         ⊎_elim (λ short. absurd (not (λ c. let ends = ends_from_contains x (load_of_eight a.address) c in omega (arith, ends.1, short)))) (λ all. (begun, all))
@@ -167,18 +172,22 @@ pub some_meets : (xs : List Extent) (i at : ℕ) → i < length xs → Meets (ge
 some_meets xs i at inside met none = none i nowhere inside met
 
 -- the end of an entry that cuts is a multiple of four
-pub end_four : (xs : List Extent) (i end : ℕ) → All IsWords xs → i < length xs → ((x : Extent) → slice_get xs i ≡ Some x → (end ≡ x.base) ⊎ (end ≡ x.end)) → end % 4 ≡ 0
+pub end_four : (xs : List Extent) (i end : ℕ) → All IsWords xs → i < length xs → ((x : Extent) → slice_get xs i ≡ Some x → (end ≡ x.base) ⊎ (end ≡ x.end))
+    → end % 4 ≡ 0
 end_four xs i end words inside ends =
     let w = words i nowhere inside in
     ⊎_elim (λ low. omega (arith, low, w.base)) (λ high. omega (arith, high, w.end)) (ends (get_or xs i nowhere) (slice_get-get_or xs i nowhere inside))
 
-pub cut_found : (view : View) (xs : List Extent) (i end at : ℕ) → All IsWords xs → i < length xs → ((x : Extent) → slice_get xs i ≡ Some x → (end ≡ x.base) ⊎ (end ≡ x.end)) → end ≤ 2 ^ 56
-    → (end % 8 ≡ 0 → ⊥) → end ≡ at + 4 → holds (view (at / 4096)) Load ≡ true → ((x : Extent) → slice_get xs i ≡ Some x → IsFirstOf xs i at x) → IsCut view xs i at
+pub cut_found : (view : View) (xs : List Extent) (i end at : ℕ) → All IsWords xs → i < length xs
+    → ((x : Extent) → slice_get xs i ≡ Some x → (end ≡ x.base) ⊎ (end ≡ x.end)) → end ≤ 2 ^ 56
+    → (end % 8 ≡ 0 → ⊥) → end ≡ at + 4 → holds (view (at / 4096)) Load ≡ true → ((x : Extent) → slice_get xs i ≡ Some x → IsFirstOf xs i at x)
+    → IsCut view xs i at
 cut_found view xs i end at words inside ends within other is may first =
     let four = end_four xs i end words inside ends in
     let x = get_or xs i nowhere in
     let number = slice_get-get_or xs i nowhere inside in
-    let middle : (at + 4 ≡ (get_or xs i nowhere).base) ⊎ (at + 4 ≡ (get_or xs i nowhere).end) = ⊎_elim (λ low. inl (sym is ∙ low)) (λ high. inr (sym is ∙ high)) (ends (get_or xs i nowhere) number) in
+    let middle : (at + 4 ≡ (get_or xs i nowhere).base) ⊎ (at + 4 ≡ (get_or xs i nowhere).end) =
+    ⊎_elim (λ low. inl (sym is ∙ low)) (λ high. inr (sym is ∙ high)) (ends (get_or xs i nowhere) number) in
     record {
       aligned = aligned_at end at four other is;
       inside = omega (arith, is, within);
@@ -196,7 +205,8 @@ cut_found view xs i end at words inside ends within other is may first =
         go (suc n) e = absurd (other (omega (arith, four, is, e)))
 
 -- the lowest eight bytes that an entry cuts
-pub lowest_base : (view : View) (xs : List Extent) (i at : ℕ) → All IsWords xs → i < length xs → at + 4 ≡ (get_or xs i nowhere).base → IsCut view xs i at → IsLowestCut view xs i at
+pub lowest_base : (view : View) (xs : List Extent) (i at : ℕ) → All IsWords xs → i < length xs → at + 4 ≡ (get_or xs i nowhere).base → IsCut view xs i at
+    → IsLowestCut view xs i at
 lowest_base view xs i at words inside is cut =
     let w = words i nowhere inside in
     record {
@@ -216,7 +226,8 @@ lowest_end view xs i at words inside is below cut = record {
       (cut_boundary view xs i other (get_or xs i nowhere) words (slice_get-get_or xs i nowhere inside) cuts);
 }
 
-pub uncut_by : (view : View) (xs : List Extent) (i : ℕ) → All IsWords xs → i < length xs → ((other : ℕ) → other + 4 ≡ (get_or xs i nowhere).base → ¬ IsCut view xs i other)
+pub uncut_by : (view : View) (xs : List Extent) (i : ℕ) → All IsWords xs → i < length xs
+    → ((other : ℕ) → other + 4 ≡ (get_or xs i nowhere).base → ¬ IsCut view xs i other)
     → ((other : ℕ) → other + 4 ≡ (get_or xs i nowhere).end → ¬ IsCut view xs i other) → IsUncut view xs i
 uncut_by view xs i words inside low high at cut =
     ⊎_elim (λ b. low at b cut) (λ e. high at e cut) (cut_boundary view xs i at (get_or xs i nowhere) words (slice_get-get_or xs i nowhere inside) cut)

@@ -31,7 +31,8 @@ pub record SaysAs (registers : Registers) (place count : ℕ) (entries : List En
   pub each : AreExtentsFrom registers place extents
   pub same : (a : Access) → lets_through extents a ≡ allows entries a
 
-pub says_as : (registers : Registers) (place count : ℕ) (entries : List Entry) → MeansList (pairs_from registers place count) entries → AreReached registers.xlen entries → SaysAs registers place count entries
+pub says_as : (registers : Registers) (place count : ℕ) (entries : List Entry) → MeansList (pairs_from registers place count) entries
+    → AreReached registers.xlen entries → SaysAs registers place count entries
 says_as registers place zero _ done near = record { extents = []; number = refl; each = tt; same = λ a. refl }
 says_as registers place (suc count) entries (skip o list) near =
     let rest = says_as registers (place + 1) count entries list near in
@@ -54,7 +55,8 @@ says_as registers place (suc count) _ (keep {e = e} {entries = entries} m list) 
 at_or_above : (first place : ℕ) → first ≤ place → (first ≡ place) ⊎ (first + 1 ≤ place)
 at_or_above first place low = ⊎_elim (λ less. inr (omega (arith, less))) (λ over. inl (omega (arith, low, over))) (cases_lt first place)
 
-pub none_locked : (registers : Registers) (first count : ℕ) (entries : List Entry) → MeansList (pairs_from registers first count) entries → (place : ℕ) → first ≤ place → place < first + count → ¬ IsLocked registers place
+pub none_locked : (registers : Registers) (first count : ℕ) (entries : List Entry) → MeansList (pairs_from registers first count) entries → (place : ℕ)
+    → first ≤ place → place < first + count → ¬ IsLocked registers place
 none_locked registers first zero _ done place low high = absurd (omega (arith, low, high))
 none_locked registers first (suc count) entries (skip o list) place low high =
     ⊎_elim (λ same. subst (λ p. ¬ IsLocked registers p) same (not_locked registers first (whole_cfg _ _ (off_faultless _ _ o))))

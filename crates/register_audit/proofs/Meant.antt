@@ -17,7 +17,8 @@ pub record IsMeant (listing : Listing) (text : List ℕ) : Type 0 where
   pub means : RegistersMean listing.registers (view_of_runs runs)
   pub is_text : text ≡ map_text runs
 
-extents_mean : (listing : Listing) (xs : List Extent) (text : List ℕ) (is_map : Bool) → listing.mseccfg ≡ 0 → AreExtents listing.registers xs → IsMapOfExtents xs text is_map
+extents_mean : (listing : Listing) (xs : List Extent) (text : List ℕ) (is_map : Bool) → listing.mseccfg ≡ 0 → AreExtents listing.registers xs
+    → IsMapOfExtents xs text is_map
     → is_map ≡ true → IsMeant listing text
 extents_mean listing xs text is_map none are (mapped runs are_runs means) is_one = record {
   modelled = none;

@@ -16,12 +16,14 @@ use Rattle.register_audit.specs.Maps.{IsMapOf, IsMapOfExtents, below, cut, mappe
 use Rattle.pmp_encoding.specs.Perms.{bits_of}
 
 -- a view that extents mean is what they give the first byte of each page
-same_view : (xs : List Extent) (view other : View) → AllByRecursion IsWords xs → HasFirstBytes xs view → ExtentsMean xs other → (page : ℕ) → page < 2 ^ 44 → view page ≡ other page
+same_view : (xs : List Extent) (view other : View) → AllByRecursion IsWords xs → HasFirstBytes xs view → ExtentsMean xs other → (page : ℕ) → page < 2 ^ 44
+    → view page ≡ other page
 same_view xs view other words first means page small =
     let back : 4096 * page / 4096 ≡ page = omega arith in
     first page small ∙ each_byte xs other words means (4096 * page) (omega (arith, small)) ∙ ap other back
 
-below_none : (xs : List Extent) (view other : View) (s : Stretch) → AllByRecursion IsWords xs → HasFirstBytes xs view → IsFirstDifference view xs s → ¬ ExtentsMean xs other
+below_none : (xs : List Extent) (view other : View) (s : Stretch) → AllByRecursion IsWords xs → HasFirstBytes xs view → IsFirstDifference view xs s
+    → ¬ ExtentsMean xs other
 below_none xs view other s words first d means =
     let stretch = d.stretch in
     let inside : s.first < 2 ^ 56 = omega (arith, stretch.some, stretch.inside) in
@@ -29,7 +31,8 @@ below_none xs view other s words first d means =
     (sym (stretch.wanted s.first (omega arith) stretch.some) ∙ same_view xs view other words first means (s.first / 4096) (omega (arith, inside))
     ∙ sym (each_byte xs other words means s.first inside) ∙ stretch.given s.first (omega arith) stretch.some)
 
-cut_none : (xs : List Extent) (view other : View) (i at : ℕ) → AllByRecursion IsWords xs → HasFirstBytes xs view → CutsAlone view xs i at → ¬ ExtentsMean xs other
+cut_none : (xs : List Extent) (view other : View) (i at : ℕ) → AllByRecursion IsWords xs → HasFirstBytes xs view → CutsAlone view xs i at
+    → ¬ ExtentsMean xs other
 cut_none xs view other i at words first c means =
     let found = c.first.cut.cut in
     let same = same_view xs view other words first means (at / 4096) (omega (arith, found.inside)) in
@@ -43,7 +46,8 @@ cut_none xs view other i at words first c means =
     } in
     cut_not other xs i at moved means
 
-extents_none : (xs : List Extent) (text : List ℕ) (is_map : Bool) (other : View) → AllByRecursion IsWords xs → IsMapOfExtents xs text is_map → is_map ≡ false → ¬ ExtentsMean xs other
+extents_none : (xs : List Extent) (text : List ℕ) (is_map : Bool) (other : View) → AllByRecursion IsWords xs → IsMapOfExtents xs text is_map → is_map ≡ false
+    → ¬ ExtentsMean xs other
 extents_none xs text is_map other words (mapped runs are means) no_map = absurd cc
 extents_none xs text is_map other words (below view first s d) no_map = below_none xs view other s words first d
 extents_none xs text is_map other words (cut view first i at c) no_map = cut_none xs view other i at words first c

@@ -10,7 +10,8 @@ use Rattle.map_table.specs.Stretches.{AreStretches}
 use Rattle.register_audit.specs.Differences.{AreOdd, other, same}
 use Rattle.register_audit.specs.Findings.{agrees}
 
-pub pass_it : (all : List Stretch) (i : ℕ) (d : Stretch) (odd : List Stretch) → i < length all → agrees (get_or all i d) → AreOdd (drop (i + 1) all) odd → AreOdd (drop i all) odd
+pub pass_it : (all : List Stretch) (i : ℕ) (d : Stretch) (odd : List Stretch) → i < length all → agrees (get_or all i d) → AreOdd (drop (i + 1) all) odd
+    → AreOdd (drop i all) odd
 pass_it all i d odd less agree are = rw (drop_more all i d less) (same (get_or all i d) agree are)
 
 pub take_it :
@@ -18,7 +19,8 @@ pub take_it :
     → AreOdd (drop (i + 1) all) odd → AreOdd (drop i all) (get_or all i d ∷ odd)
 take_it all i d odd less differs are = rw (drop_more all i d less) (other (get_or all i d) differs are)
 
-ends_from : (view : View) (extents : List Extent) (from to : ℕ) (all : List Stretch) → AreStretches view extents from all to → AllByRecursion (λ s. 0 < s.end) all
+ends_from : (view : View) (extents : List Extent) (from to : ℕ) (all : List Stretch) → AreStretches view extents from all to
+    → AllByRecursion (λ s. 0 < s.end) all
 ends_from view extents from to [] are = tt
 ends_from view extents from to (s ∷ all) are = let some = are.1.some in (omega (arith, some), ends_from view extents s.end to all are.2)
 

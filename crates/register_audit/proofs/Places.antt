@@ -19,14 +19,16 @@ machine_from_test User h = cc
 
 -- ---- the extents by their places
 
-extent_from : (registers : Registers) (first : ℕ) (xs : List Extent) → AreExtentsFrom registers first xs → (i : ℕ) (d : Extent) → i < length xs → IsExtentAt registers (first + i) (get_or xs i d)
+extent_from : (registers : Registers) (first : ℕ) (xs : List Extent) → AreExtentsFrom registers first xs → (i : ℕ) (d : Extent) → i < length xs
+    → IsExtentAt registers (first + i) (get_or xs i d)
 extent_from registers first [] are i d inside = absurd (omega (arith, inside))
 extent_from registers first (x ∷ xs) are zero d inside = let same : first ≡ first + 0 = omega arith in subst (λ p. IsExtentAt registers p x) same are.0
 extent_from registers first (x ∷ xs) are (suc i) d inside =
     let same : first + 1 + i ≡ first + suc i = omega arith in
     subst (λ p. IsExtentAt registers p (get_or xs i d)) same (extent_from registers (first + 1) xs are.1 i d (omega (arith, inside)))
 
-pub extent_in : (registers : Registers) (xs : List Extent) → AreExtents registers xs → (place : ℕ) (d : Extent) → place < 64 → IsExtentAt registers place (get_or xs place d)
+pub extent_in : (registers : Registers) (xs : List Extent) → AreExtents registers xs → (place : ℕ) (d : Extent) → place < 64
+    → IsExtentAt registers place (get_or xs place d)
 extent_in registers xs are place d inside =
     let same : 0 + place ≡ place = omega arith in
     subst (λ p. IsExtentAt registers p (get_or xs place d)) same (extent_from registers 0 xs are.each place d (omega (arith, inside, are.count)))
@@ -46,7 +48,8 @@ pub record IsDecidedFrom (registers : Registers) (a : Access) (first place : ℕ
 
 -- the entries from the first place on say yes
 pub data AllowFrom (registers : Registers) (a : Access) (first : ℕ) : Type 0 where
-  by_place : (place : ℕ) (x : Extent) → IsDecidedFrom registers a first place x → ContainsAll x a → LetsThrough registers a place x → AllowFrom registers a first
+  by_place : (place : ℕ) (x : Extent) → IsDecidedFrom registers a first place x → ContainsAll x a → LetsThrough registers a place x
+      → AllowFrom registers a first
   by_none : ((place : ℕ) → first ≤ place → place < 64 → Misses registers a place) → a.mode ≡ Machine → AllowFrom registers a first
 
 module _ (registers : Registers) (a : Access) where
@@ -97,17 +100,20 @@ module _ (registers : Registers) (a : Access) where
         inside = d.inside;
         is_extent = d.is_extent;
         met = d.met;
-        missed = λ lower low less. ⊎_elim (λ same. subst (λ p. Misses registers a p) same off) (λ above. d.missed lower above less) (at_or_above first lower low);
+        missed = λ lower low less. ⊎_elim (λ same. subst (λ p. Misses registers a p) same off) (λ above. d.missed lower above less)
+            (at_or_above first lower low);
       })
       whole may
   under_missed first off (by_none none machine) =
-      by_none (λ place low inside. ⊎_elim (λ same. subst (λ p. Misses registers a p) same off) (λ above. none place above inside) (at_or_above first place low)) machine
+      by_none (λ place low inside. ⊎_elim (λ same. subst (λ p. Misses registers a p) same off) (λ above. none place above inside) (at_or_above first place low))
+      machine
 
   pub allow_missed : (first : ℕ) → Misses registers a first → AllowFrom registers a first ↔ AllowFrom registers a (first + 1)
   allow_missed first off = (over_missed first off, under_missed first off)
 
   -- the first of them has a byte of the access
-  decided_by : (first : ℕ) (x : Extent) → first < 64 → IsExtentAt registers first x → Meets x a → AllowFrom registers a first → ContainsAll x a × LetsThrough registers a first x
+  decided_by : (first : ℕ) (x : Extent) → first < 64 → IsExtentAt registers first x → Meets x a → AllowFrom registers a first
+      → ContainsAll x a × LetsThrough registers a first x
   decided_by first x inside is met (by_place place y d whole may) =
       ⊎_elim
       (λ same.
@@ -118,13 +124,23 @@ module _ (registers : Registers) (a : Access) where
       (at_or_above first place d.low)
   decided_by first x inside is met (by_none none machine) = absurd (none first (omega arith) inside x is met)
 
-  pub allow_met : (first : ℕ) (x : Extent) → first < 64 → IsExtentAt registers first x → Meets x a → AllowFrom registers a first ↔ (ContainsAll x a × LetsThrough registers a first x)
+  pub allow_met : (first : ℕ) (x : Extent) → first < 64 → IsExtentAt registers first x → Meets x a
+      → AllowFrom registers a first ↔ (ContainsAll x a × LetsThrough registers a first x)
   allow_met first x inside is met = (
     decided_by first x inside is met,
-    (λ may. by_place first x (record { low = omega arith; inside = inside; is_extent = is; met = met; missed = λ lower low less. absurd (omega (arith, low, less)) }) may.0 may.1),
+    (λ may. by_place first x (record {
+      low = omega arith;
+      inside = inside;
+      is_extent = is;
+      met = met;
+      missed = λ lower low less. absurd
+          (omega (arith, low, less));
+    }) may.0 may.1),
   )
 
 -- one more entry misses
-pub missed_with : (registers : Registers) (a : Access) (n : ℕ) → ((place : ℕ) → place < n → Misses registers a place) → Misses registers a n → (place : ℕ) → place < n + 1 → Misses registers a place
+pub missed_with : (registers : Registers) (a : Access) (n : ℕ) → ((place : ℕ) → place < n → Misses registers a place) → Misses registers a n → (place : ℕ)
+    → place < n + 1 → Misses registers a place
 missed_with registers a n below off place less =
-    ⊎_elim (λ under. below place under) (λ over. let same : n ≡ place = omega (arith, over, less) in subst (λ p. Misses registers a p) same off) (cases_lt place n)
+    ⊎_elim (λ under. below place under) (λ over. let same : n ≡ place = omega (arith, over, less) in subst (λ p. Misses registers a p) same off)
+    (cases_lt place n)

@@ -15,7 +15,8 @@ pub short_sets : (xlen : Xlen) (raw text : List ℕ) → IsShortLine raw → tex
 short_sets xlen raw text short is = rw (le-leb (length raw) 1023 short.1) (ap (line_sets xlen) (sym is))
 
 -- one line more
-pub set_by_more : (sets : List ℕ → Option Setting) (listing now : Listing) (n k : ℕ) (before : List (List ℕ)) (raw : List ℕ) (setting : Setting) → set_by_lines sets listing n before ≡ Some now → n + length before ≡ k
+pub set_by_more : (sets : List ℕ → Option Setting) (listing now : Listing) (n k : ℕ) (before : List (List ℕ)) (raw : List ℕ) (setting : Setting)
+    → set_by_lines sets listing n before ≡ Some now → n + length before ≡ k
     → sets raw ≡ Some setting → set_by_lines sets listing n (before ++ raw ∷ []) ≡ Some (set_by now k setting)
 set_by_more sets listing now n k [] raw setting done at is =
     let same : listing ≡ now = same_Some listing now done in
@@ -24,8 +25,10 @@ set_by_more sets listing now n k [] raw setting done at is =
 set_by_more sets listing now n k (first ∷ before) raw setting done at is =
     follow (sets first) (λ s h. set_by_more sets (set_by listing n s) now (n + 1) k before raw setting h (omega (arith, at)) is) done
   where
-    follow : (o : Option Setting) → ((s : Setting) → set_by_lines sets (set_by listing n s) (n + 1) before ≡ Some now → set_by_lines sets (set_by listing n s) (n + 1) (before ++ raw ∷ []) ≡ Some (set_by now k setting))
-        → option_and_then (λ s. set_by_lines sets (set_by listing n s) (n + 1) before) o ≡ Some now → option_and_then (λ s. set_by_lines sets (set_by listing n s) (n + 1) (before ++ raw ∷ [])) o ≡ Some (set_by now k setting)
+    follow : (o : Option Setting) → ((s : Setting) → set_by_lines sets (set_by listing n s) (n + 1) before ≡ Some now
+        → set_by_lines sets (set_by listing n s) (n + 1) (before ++ raw ∷ []) ≡ Some (set_by now k setting))
+        → option_and_then (λ s. set_by_lines sets (set_by listing n s) (n + 1) before) o ≡ Some now
+        → option_and_then (λ s. set_by_lines sets (set_by listing n s) (n + 1) (before ++ raw ∷ [])) o ≡ Some (set_by now k setting)
     follow None rest h = absurd cc
     follow (Some s) rest h = rest s h
 
@@ -39,17 +42,21 @@ set_width listing n (settings.Address place value) = refl
 set_width listing n (settings.Word place value) = refl
 
 -- nothing is left where a line is not understood
-stopped : (sets : List ℕ → Option Setting) (listing now : Listing) (n : ℕ) (before : List (List ℕ)) (raw : List ℕ) (rest : List (List ℕ)) → set_by_lines sets listing n before ≡ Some now → sets raw ≡ None
+stopped : (sets : List ℕ → Option Setting) (listing now : Listing) (n : ℕ) (before : List (List ℕ)) (raw : List ℕ) (rest : List (List ℕ))
+    → set_by_lines sets listing n before ≡ Some now → sets raw ≡ None
     → set_by_lines sets listing n (before ++ raw ∷ rest) ≡ None
 stopped sets listing now n [] raw rest done none = ap (λ o. option_and_then (λ s. set_by_lines sets (set_by listing n s) (n + 1) rest) o) none
 stopped sets listing now n (first ∷ before) raw rest done none =
     follow (sets first) (λ s h. stopped sets (set_by listing n s) now (n + 1) before raw rest h none) done
   where
-    follow : (o : Option Setting) → ((s : Setting) → set_by_lines sets (set_by listing n s) (n + 1) before ≡ Some now → set_by_lines sets (set_by listing n s) (n + 1) (before ++ raw ∷ rest) ≡ None)
-        → option_and_then (λ s. set_by_lines sets (set_by listing n s) (n + 1) before) o ≡ Some now → option_and_then (λ s. set_by_lines sets (set_by listing n s) (n + 1) (before ++ raw ∷ rest)) o ≡ None
+    follow : (o : Option Setting) → ((s : Setting) → set_by_lines sets (set_by listing n s) (n + 1) before ≡ Some now
+        → set_by_lines sets (set_by listing n s) (n + 1) (before ++ raw ∷ rest) ≡ None)
+        → option_and_then (λ s. set_by_lines sets (set_by listing n s) (n + 1) before) o ≡ Some now
+        → option_and_then (λ s. set_by_lines sets (set_by listing n s) (n + 1) (before ++ raw ∷ rest)) o ≡ None
     follow None stays h = absurd cc
     follow (Some s) stays h = stays s h
 
 pub unlisted : (xlen : Xlen) (bytes : List ℕ) (n : ℕ) → IsFirstUnknown xlen bytes n → listed xlen bytes ≡ None
 unlisted xlen bytes n u =
-    ap (λ raws. set_by_lines (sets_in xlen bytes) (nothing_set xlen) 1 raws) u.are_lines ∙ stopped (sets_in xlen bytes) (nothing_set xlen) u.listing 1 u.before u.raw u.rest u.understood u.unknown
+    ap (λ raws. set_by_lines (sets_in xlen bytes) (nothing_set xlen) 1 raws) u.are_lines
+    ∙ stopped (sets_in xlen bytes) (nothing_set xlen) u.listing 1 u.before u.raw u.rest u.understood u.unknown

@@ -6,10 +6,13 @@ use Rattle.map_table.proofs.Covered.{Says, says_first, says_none}
 use Rattle.map_table.proofs.covering.covering_from.Goals as goal
 
 nothing : (c : goal.After-next_cut-end) → Says c.args.extents.now c.args.at c.next_cut-end.result None NoAccess
-nothing c = says_none c.args.extents.now c.args.at c.next_cut-end.result c.requires.at c.requires.words c.in_default.ensures (rw c.extents.ensures at c.next_cut-end.ensures)
+nothing c = says_none c.args.extents.now c.args.at c.next_cut-end.result c.requires.at c.requires.words c.in_default.ensures
+    (rw c.extents.ensures at c.next_cut-end.ensures)
 
-first : (c : goal.After-next_cut-end-2) → Says c.args.extents.now c.args.at c.next_cut-end-2.result (Some c.in-Some.i) (get_or c.extents-2.result.now c.in-Some.i nowhere).perm
-first c = says_first c.args.extents.now c.in-Some.i c.args.at c.next_cut-end-2.result (get_or c.extents-2.result.now c.in-Some.i nowhere) (ap (λ xs. get_or xs c.in-Some.i nowhere) c.extents-2.ensures) c.requires.words c.in-Some.ensures c.next_cut-end-2.ensures
+first : (c : goal.After-next_cut-end-2) → Says c.args.extents.now c.args.at c.next_cut-end-2.result (Some c.in-Some.i)
+    (get_or c.extents-2.result.now c.in-Some.i nowhere).perm
+first c = says_first c.args.extents.now c.in-Some.i c.args.at c.next_cut-end-2.result (get_or c.extents-2.result.now c.in-Some.i nowhere)
+    (ap (λ xs. get_or xs c.in-Some.i nowhere) c.extents-2.ensures) c.requires.words c.in-Some.ensures c.next_cut-end-2.ensures
 
 pub returns-in_default-clause-some : goal.returns-in_default-clause-some
 returns-in_default-clause-some c = (nothing c).some

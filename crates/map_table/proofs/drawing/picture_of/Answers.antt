@@ -10,6 +10,8 @@ returns c =
     let rows = rw (drawn, c.new-rows.ensures.items) at c.in_ok-end.ensures.rows in
     let height = 40 + rows_height (take 1024 c.args.all.now) in
     rw c.new-text.ensures.items at
-    (three c.new-text.result.items c.push_head.new.text.items c.extend_from_slice.new.self.items c.push_foot.new.text.items (picture_head (height + 50) c.args.count.now)
+    (three c.new-text.result.items c.push_head.new.text.items c.extend_from_slice.new.self.items c.push_foot.new.text.items
+    (picture_head (height + 50) c.args.count.now)
     (picture_rows c.args.extents.now 40 (take 1024 c.args.all.now)) (picture_foot (length c.args.all.now) height)
-    (rw end at c.in_ok-push_head.ensures) (rw (c.as_slice.ensures.value, rows) at c.in_ok-extend_from_slice.ensures.items) (rw end at c.in_ok-push_foot.ensures))
+    (rw end at c.in_ok-push_head.ensures) (rw (c.as_slice.ensures.value, rows) at c.in_ok-extend_from_slice.ensures.items)
+    (rw end at c.in_ok-push_foot.ensures))

@@ -16,6 +16,7 @@ loop-i-preserved c =
       same = length-set hulls (i - 1) c.join.result ∙ c.loop-i.invariant.same;
       inside = omega (arith, c.loop-i.invariant.inside);
       nested =
-          one_nested hulls leaves (i - 1) c.join.result c.loop-i.invariant.same (omega (arith, c.loop-i-test.true)) (omega (arith, c.loop-i-test.true, c.loop-i.invariant.inside))
+          one_nested hulls leaves (i - 1) c.join.result c.loop-i.invariant.same (omega (arith, c.loop-i-test.true))
+          (omega (arith, c.loop-i-test.true, c.loop-i.invariant.inside))
           (rw left at c.join.ensures.first) (rw right at c.join.ensures.second) (rw back c.loop-i.invariant.nested);
     }

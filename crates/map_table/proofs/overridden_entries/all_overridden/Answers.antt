@@ -10,7 +10,10 @@ loop-from-preserved c =
     let s = c.args.stretch.now in
     let j = c.in-Some.j in
     record {
-      found = rw c.in_ok-push.ensures.items (one_found c.loop-from.found.items (overridden_from (j + 1) (drop (j + 1) extents) s) (overridden_from c.loop-from.from (drop c.loop-from.from extents) s) (overridden_from (c.args.i + 1) (drop (c.args.i + 1) extents) s) j c.loop-from.invariant.found (next_overridden extents c.loop-from.from j s c.in-Some.ensures));
+      found = rw c.in_ok-push.ensures.items (one_found c.loop-from.found.items (overridden_from (j + 1) (drop (j + 1) extents) s)
+          (overridden_from c.loop-from.from (drop c.loop-from.from extents) s)
+          (overridden_from (c.args.i + 1) (drop (c.args.i + 1) extents) s) j c.loop-from.invariant.found
+          (next_overridden extents c.loop-from.from j s c.in-Some.ensures));
       within = omega (arith, c.in-Some.ensures.inside);
     }
 

@@ -9,6 +9,7 @@ returns c =
     let extents = c.args.extents.now in
     let i = c.in-Some.i in
     c.in_ok-extend_from_slice-2.ensures.items
-    ∙ ap₂ (λ x y. x ++ y) (c.in_ok-extend_from_slice.ensures.items ∙ ap (λ x. text ++ x) (c.as_slice.ensures.value ∙ c.range_line-range.ensures)) (c.as_slice-2.ensures.value ∙ c.number_line-number.ensures)
+    ∙ ap₂ (λ x y. x ++ y) (c.in_ok-extend_from_slice.ensures.items ∙ ap (λ x. text ++ x) (c.as_slice.ensures.value ∙ c.range_line-range.ensures))
+    (c.as_slice-2.ensures.value ∙ c.number_line-number.ensures)
     ∙ append_assoc text (range_text s) (number_text i (overridden_from (i + 1) (drop (i + 1) extents) s))
     ∙ ap (λ x. text ++ row_by extents s x) (sym c.in-Some.is)

@@ -2,7 +2,8 @@ use Rattle.std.proofs.Common.{◌≡◌, ◌∙◌, ◌++◌, [], ℕ, List, ap}
 use Rattle.map_table.proofs.shapes.gap_line.Goals as goal
 
 -- five pieces, one put after another
-pieces : (a b c d e none one two three four five : List ℕ) → none ≡ [] → one ≡ none ++ a → two ≡ one ++ b → three ≡ two ++ c → four ≡ three ++ d → five ≡ four ++ e → five ≡ (((a ++ b) ++ c) ++ d) ++ e
+pieces : (a b c d e none one two three four five : List ℕ) → none ≡ [] → one ≡ none ++ a → two ≡ one ++ b → three ≡ two ++ c → four ≡ three ++ d
+    → five ≡ four ++ e → five ≡ (((a ++ b) ++ c) ++ d) ++ e
 pieces a b c d e none one two three four five h0 h1 h2 h3 h4 h5 =
     h5 ∙ ap (λ x. x ++ e) (h4 ∙ ap (λ x. x ++ d) (h3 ∙ ap (λ x. x ++ c) (h2 ∙ ap (λ x. x ++ b) (h1 ∙ ap (λ x. x ++ a) h0))))
 

@@ -6,4 +6,5 @@ use Rattle.pmp_match.proofs.Instance.{entries_words}
 use Rattle.map_table.proofs.stretch.stretches_by_entries.Goals as goal
 
 pub stretches-requires : goal.stretches-requires
-stretches-requires c = rw (c.as_slice.ensures.value, c.in_ok-extents.ensures) (All-from_recursion IsWords (matched_by c.args.entries.now) (entries_words c.args.entries.now))
+stretches-requires c = rw (c.as_slice.ensures.value, c.in_ok-extents.ensures)
+    (All-from_recursion IsWords (matched_by c.args.entries.now) (entries_words c.args.entries.now))

@@ -4,4 +4,5 @@ use Rattle.map_table.proofs.Listed.{given_rows}
 use Rattle.map_table.proofs.table.extent_table.Goals as goal
 
 pub push_rows-requires : goal.push_rows-requires
-push_rows-requires c = rw (c.in_ok-tree.ensures, c.as_slice-2.ensures.value, c.in_ok-rows.ensures, c.as_slice.ensures.value) (given_rows (view_of_runs c.new-map.result) c.args.extents.now 0 (2 ^ 56) _ c.in_ok-all.ensures)
+push_rows-requires c = rw (c.in_ok-tree.ensures, c.as_slice-2.ensures.value, c.in_ok-rows.ensures, c.as_slice.ensures.value)
+    (given_rows (view_of_runs c.new-map.result) c.args.extents.now 0 (2 ^ 56) _ c.in_ok-all.ensures)

@@ -21,5 +21,6 @@ loop-extent-preserved c =
 
 pub returns : goal.returns
 returns c =
-    let all = all_whole (λ x. ¬ Meets x (load_of_eight c.args.at)) c.args.extents.now c.loop-extent.extent-index (omega (arith, c.loop-extent-test.false)) c.loop-extent.invariant in
+    let all = all_whole (λ x. ¬ Meets x (load_of_eight c.args.at)) c.args.extents.now c.loop-extent.extent-index
+    (omega (arith, c.loop-extent-test.false)) c.loop-extent.invariant in
     ((λ yes. all), (λ none. refl))

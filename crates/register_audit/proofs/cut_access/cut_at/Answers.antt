@@ -17,7 +17,8 @@ returns-then-is_first-clause-some c =
     let some : 4 ≤ c.args.end = omega (arith, four, c.if-end-eq0.false) in
     let at : c.args.end ≡ c.args.end - 4 + 4 = omega (arith, some) in (
       sym at,
-      cut_found (view_of_runs c.args.map.now) c.args.extents.now c.args.i c.args.end (c.args.end - 4) c.requires.words c.requires.i c.requires.end c.requires.inside c.if-end-eq0.false at
+      cut_found (view_of_runs c.args.map.now) c.args.extents.now c.args.i c.args.end
+          (c.args.end - 4) c.requires.words c.requires.i c.requires.end c.requires.inside c.if-end-eq0.false at
           (ap (λ perm. holds perm Load) (sym c.get.ensures) ∙ sym c.can_read.ensures ∙ c.if-not-can_read.false)
           (λ x is. (c.is_first.ensures x is).0 c.if-is_first.true),
     )

@@ -28,7 +28,8 @@ loop-number-preserved c =
     let registers = c.args.registers.now in
     let place = c.loop-number.number in
     let is = extent_in registers c.args.extents.now c.requires.extents place nowhere c.loop-number-test.true in
-    missed_with registers c.args.access.now place c.loop-number.invariant (misses_by registers c.args.access.now place _ is (λ m. both_ways c.meets.result c.if-meets.false (c.meets.ensures.1 m)))
+    missed_with registers c.args.access.now place c.loop-number.invariant
+    (misses_by registers c.args.access.now place _ is (λ m. both_ways c.meets.result c.if-meets.false (c.meets.ensures.1 m)))
 
 pub returns : goal.returns
 returns c = λ place inside. c.loop-number.invariant place (omega (arith, c.loop-number-test.false, inside))

@@ -14,4 +14,5 @@ pub stretches-requires : goal.stretches-requires
 stretches-requires c = rw c.as_slice.ensures (all_words c.args.registers.now c.in-Ok.extents c.in-Ok.ensures.extents)
 
 pub push_odd-requires : goal.push_odd-requires
-push_odd-requires c = rw c.as_slice-2.ensures.value (ends (view_of_runs c.args.map.now) c.in-Ok.extents (2 ^ 56) c.in_ok-all.all.items (rw c.as_slice.ensures at c.in_ok-all.ensures))
+push_odd-requires c = rw c.as_slice-2.ensures.value (ends (view_of_runs c.args.map.now) c.in-Ok.extents (2 ^ 56) c.in_ok-all.all.items
+    (rw c.as_slice.ensures at c.in_ok-all.ensures))

@@ -14,8 +14,12 @@ loop-stretch-preserved c =
       | then-is_odd+in_ok-extend_from_slice w ↦
           rw w.text-is
           (λ odd are.
-          let whole = c.loop-stretch.invariant (_ ∷ odd) (take_it all i _ odd less (c.is_odd.ensures.odd w.if-is_odd.true) are) in
-          (whole.0, whole.1, ap (λ t. t ++ differences_text odd) (rw (w.as_slice.ensures.value, w.stretch_line.ensures) at w.in_ok-extend_from_slice.ensures.items) ∙ (append_assoc c.loop-stretch.text.items _ (differences_text odd) ∙ whole.2)))
+          let whole = c.loop-stretch.invariant (_ ∷ odd) (take_it all i _ odd less (c.is_odd.ensures.odd w.if-is_odd.true) are) in (
+            whole.0,
+            whole.1,
+            ap (λ t. t ++ differences_text odd) (rw (w.as_slice.ensures.value, w.stretch_line.ensures) at
+                w.in_ok-extend_from_slice.ensures.items) ∙ (append_assoc c.loop-stretch.text.items _ (differences_text odd) ∙ whole.2),
+          ))
       | else-is_odd w ↦
           rw w.text-is
           (λ odd are. c.loop-stretch.invariant odd (pass_it all i _ odd less (c.is_odd.ensures.same w.if-is_odd.false) are))

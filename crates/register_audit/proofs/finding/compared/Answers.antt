@@ -9,11 +9,13 @@ use Rattle.register_audit.proofs.Cut.{never_cut}
 use Rattle.register_audit.proofs.finding.compared.Goals as goal
 
 pub returns-in-Some : goal.returns-in-Some
-returns-in-Some c = difference (view_of_runs c.args.map.now) c.args.extents.now (2 ^ 56) _ c.in-Some.stretch c.in_ok-all.ensures (rw c.as_slice.ensures.value at c.in-Some.ensures)
+returns-in-Some c = difference (view_of_runs c.args.map.now) c.args.extents.now (2 ^ 56) _ c.in-Some.stretch c.in_ok-all.ensures
+    (rw c.as_slice.ensures.value at c.in-Some.ensures)
 
 pub returns-in-Some-first_cut : goal.returns-in-Some-first_cut
 returns-in-Some-first_cut c = record {
-  same = λ byte inside. agreed (view_of_runs c.args.map.now) c.args.extents.now 0 (2 ^ 56) _ c.in_ok-all.ensures (rw c.as_slice.ensures.value at c.in_default.ensures) byte (omega arith) inside;
+  same = λ byte inside. agreed (view_of_runs c.args.map.now) c.args.extents.now 0 (2 ^ 56) _ c.in_ok-all.ensures
+      (rw c.as_slice.ensures.value at c.in_default.ensures) byte (omega arith) inside;
   first = c.in-Some-first_cut.ensures;
 }
 

@@ -13,7 +13,8 @@ returns-then-is_odd c = record {
 }
 
 pub loop-stretch-preserved : goal.loop-stretch-preserved
-loop-stretch-preserved c = all_more agrees c.args.all.now c.loop-stretch.stretch-index _ c.loop-stretch-test.true c.loop-stretch.invariant (c.is_odd.ensures.same c.if-is_odd.false)
+loop-stretch-preserved c = all_more agrees c.args.all.now c.loop-stretch.stretch-index _ c.loop-stretch-test.true c.loop-stretch.invariant
+    (c.is_odd.ensures.same c.if-is_odd.false)
 
 pub returns : goal.returns
 returns c = all_whole agrees c.args.all.now c.loop-stretch.stretch-index (omega (arith, c.loop-stretch-test.false)) c.loop-stretch.invariant

@@ -5,4 +5,5 @@ pub returns-then-listing-ne0 : goal.returns-then-listing-ne0
 returns-then-listing-ne0 c = rw (c.in_ok-text.ensures, c.smepmp_line.ensures) (unmodelled c.if-listing-ne0.true)
 
 pub returns : goal.returns
-returns c = rw c.is_meant.ensures (judged c.if-listing-ne0.false c.in_ok-verdict.verdict c.in_ok-verdict.ensures c.in_ok-text-2.text.items c.in_ok-text-2.ensures)
+returns c = rw c.is_meant.ensures (judged c.if-listing-ne0.false c.in_ok-verdict.verdict c.in_ok-verdict.ensures c.in_ok-text-2.text.items
+    c.in_ok-text-2.ensures)

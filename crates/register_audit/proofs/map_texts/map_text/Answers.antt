@@ -7,7 +7,8 @@ use Rattle.register_audit.specs.MapTexts.{map_text, run_text}
 use Rattle.register_audit.proofs.map_texts.map_text.Goals as goal
 
 next_line :
-    (text line whole : List ℕ) (runs : List Run) (i : ℕ) (d : Run) → i < length runs → text ++ map_text (drop i runs) ≡ whole → line ≡ run_text (get_or runs i d)
+    (text line whole : List ℕ) (runs : List Run) (i : ℕ) (d : Run) → i < length runs → text ++ map_text (drop i runs) ≡ whole
+    → line ≡ run_text (get_or runs i d)
     → (text ++ line) ++ map_text (drop (i + 1) runs) ≡ whole
 next_line text line whole runs i d inside so_far is =
     let more = rw (drop_more runs i d inside) at so_far in

@@ -8,7 +8,8 @@ use Rattle.register_text.proofs.listing.register_listing.Given as goal
 
 abbrev pub invariant-loop-lines : goal.invariant-loop-lines
 invariant-loop-lines l = record {
-  followed : (before : List (List ℕ)) × (raw_lines l.bytes ≡ before ++ raw_lines (left_of l.lines l.rest)) × (length before ≡ number_of l.lines) × (set_by_lines (raw_sets l.xlen) (nothing_set l.xlen) 1 before ≡ Some l.listing);
+  followed : (before : List (List ℕ)) × (raw_lines l.bytes ≡ before ++ raw_lines (left_of l.lines l.rest)) × (length before ≡ number_of l.lines)
+      × (set_by_lines (raw_sets l.xlen) (nothing_set l.xlen) 1 before ≡ Some l.listing);
   came : came_of l.lines + length l.rest ≡ length l.bytes;
   width : l.listing.registers.xlen ≡ l.xlen;
   limit : most_of l.lines ≡ 2 ^ 64 - 1;

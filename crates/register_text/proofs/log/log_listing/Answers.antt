@@ -14,8 +14,10 @@ loop-rest-preserved c =
         f.0 ++ raw ∷ [],
         f.1 ∙ ap (λ x. f.0 ++ x) c.split_line.ensures.lines ∙ sym (append_assoc f.0 (raw ∷ []) (raw_lines rest)),
         length-append f.0 (raw ∷ []) ∙ ap (λ n. n + 1) f.2,
-        rw c.of-listing.ensures (set_by_more (log_sets c.args.xlen) _ c.loop-rest.listing 1 (c.loop-rest.number + 1) f.0 raw c.in-Ok.setting f.3 (omega (arith, f.2)) (sym c.in-Ok.ensures.value)),
+        rw c.of-listing.ensures (set_by_more (log_sets c.args.xlen) _ c.loop-rest.listing 1 (c.loop-rest.number + 1) f.0 raw c.in-Ok.setting f.3
+            (omega (arith, f.2)) (sym c.in-Ok.ensures.value)),
       );
-      width = ap (λ x. x.registers.xlen) c.of-listing.ensures ∙ (set_width c.loop-rest.listing (c.loop-rest.number + 1) c.in-Ok.setting ∙ c.loop-rest.invariant.width);
+      width = ap (λ x. x.registers.xlen) c.of-listing.ensures ∙ (set_width c.loop-rest.listing (c.loop-rest.number + 1) c.in-Ok.setting
+          ∙ c.loop-rest.invariant.width);
       counted = omega (arith, c.loop-rest.invariant.counted, c.split_line.ensures.shorter);
     }

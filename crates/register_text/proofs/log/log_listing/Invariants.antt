@@ -6,7 +6,8 @@ use Rattle.register_text.proofs.log.log_listing.Given as goal
 
 abbrev pub invariant-loop-rest : goal.invariant-loop-rest
 invariant-loop-rest l = record {
-  followed : (before : List (List ℕ)) × (raw_lines l.bytes ≡ before ++ raw_lines l.rest) × (length before ≡ l.number) × (set_by_lines (log_sets l.xlen) (nothing_set l.xlen) 1 before ≡ Some l.listing);
+  followed : (before : List (List ℕ)) × (raw_lines l.bytes ≡ before ++ raw_lines l.rest) × (length before ≡ l.number)
+      × (set_by_lines (log_sets l.xlen) (nothing_set l.xlen) 1 before ≡ Some l.listing);
   width : l.listing.registers.xlen ≡ l.xlen;
   counted : l.number + length l.rest ≤ length l.bytes;
 }

@@ -22,7 +22,8 @@ loop-found-preserved c =
       most = omega (arith, is.nearer, c.loop-found.invariant.most);
       begun = λ nearer. (h.number, is.number, is.met, is.base);
       past =
-          past_to leaves 0 place found c.args.bound c.args.bound c.args.first c.loop-found.cut h.base (omega arith) (omega (arith, is.nearer)) c.loop-found.invariant.past next.before
+          past_to leaves 0 place found c.args.bound c.args.bound c.args.first c.loop-found.cut h.base (omega arith)
+          (omega (arith, is.nearer)) c.loop-found.invariant.past next.before
           (λ low. past_base h c.args.bound c.args.first h.base (omega arith));
     })
 
@@ -30,7 +31,8 @@ pub returns : goal.returns
 returns c = record {
   most = c.loop-found.invariant.most;
   missed =
-      missed_all c.args.self.now c.self.inside.tree 0 c.loop-found.place c.args.bound c.args.first c.loop-found.cut (rw c.self.view_is at c.self.invariant) c.loop-found.invariant.past
+      missed_all c.args.self.now c.self.inside.tree 0 c.loop-found.place c.args.bound c.args.first c.loop-found.cut
+      (rw c.self.view_is at c.self.invariant) c.loop-found.invariant.past
       c.in_default.ensures;
   begun = c.loop-found.invariant.begun;
 }

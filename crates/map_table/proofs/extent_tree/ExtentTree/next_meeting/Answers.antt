@@ -15,7 +15,8 @@ loop-found-preserved-then-from-number c =
     let h = get_or leaves found no_hull in
     let same : IsPermutation (numbered 0 extents) leaves = rw c.self.view_is at c.self.invariant in
     let next : IsNextLeaf leaves place best c.args.first c.args.end found = c.in-Some.ensures in
-    let is : IsMet extents h best c.args.first c.args.end c.args.end = met_leaf extents leaves place found best c.args.first c.args.end c.args.end same (omega arith) next in
+    let is : IsMet extents h best c.args.first c.args.end c.args.end = met_leaf extents leaves place found best c.args.first c.args.end c.args.end same
+    (omega arith) next in
     let sought = rw c.leaves.ensures at c.if-from-number.true in
     rw c.leaves.ensures
     (record {
@@ -23,7 +24,8 @@ loop-found-preserved-then-from-number c =
       most = omega (arith, is.inside);
       met = λ inside. (omega (arith, sought), is.met);
       past =
-          past_to leaves c.args.from place found best h.number c.args.first c.args.end c.args.end (omega (arith, is.number)) (omega arith) c.loop-found.invariant.past next.before
+          past_to leaves c.args.from place found best h.number c.args.first c.args.end c.args.end (omega (arith, is.number))
+          (omega arith) c.loop-found.invariant.past next.before
           (λ low. past_number h h.number c.args.first c.args.end (omega arith));
     })
 
@@ -40,7 +42,8 @@ loop-found-preserved c =
       most = c.loop-found.invariant.most;
       met = c.loop-found.invariant.met;
       past =
-          past_to leaves c.args.from place found best best c.args.first c.args.end c.args.end (omega arith) (omega arith) c.loop-found.invariant.past next.before
+          past_to leaves c.args.from place found best best c.args.first c.args.end c.args.end (omega arith)
+          (omega arith) c.loop-found.invariant.past next.before
           (λ low. absurd (omega (arith, low, early)));
     }
 
@@ -52,11 +55,20 @@ returns-then-best-count c =
       inside = omega (arith, c.if-best-count.true, c.len-count.ensures, ap (λ xs. length xs) c.self.view_is);
       met = met.1;
       before =
-          missed_all c.args.self.now c.self.inside.tree c.args.from c.loop-found.place c.loop-found.best c.args.first c.args.end (rw c.self.view_is at c.self.invariant)
+          missed_all c.args.self.now c.self.inside.tree c.args.from c.loop-found.place c.loop-found.best c.args.first c.args.end
+          (rw c.self.view_is at c.self.invariant)
           c.loop-found.invariant.past c.in_default.ensures;
     }
 
 pub returns : goal.returns
 returns c = λ k low high.
-    missed_all c.args.self.now c.self.inside.tree c.args.from c.loop-found.place c.loop-found.best c.args.first c.args.end (rw c.self.view_is at c.self.invariant)
-    c.loop-found.invariant.past c.in_default.ensures k low (omega (arith, high, c.if-best-count.false, c.len-count.ensures, ap (λ xs. length xs) c.self.view_is))
+    missed_all c.args.self.now c.self.inside.tree c.args.from c.loop-found.place c.loop-found.best c.args.first c.args.end
+    (rw c.self.view_is at c.self.invariant)
+    c.loop-found.invariant.past c.in_default.ensures k low (omega (
+      arith,
+      high,
+      c.if-best-count.false,
+      c.len-count.ensures,
+      ap
+          (λ xs. length xs) c.self.view_is,
+    ))

@@ -22,15 +22,22 @@ loop-leaf-preserved-then-index-gt1 c =
     let leaves = c.args.self.now in
     let hulls = c.self.inside.hulls.items in
     let next = (leaf / 2 ^ height + 1) * 2 ^ height in
-    let whole : next % 18446744073709551616 ≡ next = omega (arith, near leaf height c.loop-leaf.invariant.some, c.loop-leaf-test.true, c.self.inside.leaves.small) in
+    let whole : next % 18446744073709551616 ≡ next = omega (
+      arith,
+      near leaf height c.loop-leaf.invariant.some,
+      c.loop-leaf-test.true,
+      c.self.inside.leaves.small,
+    ) in
     let past : is_past (node_at hulls leaves (leaf / 2 ^ height)) c.args.bound c.args.first c.args.end ≡ true =
-    ap (λ h. is_past h c.args.bound c.args.first c.args.end) (sym (rw (c.as_slice.ensures.value, c.as_slice-in-loop-leaf.ensures.value, c.self.view_is) at c.node-hull.ensures)) ∙ sym c.is_past.ensures ∙ c.if-is_past.true in
+    ap (λ h. is_past h c.args.bound c.args.first c.args.end) (sym (rw (c.as_slice.ensures.value, c.as_slice-in-loop-leaf.ensures.value, c.self.view_is) at
+    c.node-hull.ensures)) ∙ sym c.is_past.ensures ∙ c.if-is_past.true in
     let nested = rw (c.self.view_is) at c.self.invariant.nested in
     rw whole
     (record {
       begun = omega (arith, c.loop-leaf.invariant.begun, beyond leaf height);
       some = wide leaf height c.if-index-gt1.true;
-      past = all_past hulls leaves c.args.from leaf height c.args.bound c.args.first c.args.end nested c.loop-leaf.invariant.begun c.loop-leaf.invariant.some past c.loop-leaf.invariant.past;
+      past = all_past hulls leaves c.args.from leaf height c.args.bound c.args.first c.args.end nested c.loop-leaf.invariant.begun c.loop-leaf.invariant.some
+          past c.loop-leaf.invariant.past;
     })
 
 pub loop-leaf-preserved-else-index-gt1 : goal.loop-leaf-preserved-else-index-gt1
@@ -40,16 +47,28 @@ loop-leaf-preserved-else-index-gt1 c =
     let leaves = c.args.self.now in
     let hulls = c.self.inside.hulls.items in
     let next = (leaf / 2 ^ height + 1) * 2 ^ height in
-    let whole : next % 18446744073709551616 ≡ next = omega (arith, near leaf height c.loop-leaf.invariant.some, c.loop-leaf-test.true, c.self.inside.leaves.small) in
+    let whole : next % 18446744073709551616 ≡ next = omega (
+      arith,
+      near leaf height c.loop-leaf.invariant.some,
+      c.loop-leaf-test.true,
+      c.self.inside.leaves.small,
+    ) in
     let past : is_past (node_at hulls leaves (leaf / 2 ^ height)) c.args.bound c.args.first c.args.end ≡ true =
-    ap (λ h. is_past h c.args.bound c.args.first c.args.end) (sym (rw (c.as_slice.ensures.value, c.as_slice-in-loop-leaf.ensures.value, c.self.view_is) at c.node-hull.ensures)) ∙ sym c.is_past.ensures ∙ c.if-is_past.true in
+    ap (λ h. is_past h c.args.bound c.args.first c.args.end) (sym (rw (c.as_slice.ensures.value, c.as_slice-in-loop-leaf.ensures.value, c.self.view_is) at
+    c.node-hull.ensures)) ∙ sym c.is_past.ensures ∙ c.if-is_past.true in
     let nested = rw (c.self.view_is) at c.self.invariant.nested in
     rw whole
     (record {
       begun = omega (arith, c.loop-leaf.invariant.begun, beyond leaf height);
       some = omega (arith, c.loop-leaf.invariant.some, beyond leaf height);
-      past = all_past hulls leaves c.args.from leaf height c.args.bound c.args.first c.args.end nested c.loop-leaf.invariant.begun c.loop-leaf.invariant.some past c.loop-leaf.invariant.past;
+      past = all_past hulls leaves c.args.from leaf height c.args.bound c.args.first c.args.end nested c.loop-leaf.invariant.begun c.loop-leaf.invariant.some
+          past c.loop-leaf.invariant.past;
     })
 
 pub loop-leaf-preserved : goal.loop-leaf-preserved
-loop-leaf-preserved c = record { begun = c.loop-leaf.invariant.begun; some = lower c.loop-leaf.height c.loop-leaf.leaf c.loop-leaf.invariant.some; past = c.loop-leaf.invariant.past }
+loop-leaf-preserved c = record {
+  begun = c.loop-leaf.invariant.begun;
+  some = lower c.loop-leaf.height c.loop-leaf.leaf c.loop-leaf.invariant.some;
+  past =
+      c.loop-leaf.invariant.past;
+}

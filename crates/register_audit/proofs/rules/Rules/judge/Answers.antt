@@ -6,11 +6,13 @@ use Rattle.register_audit.specs.Judgement.{allowed, denied, off_its_size, outsid
 use Rattle.register_audit.proofs.rules.Rules.judge.Goals as goal
 
 pub returns-then-not-is_aligned : goal.returns-then-not-is_aligned
-returns-then-not-is_aligned c = rw c.misaligned.ensures (off_its_size (not_aligned c.args.access.now c.is_aligned.result c.is_aligned.ensures c.if-not-is_aligned.true))
+returns-then-not-is_aligned c = rw c.misaligned.ensures (off_its_size (not_aligned c.args.access.now c.is_aligned.result c.is_aligned.ensures
+    c.if-not-is_aligned.true))
 
 pub returns-then-access-ge-SPACE_SIZE : goal.returns-then-access-ge-SPACE_SIZE
 returns-then-access-ge-SPACE_SIZE c =
-    rw c.access_fault.ensures (outside (aligned c.args.access.now c.is_aligned.result c.is_aligned.ensures c.if-not-is_aligned.false) (omega (arith, c.if-access-ge-SPACE_SIZE.true)))
+    rw c.access_fault.ensures (outside (aligned c.args.access.now c.is_aligned.result c.is_aligned.ensures c.if-not-is_aligned.false)
+    (omega (arith, c.if-access-ge-SPACE_SIZE.true)))
 
 pub returns-then-not-allow : goal.returns-then-not-allow
 returns-then-not-allow c =
