@@ -30,6 +30,7 @@ mod found;
 mod names;
 mod program_words;
 mod subcommands;
+mod table;
 mod texts;
 mod troubles;
 mod words;
