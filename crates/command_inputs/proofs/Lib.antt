@@ -1,2 +1,3 @@
 pub mod Refusals
 mod Parts
+mod ShownParts

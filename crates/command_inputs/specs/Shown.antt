@@ -1,6 +1,8 @@
 -- How a name is shown in a message: without control characters.
 use Rattle.std.specs.Prelude.{ℕ, nat_lt, nat_le, ◌==◌, ◌&&◌, ◌||◌, Bool, false, List, [], ◌∷◌, ◌++◌}
-use Rattle.std.specs.Prelude.{codes, if◌then◌else◌}
+use Rattle.std.specs.Prelude.{codes, if◌then◌else◌, ◌≡◌}
+use Rattle.std.specs.Borrow.{Bor}
+use Rattle.std.specs.Str.{IsUtf8}
 use Rattle.text_lines.specs.Written.{hex}
 
 -- a control character of ASCII
@@ -37,3 +39,11 @@ shown_behind before (b ∷ bytes) = shown_byte before b bytes ++ shown_behind b 
 -- the bytes of a name as they are shown
 abbrev pub shown : List ℕ → List ℕ
 shown name = shown_behind 0 name
+
+-- a text has these bytes, where they are one
+abbrev pub IsTextOf : List ℕ → Bor (List ℕ) → Type 0
+IsTextOf bytes text = IsUtf8 bytes → text.now ≡ bytes
+
+-- these bytes are a name as it is shown, where that is a text
+abbrev pub IsShown : List ℕ → List ℕ → Type 0
+IsShown name bytes = IsUtf8 (shown name) → bytes ≡ shown name

@@ -17,15 +17,16 @@ use Rattle.command_inputs.specs.declared.trouble.Trouble.TheVariants.{TooLarge, 
 use Rattle.command_inputs.specs.declared.trouble.Trouble.TheVariants.{TooFar, NeedsEntries}
 use Rattle.command_inputs.specs.declared.trouble.Trouble.TheVariants.{CannotRead, CannotWrite}
 use Rattle.command_inputs.specs.declared.trouble.Trouble.TheVariants.{Output, Memory}
+use Rattle.command_inputs.specs.Shown.{shown}
 
 -- texts one after another
 abbrev pub joined : List (List ℕ) → List ℕ
 joined [] = []
 joined (text ∷ texts) = text ++ joined texts
 
--- what is said of a file
+-- what is said of a file, under its name as it is shown
 abbrev pub file_text : List ℕ → List ℕ → List ℕ
-file_text file said = codes "pmpmon: " ++ file ++ said
+file_text file said = codes "pmpmon: " ++ (shown file ++ said)
 
 -- the line for each trouble
 abbrev pub trouble_text : Trouble → List ℕ

@@ -12,8 +12,9 @@
 //!
 //! A [`Trouble`] has the names of the files that were given. For the layer above: `of_source`, `of_map`, `of_run`, `of_text`
 //! and `of_boot` say which trouble a fault is, `print` writes its line, and `status` is the one that the program ends with.
-//! [`print_reason`] writes why a device failed; [`shown`] is a name without control
-//! characters, each byte of which [`push_escaped`] writes.
+//! [`print_reason`] writes why a device failed. Names are escaped where they are printed: [`shown`] is a name
+//! without control characters, each byte of which [`push_escaped`] writes, [`ShownName`] one that is lent as a text, and
+//! [`write_shown`] writes one without memory.
 //!
 //! ```rust
 //! let trouble = Trouble::of_map(name, fault);
@@ -29,7 +30,7 @@ mod trouble;
 
 pub use inputs::{CERTIFICATE_BYTES, REGISTER_BYTES, bytes_in, map_by, map_in};
 pub use map_text::MAP_BYTES;
-pub use names::{push_escaped, shown};
+pub use names::{ShownName, push_escaped, shown, text_of, write_shown};
 pub use platform_inputs::{PLATFORM_BYTES, platform_in, read_platform};
 pub use reason_hint::print_reason;
 pub use statuses::answer_status;

@@ -1,9 +1,12 @@
 //! Names as messages show them: without control characters.
 
-ghost use Rattle.std.specs.Prelude.{◌≡◌, ◌++◌, IfOk, OnOk};
-ghost use Rattle.command_inputs.specs.Shown.{begins_pair, escaped, is_control, is_control_pair, is_hidden, shown, shown_byte};
+ghost use Rattle.std.specs.Prelude.{◌≡◌, ◌++◌, IfOk, OnOk, true};
+ghost use Rattle.byte_streams.specs.Writings.{writing, Prints};
+ghost use Rattle.command_inputs.specs.Shown.{begins_pair, escaped, is_control, is_control_pair, is_hidden, shown, shown_byte, IsTextOf};
 
+use byte_streams::{DeviceFault, Sink, write_whole};
 use std::alloc::{AllocError, Global};
+use std::str::from_utf8;
 use text_lines::{Line, push_hex, push_text};
 
 fn is_control(byte: u8) -> bool
@@ -80,4 +83,95 @@ pub fn shown(alloc: Global, name: &[u8]) -> Result<Vec<u8>, AllocError>
         rest = behind;
     }
     Ok(text)
+}
+
+/// The text of bytes, where they are one.
+pub fn text_of(bytes: &[u8]) -> &str
+    ensures { IsTextOf bytes.now result }
+{
+    from_utf8(bytes).unwrap_or("")
+}
+
+/// A name as it is shown.
+#[derive(Drop)]
+pub struct ShownName {
+    bytes: Vec<u8>,
+}
+
+impl ShownName {
+    ghost use Rattle.std.specs.Prelude.{◌≡◌, IfOk};
+    ghost use Rattle.command_inputs.specs.Shown.{shown, IsTextOf};
+
+    /// That of a name.
+    pub fn of(alloc: Global, name: &str) -> Result<ShownName, AllocError>
+        ensures { IfOk result (λ it. it.bytes.items ≡ shown name.now) }
+    {
+        let bytes = shown(alloc, name.as_bytes())?;
+        Ok(ShownName { bytes })
+    }
+
+    /// It as a text.
+    pub fn text(&self) -> &str
+        ensures { IsTextOf self.now.bytes.items result }
+    {
+        text_of(self.bytes.as_slice())
+    }
+}
+
+/// Whether a name is shown as it is.
+fn is_plain(name: &[u8]) -> bool
+    ensures { result ≡ true → shown name.now ≡ name.now }
+{
+    let mut before = 0;
+    let mut rest = name;
+    while let [first, behind @ ..] = rest {
+        if is_hidden(before, *first, behind) {
+            return false;
+        }
+        before = *first;
+        rest = behind;
+    }
+    true
+}
+
+/// Writes a byte as it is shown, by the byte before it and those behind it.
+fn write_shown_byte<E: Sink>(
+    err: &mut E,
+    before: u8,
+    byte: u8,
+    behind: &[u8],
+) -> Result<(), DeviceFault>
+    ensures { Prints (shown_byte before byte behind.now)
+        (writing E.contents E.failures E.stalls err.old err.new) result }
+{
+    if is_hidden(before, byte, behind) {
+        return write_whole(err, escaped(byte).as_slice());
+    }
+    write_whole(err, &[byte])
+}
+
+/// Writes a name as it is shown: at once where it has no control character, and otherwise byte by byte. It takes no memory.
+pub fn write_shown<E: Sink>(err: &mut E, name: &[u8]) -> Result<(), DeviceFault>
+    ensures { Prints (shown name.now)
+        (writing E.contents E.failures E.stalls err.old err.new) result }
+{
+    if is_plain(name) {
+        return write_whole(err, name);
+    }
+    write_escaped(err, name)
+}
+
+/// Writes a name as it is shown, byte by byte.
+fn write_escaped<E: Sink>(err: &mut E, name: &[u8]) -> Result<(), DeviceFault>
+    ensures { Prints (shown name.now)
+        (writing E.contents E.failures E.stalls err.old err.new) result }
+{
+    let mut before = 0;
+    let mut rest = name;
+    while let [first, behind @ ..] = rest {
+        write_shown_byte(err, before, *first, behind)?;
+        before = *first;
+        rest = behind;
+    }
+    Ok(())
 }

@@ -4,7 +4,7 @@ ghost use Rattle.std.specs.Prelude.{◌≡◌};
 ghost use Rattle.byte_streams.specs.Writings.{writing, Prints};
 ghost use Rattle.command_inputs.specs.ReasonHints.{hint_line, hint_text};
 
-use crate::trouble::write_parts;
+use crate::trouble::write_named;
 use byte_streams::{DeviceFault, Sink};
 use program_files::Reason;
 
@@ -13,7 +13,7 @@ fn write_hint<E: Sink>(name: &str, said: &str, err: &mut E) -> Result<(), Device
     ensures { Prints (hint_line name.now said.now)
         (writing E.contents E.failures E.stalls err.old err.new) result }
 {
-    write_parts(err, &["hint: ", name, ": ", said, "\n"])
+    write_named(err, "hint: ", name, &[": ", said, "\n"])
 }
 
 /// Writes the hint of a reason, of the file or the stream of that name. It takes no memory.

@@ -1,9 +1,11 @@
 //! Why a task did not end well: the text for standard error, and the program's status.
 
-ghost use Rattle.std.specs.Prelude.{◌≡◌, map};
+ghost use Rattle.std.specs.Prelude.{◌≡◌, ◌++◌, map};
 ghost use Rattle.byte_streams.specs.Writings.{writing, Prints};
+ghost use Rattle.command_inputs.specs.Shown.{shown};
 ghost use Rattle.command_inputs.specs.Troubles.{boot_trouble, file_text, joined, map_trouble, run_trouble, text_trouble, trouble_status, trouble_text, source_trouble};
 
+use crate::names::write_shown;
 use byte_streams::{DeviceFault, Sink, SourceFault, write_whole};
 use itoa::Buffer;
 use map_text::MapFileFault;
@@ -12,7 +14,7 @@ use platforms::BootFault;
 use std::alloc::AllocError;
 use text_lines::RunFault;
 
-/// Why a task did not end well. Files have the names that were given.
+/// Why a task did not end well. Files have the names that were given; they are shown without control characters.
 #[derive(Clone, Copy)]
 pub enum Trouble<'a> {
     /// A line of the file, counted from 1, is not understood.
@@ -156,8 +158,8 @@ impl<'a> Trouble<'a> {
         match self {
             Trouble::NotUnderstood { file, line } => {
                 let number = buffer.format(*line);
-                let parts = ["pmpmon: ", *file, ": line ", number, " is not understood\n"];
-                write_parts(err, &parts)
+                let parts = [": line ", number, " is not understood\n"];
+                write_named(err, "pmpmon: ", *file, &parts)
             }
             Trouble::TooManyRanges { file } => about(*file, ": too many ranges\n", err),
             Trouble::TooLarge { file } => about(*file, ": too large\n", err),
@@ -180,11 +182,27 @@ fn about<E: Sink>(file: &str, said: &str, err: &mut E) -> Result<(), DeviceFault
     ensures { Prints (file_text file.now said.now)
         (writing E.contents E.failures E.stalls err.old err.new) result }
 {
-    write_parts(err, &["pmpmon: ", file, said])
+    write_named(err, "pmpmon: ", file, &[said])
+}
+
+/// Writes a text, a name as it is shown, and texts one after another.
+pub(crate) fn write_named<E: Sink>(
+    err: &mut E,
+    before: &str,
+    name: &str,
+    parts: &[&str],
+) -> Result<(), DeviceFault>
+    ensures { Prints (before.now ++ (shown name.now
+        ++ joined (map (λ part. part.now) parts.now)))
+        (writing E.contents E.failures E.stalls err.old err.new) result }
+{
+    write_whole(err, before.as_bytes())?;
+    write_shown(err, name.as_bytes())?;
+    write_parts(err, parts)
 }
 
 /// Writes texts one after another.
-pub(crate) fn write_parts<E: Sink>(err: &mut E, parts: &[&str]) -> Result<(), DeviceFault>
+fn write_parts<E: Sink>(err: &mut E, parts: &[&str]) -> Result<(), DeviceFault>
     ensures { Prints (joined (map (λ part. part.now) parts.now))
         (writing E.contents E.failures E.stalls err.old err.new) result }
 {

@@ -4,8 +4,8 @@ use Rattle.std.proofs.lemmas.Slice.Eq.{bytes_eq-Decides}
 use Rattle.std.specs.List.{find}
 use Rattle.std.specs.Str.{bytes_eq}
 use Rattle.clap.specs.Words.{Shape}
-use Rattle.program_tasks.specs.declared.subcommand.Subcommand.{Subcommand}
-use Rattle.program_tasks.specs.declared.subcommand.Subcommand.TheVariants.{Audit, Check, Judge, Lint, Map, Plan, Run, Show}
+use Rattle.program_tasks.specs.declared.task.Subcommand.{Subcommand}
+use Rattle.program_tasks.specs.declared.task.Subcommand.TheVariants.{Audit, Check, Judge, Lint, Map, Plan, Run, Show}
 use Rattle.program_tasks.specs.Subcommands.{Text, subcommand_word}
 use Rattle.command_line.specs.ClapModel.{app_by}
 use Rattle.command_line.specs.CommandLine.{app_alone, app_named, program_app}

@@ -9,10 +9,10 @@ use Rattle.command_line.specs.CommandLine.{lint_app, map_app, option_rule, plan_
 use Rattle.command_line.specs.CommandLine.{show_app}
 use Rattle.command_line.specs.declared.arguments.Argument.{Argument}
 use Rattle.command_line.specs.declared.arguments.Argument.TheVariants.{File, Flag, MaybeFile, Value}
-use Rattle.program_tasks.specs.declared.subcommand.Subcommand.{Subcommand}
-use Rattle.program_tasks.specs.declared.subcommand.Subcommand.TheVariants.{Audit, Check, Judge}
-use Rattle.program_tasks.specs.declared.subcommand.Subcommand.TheVariants.{Lint, Map, Plan, Run}
-use Rattle.program_tasks.specs.declared.subcommand.Subcommand.TheVariants.{Show}
+use Rattle.program_tasks.specs.declared.task.Subcommand.{Subcommand}
+use Rattle.program_tasks.specs.declared.task.Subcommand.TheVariants.{Audit, Check, Judge}
+use Rattle.program_tasks.specs.declared.task.Subcommand.TheVariants.{Lint, Map, Plan, Run}
+use Rattle.program_tasks.specs.declared.task.Subcommand.TheVariants.{Show}
 
 -- the value that an option has where it is not given, if it has one
 abbrev pub defaults_by : Option (Bor Text) → List Text

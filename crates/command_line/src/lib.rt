@@ -11,32 +11,32 @@
 //! The way from the words of a command line to a task that may be done, and how the program ends.
 //!
 //! For the layer above: [`words_in`] has the words of the command line, [`texts_in`] these as texts, [`request_in`] what they ask
-//! for, and [`names_of`] the names of the files of a task that may be done. Where the way ends, each has said why, and answers the
-//! status with which the program ends. [`ended`] is the end of a task that was done, and [`standard_error`] where its troubles go.
+//! for, and [`may_be_done`] refuses a task whose files get in each other's way. Where the way ends, each has said why, and answers
+//! the status with which the program ends. [`ended`] is the end of a task that was done, and [`standard_error`] where its troubles go.
 //!
 //! ```text
 //! let words = words_in(rt)?;
 //! let texts = texts_in(rt, words.as_slice())?;
 //! let request = request_in(rt, texts.as_slice())?;
-//! let names = names_of(rt, &request.task)?;
+//! may_be_done(rt, &request.task)?;
 //! ```
 #![tactic(auto)]
 
 mod arguments;
-mod certificates;
 mod fault;
 mod faults;
 mod found;
-mod names;
 mod program_words;
 mod subcommands;
+mod table;
+mod task_files;
 mod texts;
 mod troubles;
 mod words;
 
 pub use fault::{no_certificate, reads_twice, takes_place};
-pub use names::names_of;
 pub use program_tasks::{Answers, Format, Hints, LintKind, Options, Request, TableFormat, Task};
 pub use program_words::{request_in, texts_in, words_in};
+pub use task_files::may_be_done;
 pub use troubles::{ended, standard_error};
 pub use words::request_of_words;

@@ -19,14 +19,17 @@ use Rattle.command_inputs.specs.declared.trouble.Trouble.{Trouble}
 use Rattle.command_inputs.specs.declared.trouble.Trouble.TheVariants.{Output, Memory}
 use Rattle.command_inputs.specs.Inputs.{Reading, HasBytes, HasNoBytes}
 use Rattle.command_inputs.specs.Statuses.{answer_status}
+use Rattle.command_inputs.specs.Shown.{shown, IsShown}
 
 -- a file whose name ends in `.toml` should be a platform, and any other one a map
 abbrev pub names_platform : List ℕ → Bool
 names_platform name = ends_with (λ a b. a == b) name (codes ".toml")
 
--- what is written of the bytes of a file that should be a map, and whether they are one
+-- what is written of the bytes of a file that should be a map, under its name as it is shown, and
+-- whether they are one
 abbrev pub IsMapLint : List ℕ → List ℕ → Bool → List ℕ → Type 0
-IsMapLint name bytes is_map text = IsVerdictOfLines bytes is_map × IsLintText name bytes is_map text
+IsMapLint name bytes is_map text = IsVerdictOfLines bytes is_map
+    × ((named : List ℕ) × IsShown name named × IsLintText named bytes is_map text)
 
 -- the other width
 abbrev pub other_width : Xlen → Xlen
@@ -45,9 +48,11 @@ listing_reason Rv64 false =
 listing_reason Rv32 false =
     codes ":1: the line is not understood; write a register and its value of 32 bits, as 'pmpcfg0 0x1f'\n"
 
--- what is printed of a line of a listing that is not understood
+-- what is printed of a line of a listing that is not understood, under the listing's name as it is
+-- shown
 abbrev pub listing_fault : Xlen → List ℕ → Bool → ℕ → List ℕ
-listing_fault xlen name others n = name ++ (codes ":" ++ decimal n ++ listing_reason xlen others)
+listing_fault xlen name others n = shown name
+    ++ (codes ":" ++ decimal n ++ listing_reason xlen others)
 
 -- of a file that should be a listing of registers: nothing where it is one, otherwise its first
 -- line that is not understood
@@ -57,11 +62,13 @@ IsListingLint xlen name bytes true text = ((leaves : Listing) × (listed xlen by
 IsListingLint xlen name bytes false text = (n : ℕ) × IsFirstUnknown xlen bytes n
     × (text ≡ listing_fault xlen name (is_some (listed (other_width xlen) bytes)) n)
 
--- of a file that should be a platform: nothing where it is one
+-- of a file that should be a platform: nothing where it is one, otherwise a line under its name as
+-- it is shown
 abbrev pub IsPlatformLint : List ℕ → List ℕ → Bool → List ℕ → Type 0
 IsPlatformLint name bytes true text = ((platform : PlatformLayout) × IsPlatformFile bytes platform)
     × (text ≡ [])
-IsPlatformLint name bytes false text = IsLintLine name bytes text
+IsPlatformLint name bytes false text = (named : List ℕ) × IsShown name named
+    × IsLintLine named bytes text
 
 -- what is written of the bytes of a file, by whether its name is that of a platform
 abbrev pub IsLint : Bool → List ℕ → List ℕ → Bool → List ℕ → Type 0

@@ -6,6 +6,7 @@ use Rattle.byte_streams.specs.Writings.{IsUnwritten, Writing}
 use Rattle.platforms.specs.Platform.{PlatformLayout}
 use Rattle.command_inputs.specs.declared.trouble.Trouble.{Trouble}
 use Rattle.command_inputs.specs.Inputs.{HasBytes, HasNoBytes, IsUnread, Reading}
+use Rattle.command_inputs.specs.Shown.{IsShown}
 use Rattle.commands.specs.Lint.{Tells}
 use Rattle.command_inputs.specs.PlatformInputs.{HasNoPlatform, HasPlatform}
 use Rattle.file_lints.specs.declared.taker.Taker.{Taker}
@@ -24,11 +25,11 @@ HasNoHarts None source trouble = ⊥
 HasNoHarts (Some file) source trouble = HasNoPlatform file source trouble
 
 -- what is written of the bytes of a file that should be a trace for `run` or `judge`, and whether
--- they are one: nothing where they are
+-- they are one: nothing where they are, and otherwise lines under its name as it is shown
 abbrev pub IsTraceLint : List ℕ → Taker → List ℕ → Bool → List ℕ → Type 0
 IsTraceLint name taker bytes true text = (is_trace taker bytes ≡ true) × (text ≡ [])
 IsTraceLint name taker bytes false text = (is_trace taker bytes ≡ false)
-    × IsLintText name taker bytes text
+    × ((named : List ℕ) × IsShown name named × IsLintText named taker bytes text)
 
 -- `lint --trace`: the platform is read where one is named, then the trace, and what is wrong with
 -- it is printed

@@ -6,7 +6,9 @@ ghost use Rattle.command_inputs.specs.Inputs.{reading};
 ghost use Rattle.commands.specs.Lint.{listing_fault, listing_reason, other_width, names_platform, IsListingLint, IsMapLint, IsPlatformLint, Lints, LintsListing, Tells};
 
 use byte_streams::{DeviceFault, Sink, Source, write_whole};
-use command_inputs::{MAP_BYTES, REGISTER_BYTES, Trouble, answer_status, bytes_in};
+use command_inputs::{
+    MAP_BYTES, REGISTER_BYTES, ShownName, Trouble, answer_status, bytes_in, write_shown,
+};
 use file_lints::lint_platform;
 use map_lint::{LintFault, lint};
 use pmp_encoding::Xlen;
@@ -32,7 +34,8 @@ pub fn lint_map<W: Sink>(
     ensures { Tells (IsMapLint name.now bytes.now)
         (writing W.contents W.failures W.stalls out.old out.new) result }
 {
-    match lint(alloc, name, bytes, out) {
+    let name = ShownName::of(alloc, name)?;
+    match lint(alloc, name.text(), bytes, out) {
         Ok(is_map) => Ok(answer_status(is_map)),
         Err(LintFault::Memory) => Err(Trouble::Memory),
         Err(LintFault::Device) => Err(Trouble::Output),
@@ -49,7 +52,8 @@ pub fn lint_as_platform<W: Sink>(
     ensures { Tells (IsPlatformLint name.now bytes.now)
         (writing W.contents W.failures W.stalls out.old out.new) result }
 {
-    match lint_platform(alloc, name, bytes, out) {
+    let name = ShownName::of(alloc, name)?;
+    match lint_platform(alloc, name.text(), bytes, out) {
         Ok(is_platform) => Ok(answer_status(is_platform)),
         Err(LintFault::Memory) => Err(Trouble::Memory),
         Err(LintFault::Device) => Err(Trouble::Output),
@@ -128,7 +132,7 @@ fn print_listing_fault<W: Sink>(
     ensures { Prints (listing_fault xlen name.now others n)
         (writing W.contents W.failures W.stalls out.old out.new) result }
 {
-    write_whole(out, name.as_bytes())?;
+    write_shown(out, name.as_bytes())?;
     write_whole(out, fault_of_line(xlen, others, n).as_slice())?;
     Ok(())
 }

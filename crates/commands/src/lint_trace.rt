@@ -7,7 +7,7 @@ ghost use Rattle.commands.specs.Lint.{Tells};
 ghost use Rattle.commands.specs.Traces.{HasHarts, HasNoHarts, IsTraceLint, LintsTrace};
 
 use byte_streams::{Sink, Source};
-use command_inputs::{Trouble, answer_status, bytes_in, read_platform};
+use command_inputs::{ShownName, Trouble, answer_status, bytes_in, read_platform};
 use file_lints::{LintFault, Taker, lint_trace};
 use std::alloc::Global;
 
@@ -44,7 +44,8 @@ pub fn lint_as_trace<W: Sink>(
     ensures { Tells (IsTraceLint name.now taker bytes.now)
         (writing W.contents W.failures W.stalls out.old out.new) result }
 {
-    match lint_trace(alloc, name, bytes, taker, out) {
+    let name = ShownName::of(alloc, name)?;
+    match lint_trace(alloc, name.text(), bytes, taker, out) {
         Ok(is_trace) => Ok(answer_status(is_trace)),
         Err(LintFault::Memory) => Err(Trouble::Memory),
         Err(LintFault::Device) => Err(Trouble::Output),

@@ -5,6 +5,7 @@ use Rattle.std.specs.Prelude.{Option, Some, None}
 use Rattle.pmp_encoding.specs.declared.limit.Limit.{Limit}
 use Rattle.pmp_encoding.specs.Limits.{limit_number}
 use Rattle.program_tasks.specs.declared.options.Format.{Format}
+use Rattle.command_inputs.specs.Shown.{shown}
 use Rattle.commands.specs.Plan.{most_entries}
 use Rattle.monitor_cli.specs.declared.needs.Bounds.{Bounds}
 
@@ -22,9 +23,9 @@ abbrev pub words_text : ℕ → ℕ → List ℕ
 words_text n there = codes ": needs " ++ decimal n ++ entries_named n ++ decimal there
     ++ codes " are there: no configuration words\n"
 
--- the hint of a file, which ends so
+-- the hint of a file, under its name as it is shown, which ends so
 abbrev pub need_text : List ℕ → List ℕ → List ℕ
-need_text name end = codes "hint: " ++ (name ++ end)
+need_text name end = codes "hint: " ++ (shown name ++ end)
 
 -- the hint of a map that needs n entries, where configuration words have room for fewer
 abbrev pub words_hint : Option ℕ → List ℕ → ℕ → Option (List ℕ)

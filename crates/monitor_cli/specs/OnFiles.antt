@@ -15,6 +15,7 @@ use Rattle.program_files.specs.declared.reason.Reason.{Reason}
 use Rattle.program_files.specs.Inputs.{remaining_of}
 use Rattle.program_tasks.specs.declared.request.Request.{Request}
 use Rattle.program_tasks.specs.declared.task.Task.{Task}
+use Rattle.program_tasks.specs.Files.{files_of, name_or_none}
 use Rattle.command_inputs.specs.declared.trouble.Trouble.TheVariants as troubles
 use Rattle.command_inputs.specs.ReasonHints.{hint_text}
 use Rattle.command_inputs.specs.Inputs.{reading, Reading}
@@ -22,9 +23,6 @@ use Rattle.commands.specs.CertifiedPlan.{placing, Placing}
 use Rattle.monitor_cli.specs.Hints.{TellsHints}
 use Rattle.program_tasks.specs.Hinted.{may_be_hinted}
 use Rattle.program_tasks.specs.Inputs.{reader_in, reason_in, AreInputs, AreInputsAgain, Input}
-use Rattle.program_tasks.specs.Names.{IsUnderNames}
-use Rattle.program_tasks.specs.Words.{IsTextOf}
-use Rattle.program_tasks.specs.declared.names.ShownNames.{ShownNames}
 use Rattle.monitor_cli.specs.HeldOutput.{IsClosed}
 use Rattle.monitor_cli.specs.Programs.{Ends, Tells}
 
@@ -65,26 +63,26 @@ pub record IsOpened {O : Type 0} (stream : O) (out : Output O) : Type 0 where
   pub fresh : (failed_writes out ≡ 0) × ((writer_of out).reason ≡ None)
 
 -- why the first failed of what a task read first and after that, of its certificate and of its
--- output, under the names that messages show
-abbrev pub IsFirstFailure : ShownNames → Option Reason → Option Reason → Option Reason
+-- output, by their names
+abbrev pub IsFirstFailure : Task → Option Reason → Option Reason → Option Reason
     → Option Reason → Option (Bor (List ℕ) × Reason) → Type 0
-IsFirstFailure names of_first of_second of_cert of_out why =
-    (first second cert out : Bor (List ℕ)) × IsTextOf names.first.items first
-    × IsTextOf names.second.items second × IsTextOf names.cert.items cert
-    × (out.now ≡ codes "standard output")
+IsFirstFailure task of_first of_second of_cert of_out why =
+    (first second cert out : Bor (List ℕ)) × (first ≡ (files_of task).first)
+    × (second.now ≡ name_or_none (files_of task).second)
+    × (cert.now ≡ name_or_none (files_of task).cert) × (out.now ≡ codes "standard output")
     × (why ≡ option_or (option_or (option_or (failure_of first of_first)
     (failure_of second of_second)) (failure_of cert of_cert)) (failure_of out of_out))
 
 -- the hints of a task, on what its places read a second time
 pub record HintsOnFiles (R D : Type 0) {S F E : Type 0} (stdin : S) (source : Input R S F D
-    → Input R S F D → Reading (Input R S F D)) (task : Task) (shown : Request) (err : Writing E) :
+    → Input R S F D → Reading (Input R S F D)) (request : Request) (err : Writing E) :
     Type 0 where
   pub first : Input R S F D
   pub first_end : Input R S F D
   pub second : Input R S F D
   pub second_end : Input R S F D
-  pub inputs : AreInputsAgain stdin task first second
-  pub hints : TellsHints shown (source first first_end) (source second second_end) err
+  pub inputs : AreInputsAgain stdin request.task first second
+  pub hints : TellsHints request (source first first_end) (source second second_end) err
 
 -- what follows the end of a task: where hints are told, those of its inputs, or why a device
 -- failed, and otherwise nothing
@@ -98,16 +96,14 @@ pub data Follows (hints : Bool) (task : Task) (status : ℕ) (quiet hinted why :
   nothing : hints ≡ true → may_be_hinted task status ≡ false → status ≢ 3 → quiet
       → Follows hints task status quiet hinted why
 
--- a task ended on its files with that status. It was done, under the names that messages show, on
--- what its places read and on an output that held nothing yet; then what was held of that was
--- handed on, and then hints were told
+-- a task ended on its files with that status. It was done on what its places read and on an output
+-- that held nothing yet; then what was held of that was handed on, and then hints were told
 pub record EndsOnFiles (R D P : Type 0) {S F O E : Type 0} (stdin : S) (source : Input R S F D
     → Input R S F D → Reading (Input R S F D)) (stdout : O)
     (contents : Explained (RetryInterrupted O) → Option (List ℕ)) (telling : E → E
-    → Writing E) (request : Request) (names : ShownNames) (hints : Bool) (old new : E)
+    → Writing E) (request : Request) (hints : Bool) (old new : E)
     (status : ℕ) : Type 0 where
   -- what it had at its beginning, and what became of it
-  pub shown : Request
   pub first : Input R S F D
   pub first_end : Input R S F D
   pub second : Input R S F D
@@ -122,18 +118,17 @@ pub record EndsOnFiles (R D P : Type 0) {S F O E : Type 0} (stdin : S) (source :
   pub closing : E
   pub ended : ℕ
   pub why : Option (Bor (List ℕ) × Reason)
-  pub named : IsUnderNames names request shown
   pub inputs : AreInputs stdin request.task first second
   pub fresh : (cert.part.failures ≡ 0) × (cert.part.reason ≡ None)
   pub opened : IsOpened stdout out
-  pub ends : Ends shown (source first first_end) (source second second_end)
+  pub ends : Ends request (source first first_end) (source second second_end)
       (certificate_over cert cert_end)
       (writing (contents_of contents) failed_writes stalled_writes out held) (telling old told)
       ended
   pub closed : IsClosed (held_in held) (contents (writer_of held)) (contents stream)
       (closing ≡ told) (Tells (telling told closing) (Err troubles.Output)) ended status
-  pub why_is : IsFirstFailure names (reason_in first_end) (reason_in second_end)
+  pub why_is : IsFirstFailure request.task (reason_in first_end) (reason_in second_end)
       cert_end.part.reason stream.reason why
   pub follows : Follows hints request.task status (new ≡ closing)
-      (HintsOnFiles R D stdin source request.task shown (telling closing new))
+      (HintsOnFiles R D stdin source request (telling closing new))
       (SaysWhy (telling closing new) why)

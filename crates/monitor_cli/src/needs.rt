@@ -4,6 +4,7 @@ ghost use Rattle.std.specs.Prelude.{◌≡◌, ◌≤◌, IfOk, length, option_m
 ghost use Rattle.pmp_encoding.specs.Limits.{limit_number};
 ghost use Rattle.monitor_cli.specs.Needs.{bank_bounds, entries_named, most_text, need_hint, need_text, plan_bounds, table_bounds, words_hint, words_text};
 
+use command_inputs::shown;
 use commands::most_entries;
 use pmp_encoding::Limit;
 use printed_lines::room_from;
@@ -89,13 +90,14 @@ fn words_line(needed: u64, there: u64) -> Line
     line
 }
 
-/// The hint of a file, which ends so.
+/// The hint of a file, under its name as it is shown, which ends so.
 pub(crate) fn need_of(alloc: Global, name: &str, end: &[u8]) -> Result<Vec<u8>, AllocError>
     ensures { IfOk result (λ hint. hint.items ≡ need_text name.now end.now) }
 {
+    let named = shown(alloc, name.as_bytes())?;
     let mut hint = Vec::new(alloc);
     hint.extend_from_slice(b"hint: ")?;
-    hint.extend_from_slice(name.as_bytes())?;
+    hint.extend_from_slice(named.as_slice())?;
     hint.extend_from_slice(end)?;
     Ok(hint)
 }

@@ -11,9 +11,7 @@ use crate::tell_hints;
 use byte_streams::{HeldSink, Sink};
 use command_inputs::print_reason;
 use program_files::{CertificateFile, Explained, Reason, RetryInterrupted};
-use program_tasks::{
-    NO_FILE, Request, ShownNames, Task, cert_of, inputs, inputs_again, may_be_hinted, with_names,
-};
+use program_tasks::{Request, files_of, inputs, inputs_again, may_be_hinted, name_or_none};
 use std::alloc::{AllocError, Global};
 use std::io::{Read, Write};
 use std::rt::Files;
@@ -37,15 +35,14 @@ pub struct Lent<'a, R, S> {
 #[inline(never)]
 fn hint<'a, R: Files, S: Read + Copy, E: Sink>(
     lent: &Lent<'a, R, S>,
-    task: &Task<'a>,
-    shown: &Request<'_>,
+    request: &Request<'a>,
     err: &mut E,
 )
-    ensures { HintsOnFiles R R.Dir lent.now.stdin (input_over R.File.remaining S.remaining) task.now
-        shown.now (writing E.contents E.failures E.stalls err.old err.new) }
+    ensures { HintsOnFiles R R.Dir lent.now.stdin (input_over R.File.remaining S.remaining)
+        request.now (writing E.contents E.failures E.stalls err.old err.new) }
 {
-    let (mut first, mut second) = inputs_again(lent.files, lent.stdin, task);
-    tell_hints(lent.alloc, shown, &mut first, &mut second, err);
+    let (mut first, mut second) = inputs_again(lent.files, lent.stdin, &request.task);
+    tell_hints(lent.alloc, request, &mut first, &mut second, err);
 }
 
 /// What has that name, and why it failed, where it did.
@@ -70,68 +67,64 @@ fn say_why<E: Sink>(failure: Failure<'_>, err: &mut E)
 /// failed.
 fn follow<'a, R: Files, S: Read + Copy, E: Sink>(
     lent: &Lent<'a, R, S>,
-    task: &Task<'a>,
-    shown: &Request<'_>,
+    request: &Request<'a>,
     status: u8,
     hints: bool,
     why: Failure<'_>,
     err: &mut E,
 )
     ensures { let telling = writing E.contents E.failures E.stalls err.old err.new in
-        Follows hints task.now status (err.new ≡ err.old)
-        (HintsOnFiles R R.Dir lent.now.stdin (input_over R.File.remaining S.remaining) task.now
-        shown.now
-        telling)
+        Follows hints request.now.task status (err.new ≡ err.old)
+        (HintsOnFiles R R.Dir lent.now.stdin (input_over R.File.remaining S.remaining)
+        request.now telling)
         (SaysWhy telling why.entry) }
 {
     if !hints {
         return;
     }
-    if may_be_hinted(task, status) {
-        hint(lent, task, shown, err);
+    if may_be_hinted(&request.task, status) {
+        hint(lent, request, err);
     } else if status == DEVICE_FAILED {
         say_why(why, err);
     }
 }
 
-/// Does what is asked for on the files of its task, whose names messages show without control characters, and answers the
-/// program's status. Each file is opened or made at its first read or write. Where hints are told, what is wrong with the inputs
-/// is said behind the trouble, or why a device failed. Nothing is done where memory is refused before.
+/// Does what is asked for on the files of its task, and answers the program's status. Each file is opened or made at its first
+/// read or write. Where hints are told, what is wrong with the inputs is said behind the trouble, or why a device failed. Nothing
+/// is done where memory is refused before.
 pub fn perform_on_files<'a, R: Files, S: Read + Copy, O: Write + Drop, E: Sink>(
     lent: &Lent<'a, R, S>,
     stdout: O,
     err: &mut E,
     request: &Request<'a>,
-    names: &'a ShownNames,
     is_terminal: bool,
 ) -> Result<u8, AllocError>
     ensures ends { IfOk result (EndsOnFiles R R.Dir (Bor R) lent.now.stdin
         (input_over R.File.remaining S.remaining) stdout (λ stream. O.contents stream.inner.inner)
-        (writing E.contents E.failures E.stalls) request.now names.now
+        (writing E.contents E.failures E.stalls) request.now
         (are_told request.now.options.hints is_terminal) err.old err.new) }
     ensures untold { OnErr result (err.new ≡ err.old) }
 {
-    let task = &request.task;
-    let (mut first, mut second) = inputs(lent.files, lent.stdin, task);
-    let cert = cert_of(task).unwrap_or(NO_FILE);
-    let mut cert = CertificateFile::new(lent.files, lent.alloc, cert)?;
+    let (mut first, mut second) = inputs(lent.files, lent.stdin, &request.task);
+    let files = files_of(&request.task);
+    let cert_name = name_or_none(files.cert);
+    let mut cert = CertificateFile::new(lent.files, lent.alloc, cert_name)?;
     let out = Explained::new(RetryInterrupted::new(stdout));
     let out = HeldSink::new(lent.alloc, out)?;
-    let shown = with_names(request, names);
     let (status, out) = perform_and_close(
         lent.alloc,
-        &shown,
+        request,
         &mut first,
         &mut second,
         &mut cert,
         out,
         err,
     );
-    let why = failure(names.first(), first.into_inner().reason())
-        .or(failure(names.second(), second.into_inner().reason()))
-        .or(failure(names.cert(), cert.reason()))
+    let why = failure(files.first, first.into_inner().reason())
+        .or(failure(name_or_none(files.second), second.into_inner().reason()))
+        .or(failure(cert_name, cert.reason()))
         .or(failure("standard output", out.reason()));
     let hints = request.options.hints.are_told(is_terminal);
-    follow(lent, task, &shown, status, hints, why, err);
+    follow(lent, request, status, hints, why, err);
     Ok(status)
 }

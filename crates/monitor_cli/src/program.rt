@@ -15,6 +15,7 @@ use commands::{
     Asked, CertificateSink, Straight, Table, Whole, do_audit, do_check, do_judge_as, do_lint,
     do_lint_listing, do_lint_trace, do_map, do_plan, do_show_as,
 };
+use pmp_encoding::Limit;
 use program_files::WholeSink;
 use program_tasks::{LintKind, Options, Request, Task};
 use std::alloc::Global;
@@ -55,6 +56,48 @@ fn lint_as<'a, R: Source, W: Sink>(
     }
 }
 
+/// What is asked of the plan of a map, with its certificate in that file and for a hart of that limit.
+fn plan_asked<'a>(options: &Options<'a>, cert: Option<&'a str>, limit: Limit) -> Asked<'a>
+    ensures { result ≡ record {
+      cert = cert.entry;
+      limit = limit;
+      at_most = options.now.at_most;
+      format = options.now.format;
+      name = options.now.name;
+      first = options.now.first;
+      xlen = options.now.xlen;
+    } }
+{
+    Asked {
+        cert,
+        limit,
+        at_most: options.at_most,
+        format: options.format,
+        name: options.name,
+        first: options.first,
+        xlen: options.xlen,
+    }
+}
+
+/// What is asked of the table of a map, for a hart of that limit.
+fn table_asked(options: &Options<'_>, limit: Limit) -> Table
+    ensures { result ≡ record {
+      xlen = options.now.xlen;
+      limit = limit;
+      at_most = options.now.at_most;
+      format = options.now.table;
+      costs = options.now.costs;
+    } }
+{
+    Table {
+        xlen: options.xlen,
+        limit,
+        at_most: options.at_most,
+        format: options.table,
+        costs: options.costs,
+    }
+}
+
 /// Does a task's command.
 fn run_task<'a, R: Source, M, C: CertificateSink<M>, W: Sink>(
     alloc: Global,
@@ -71,49 +114,23 @@ fn run_task<'a, R: Source, M, C: CertificateSink<M>, W: Sink>(
         (writing W.contents W.failures W.stalls out.old out.new) result }
 {
     let options = &request.options;
-    let xlen = options.xlen;
+    let (xlen, answers, listed) = (options.xlen, options.answers, options.registers);
     match request.task {
         Task::Run {
             platform,
             trace,
             measure,
-        } => do_run_as(
-            alloc,
-            options.answers,
-            platform,
-            trace,
-            measure,
-            first,
-            second,
-            out,
-        ),
+        } => do_run_as(alloc, answers, platform, trace, measure, first, second, out),
         Task::Plan {
             map,
             cert: file,
             limit,
         } => {
-            let asked = Asked {
-                cert: file,
-                limit,
-                at_most: options.at_most,
-                format: options.format,
-                name: options.name,
-                first: options.first,
-                xlen,
-            };
+            let asked = plan_asked(options, file, limit);
             do_plan::<R, M, C, W>(alloc, map, asked, first, cert, out)
         }
         Task::Judge { map, trace, limit } => do_judge_as(
-            alloc,
-            options.registers,
-            options.answers,
-            map,
-            trace,
-            xlen,
-            limit,
-            first,
-            second,
-            out,
+            alloc, listed, answers, map, trace, xlen, limit, first, second, out,
         ),
         Task::Check { map, cert } => do_check(alloc, map, cert, first, second, out),
         Task::Audit { map, registers } => {
@@ -124,14 +141,8 @@ fn run_task<'a, R: Source, M, C: CertificateSink<M>, W: Sink>(
             lint_as(alloc, options, file, platform, first, second, out)
         }
         Task::Show { map, limit } => {
-            let asked = Table {
-                xlen,
-                limit,
-                at_most: options.at_most,
-                format: options.table,
-                costs: options.costs,
-            };
-            do_show_as(alloc, options.registers, map, asked, first, out)
+            let asked = table_asked(options, limit);
+            do_show_as(alloc, listed, map, asked, first, out)
         }
     }
 }

@@ -1,15 +1,15 @@
 //! The program: the words of its command line, done on real files.
 #![tactic(auto)]
 
-use command_line::{ended, names_of, request_in, standard_error, texts_in, words_in};
+use command_line::{ended, may_be_done, request_in, standard_error, texts_in, words_in};
 use monitor_cli::{Lent, perform_on_files};
-use program_tasks::{Request, ShownNames};
+use program_tasks::Request;
 use std::alloc::AllocError;
 use std::io::IsTerminal;
 use std::process::ExitCode;
 
 /// Does what is asked for on the task's files and on the program's streams, and answers its status.
-fn done(rt: &HostRuntime, request: &Request<'_>, names: &ShownNames) -> Result<u8, AllocError> {
+fn done(rt: &HostRuntime, request: &Request<'_>) -> Result<u8, AllocError> {
     let lent = Lent {
         alloc: rt.alloc(),
         files: rt,
@@ -17,7 +17,7 @@ fn done(rt: &HostRuntime, request: &Request<'_>, names: &ShownNames) -> Result<u
     };
     let mut err = standard_error(rt);
     let is_terminal = rt.stderr().is_terminal();
-    perform_on_files(&lent, rt.stdout(), &mut err, request, names, is_terminal)
+    perform_on_files(&lent, rt.stdout(), &mut err, request, is_terminal)
 }
 
 /// Does what the words of the command line ask for. Where nothing can be done, an error is the status of the end.
@@ -25,8 +25,8 @@ fn perform(rt: &HostRuntime) -> Result<ExitCode, ExitCode> {
     let words = words_in(rt)?;
     let texts = texts_in(rt, words.as_slice())?;
     let request = request_in(rt, texts.as_slice())?;
-    let names = names_of(rt, &request.task)?;
-    Ok(ended(rt, done(rt, &request, &names)))
+    may_be_done(rt, &request.task)?;
+    Ok(ended(rt, done(rt, &request)))
 }
 
 fn main(rt: HostRuntime) -> ExitCode {

@@ -4,7 +4,7 @@ use Rattle.std.specs.Borrow.{Bor}
 use Rattle.pmp_encoding.specs.declared.limit.Limit.{Limit}
 use Rattle.pmp_encoding.specs.declared.xlen.Xlen.{Xlen}
 use Rattle.program_tasks.specs.declared.fault.Fault.{Fault}
-use Rattle.program_tasks.specs.declared.subcommand.Subcommand.TheVariants as subcommands
+use Rattle.program_tasks.specs.declared.task.Subcommand.TheVariants as subcommands
 use Rattle.program_tasks.specs.declared.options.Format.{Format}
 use Rattle.program_tasks.specs.Faults.{Breaks, IsFirst, begins_inside, demands_of}
 use Rattle.program_tasks.specs.Subcommands.{Text}

@@ -2,7 +2,7 @@
 use Rattle.std.proofs.Common.{[], ◌∷◌, ◌≡◌, ◌∙◌, Option, Some, ap, codes, inl, inr, sym}
 use Rattle.program_tasks.specs.declared.fault.Fault.{Fault}
 use Rattle.program_tasks.specs.declared.fault.Fault.TheVariants.{InputTwice}
-use Rattle.program_tasks.specs.declared.subcommand.Subcommand.TheVariants as subcommands
+use Rattle.program_tasks.specs.declared.task.Subcommand.TheVariants as subcommands
 use Rattle.program_tasks.specs.Faults.{Breaks, IsFirst, demands_of, has, names_width}
 use Rattle.program_tasks.specs.Subcommands.{Text}
 use Rattle.program_tasks.specs.Tasks.{input_word}

@@ -2,7 +2,8 @@
 use Rattle.std.proofs.Common.{ℕ, ◌+◌, ◌<◌, List, [], ◌∷◌, ◌++◌, get_or, length, map, subst, sym, take}
 use Rattle.std.proofs.lemmas.List.{map_more}
 use Rattle.std.specs.Borrow.{Bor}
-use Rattle.program_tasks.specs.Words.{AreTextsOf, IsTextOf}
+use Rattle.command_inputs.specs.Shown.{IsTextOf}
+use Rattle.program_tasks.specs.Words.{AreTextsOf}
 
 pushed : (all : List (List ℕ)) (texts : List (Bor (List ℕ))) (bytes : List ℕ) (text : Bor (List ℕ)) → AreTextsOf all texts → IsTextOf bytes text → AreTextsOf (all ++ bytes ∷ []) (texts ++ text ∷ [])
 pushed [] [] bytes text are is = (is, tt)

@@ -9,8 +9,8 @@ use Rattle.program_tasks.specs.declared.fault.Fault.TheVariants as faults
 use Rattle.program_tasks.specs.declared.options.Format.{Format}
 use Rattle.program_tasks.specs.declared.options.TableFormat.{TableFormat}
 use Rattle.program_tasks.specs.declared.hints.Hints.{Hints}
-use Rattle.program_tasks.specs.declared.subcommand.Subcommand.{Subcommand}
-use Rattle.program_tasks.specs.declared.subcommand.Subcommand.TheVariants as subcommands
+use Rattle.program_tasks.specs.declared.task.Subcommand.{Subcommand}
+use Rattle.program_tasks.specs.declared.task.Subcommand.TheVariants as subcommands
 use Rattle.program_tasks.specs.Hints.{hints_word}
 use Rattle.program_tasks.specs.Subcommands.{Text, subcommand_word}
 use Rattle.program_tasks.specs.Tasks.{BeginsAt, Counts, IsGiven, format_word, table_format_word}

@@ -1,8 +1,9 @@
 -- The table of a task's files.
-use Rattle.std.specs.Prelude.{Some, None}
+use Rattle.std.specs.Prelude.{ℕ, List, [], Option, Some, None}
+use Rattle.std.specs.Borrow.{Bor}
 use Rattle.program_tasks.specs.declared.task.Task.{Task}
 use Rattle.program_tasks.specs.declared.task.Task.TheVariants as tasks
-use Rattle.program_tasks.specs.declared.files.TaskFiles.{TaskFiles}
+use Rattle.program_tasks.specs.declared.task.TaskFiles.{TaskFiles}
 
 -- what each task reads first and after that, and the certificate that it writes
 abbrev pub files_of : Task → TaskFiles
@@ -15,3 +16,8 @@ files_of (tasks.Audit map registers) = record { first = map; second = Some regis
 files_of (tasks.Map registers) = record { first = registers; second = None; cert = None }
 files_of (tasks.Lint file platform) = record { first = file; second = platform; cert = None }
 files_of (tasks.Show map limit) = record { first = map; second = None; cert = None }
+
+-- the name of a file, where there is one, and otherwise that of none
+abbrev pub name_or_none : Option (Bor (List ℕ)) → List ℕ
+name_or_none None = []
+name_or_none (Some name) = name.now

@@ -7,6 +7,5 @@ pub mod Tasks
 pub mod Files
 pub mod Hinted
 pub mod Inputs
-pub mod Names
 pub mod Places
 pub mod Words

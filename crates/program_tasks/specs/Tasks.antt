@@ -19,7 +19,7 @@ use Rattle.program_tasks.specs.declared.options.LintKind.TheVariants as kinds
 use Rattle.program_tasks.specs.declared.options.Options.{Options}
 use Rattle.program_tasks.specs.declared.hints.Hints.{Hints}
 use Rattle.program_tasks.specs.declared.request.Request.{Request}
-use Rattle.program_tasks.specs.declared.subcommand.Subcommand.{Subcommand}
+use Rattle.program_tasks.specs.declared.task.Subcommand.{Subcommand}
 use Rattle.program_tasks.specs.declared.task.Task.{Task}
 use Rattle.program_tasks.specs.declared.task.Task.TheVariants.{Run, Plan, Judge, Check, Show, Audit}
 use Rattle.program_tasks.specs.declared.task.Task.TheVariants.{Map, Lint}

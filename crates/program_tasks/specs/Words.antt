@@ -1,8 +1,7 @@
 -- Words of a command line: as texts, and how one that may be no text is shown.
-use Rattle.std.specs.Prelude.{◌≡◌, ℕ, nat_le, ◌&&◌, List, [], ◌∷◌, flat_map, if◌then◌else◌}
+use Rattle.std.specs.Prelude.{ℕ, nat_le, ◌&&◌, List, [], ◌∷◌, flat_map, if◌then◌else◌}
 use Rattle.std.specs.Borrow.{Bor}
-use Rattle.std.specs.Str.{IsUtf8}
-use Rattle.command_inputs.specs.Shown.{escaped}
+use Rattle.command_inputs.specs.Shown.{escaped, IsTextOf}
 
 -- a visible character of ASCII as it is, and any other byte escaped
 abbrev pub quoted_byte : ℕ → List ℕ
@@ -11,10 +10,6 @@ quoted_byte b = if nat_le 32 b && nat_le b 126 then b ∷ [] else escaped b
 -- the bytes of a word, each as it is shown
 abbrev pub quoted : List ℕ → List ℕ
 quoted word = flat_map quoted_byte word
-
--- a text has these bytes, where they are one
-abbrev pub IsTextOf : List ℕ → Bor (List ℕ) → Type 0
-IsTextOf bytes text = IsUtf8 bytes → text.now ≡ bytes
 
 -- each of these texts has the bytes at its place
 abbrev pub AreTextsOf : List (List ℕ) → List (Bor (List ℕ)) → Type 0

@@ -42,6 +42,57 @@ pub enum Fault<'a> {
     TakesPlace(&'a str),
 }
 
+/// What stands after the word that `--entries` does not take.
+const NO_ENTRIES: &str = "' for '--entries <16|64>'\n  [possible values: 16, 64]";
+
+/// After that of `--format`.
+const NO_FORMAT: &str =
+    "' for '--format <text|c|asm|json>'\n  [possible values: text, c, asm, json]";
+
+/// After that of `--format` of a table.
+const NO_TABLE_FORMAT: &str =
+    "' for '--format <text|svg|json>'\n  [possible values: text, svg, json]";
+
+/// After that of `--at-most`.
+const NO_COUNT: &str = "' for '--at-most <N>': no number below 2^64";
+
+/// After that of `--name`.
+const NO_NAME: &str = "' for '--name <NAME>': no C identifier of at most 32 bytes";
+
+/// After that of `--first`.
+const NO_ENTRY: &str = "' for '--first <K>': no number below that of --entries";
+
+/// After that of `--xlen`.
+const NO_WIDTH: &str = "' for '--xlen <32|64>'\n  [possible values: 32, 64]";
+
+/// After that of `--hints`.
+const NO_HINTS: &str =
+    "' for '--hints <auto|always|never>'\n  [possible values: auto, always, never]";
+
+/// What is said of an argument that is missing.
+const MISSING: &str = "a required argument is missing";
+
+/// Of standard input that is named twice.
+const INPUT_TWICE: &str = "standard input, '-', cannot be read twice";
+
+/// Of two kinds of a file.
+const TWO_KINDS: &str = "the argument '--registers' cannot be used with '--trace'";
+
+/// Of two ways to write answers.
+const TWO_ANSWERS: &str = "the argument '--explain' cannot be used with '--expect'";
+
+/// Of a platform without a trace.
+const PLATFORM_ALONE: &str =
+    "the argument '--platform <PLATFORM>' cannot be used without '--trace'";
+
+/// Of another table of registers than the text.
+const NO_PICTURE: &str =
+    "'--format svg' and '--format json' are for a map, and cannot be used with '--registers'";
+
+/// Of costs of what is no text of a map.
+const NO_COSTS: &str =
+    "'--costs' is for the text of a map, and cannot be used with '--registers', '--format svg' or '--format json'";
+
 /// What is said of a value that an option does not take.
 fn value_text(alloc: Global, word: &str, taken: &str) -> Result<String, AllocError>
     ensures { IfOk result (λ text. text.bytes.items ≡ value_text word.now taken.now) }
@@ -55,68 +106,21 @@ impl Fault<'_> {
         ensures { IfOk result (λ text. text.bytes.items ≡ fault_text self.now) }
     {
         match *self {
-            Fault::Missing => String::from_str(alloc, "a required argument is missing"),
-            Fault::Entries(word) => value_text(
-                alloc,
-                word,
-                "' for '--entries <16|64>'\n  [possible values: 16, 64]",
-            ),
-            Fault::Format(word) => value_text(
-                alloc,
-                word,
-                "' for '--format <text|c|asm|json>'\n  [possible values: text, c, asm, json]",
-            ),
-            Fault::TableFormat(word) => value_text(
-                alloc,
-                word,
-                "' for '--format <text|svg|json>'\n  [possible values: text, svg, json]",
-            ),
-            Fault::AtMost(word) => {
-                value_text(alloc, word, "' for '--at-most <N>': no number below 2^64")
-            }
-            Fault::Name(word) => value_text(
-                alloc,
-                word,
-                "' for '--name <NAME>': no C identifier of at most 32 bytes",
-            ),
-            Fault::First(word) => value_text(
-                alloc,
-                word,
-                "' for '--first <K>': no number below that of --entries",
-            ),
-            Fault::Xlen(word) => value_text(
-                alloc,
-                word,
-                "' for '--xlen <32|64>'\n  [possible values: 32, 64]",
-            ),
-            Fault::Hints(word) => value_text(
-                alloc,
-                word,
-                "' for '--hints <auto|always|never>'\n  [possible values: auto, always, never]",
-            ),
-            Fault::InputTwice => {
-                String::from_str(alloc, "standard input, '-', cannot be read twice")
-            }
-            Fault::TwoKinds => String::from_str(
-                alloc,
-                "the argument '--registers' cannot be used with '--trace'",
-            ),
-            Fault::TwoAnswers => String::from_str(
-                alloc,
-                "the argument '--explain' cannot be used with '--expect'",
-            ),
-            Fault::PlatformAlone => String::from_str(
-                alloc,
-                "the argument '--platform <PLATFORM>' cannot be used without '--trace'",
-            ),
-            Fault::NoPicture => String::from_str(
-                alloc,
-                "'--format svg' and '--format json' are for a map, and cannot be used with '--registers'",
-            ),
-            Fault::NoCosts => String::from_str(
-                alloc,
-                "'--costs' is for the text of a map, and cannot be used with '--registers', '--format svg' or '--format json'",
-            ),
+            Fault::Missing => String::from_str(alloc, MISSING),
+            Fault::Entries(word) => value_text(alloc, word, NO_ENTRIES),
+            Fault::Format(word) => value_text(alloc, word, NO_FORMAT),
+            Fault::TableFormat(word) => value_text(alloc, word, NO_TABLE_FORMAT),
+            Fault::AtMost(word) => value_text(alloc, word, NO_COUNT),
+            Fault::Name(word) => value_text(alloc, word, NO_NAME),
+            Fault::First(word) => value_text(alloc, word, NO_ENTRY),
+            Fault::Xlen(word) => value_text(alloc, word, NO_WIDTH),
+            Fault::Hints(word) => value_text(alloc, word, NO_HINTS),
+            Fault::InputTwice => String::from_str(alloc, INPUT_TWICE),
+            Fault::TwoKinds => String::from_str(alloc, TWO_KINDS),
+            Fault::TwoAnswers => String::from_str(alloc, TWO_ANSWERS),
+            Fault::PlatformAlone => String::from_str(alloc, PLATFORM_ALONE),
+            Fault::NoPicture => String::from_str(alloc, NO_PICTURE),
+            Fault::NoCosts => String::from_str(alloc, NO_COSTS),
             Fault::TakesPlace(map) => {
                 format!(in alloc; "the certificate would take the place of the map '{map}'")
             }

@@ -10,45 +10,38 @@
 //! let request = request_of("plan", &values)?;
 //! ```
 //!
-//! The files of a task: where it reads and writes, and under which names messages show them.
+//! The files of a task: where it reads and writes.
 //!
 //! For the layer above: [`files_of`] is the table of the files of each task. [`first_of`], [`second_of`] and [`cert_of`] say what a
-//! task reads and writes, each at its [`Place`], and [`reads_twice`] whether that is standard input twice. [`inputs`] are what reads there. [`ShownNames`] are their names
-//! without control characters, and [`with_names`] is the request under these. [`shown_words`] and [`quoted`] show words of a
-//! command line the same way. [`may_be_hinted`] says after which ends of a task something may be said of its inputs.
+//! task reads and writes, each at its [`Place`], and [`reads_twice`] whether that is standard input twice. [`inputs`] are what
+//! reads there. [`shown_words`] and [`quoted`] show words of a command line without control characters. [`may_be_hinted`] says
+//! after which ends of a task something may be said of its inputs.
 //!
 //! ```rust
-//! let names = ShownNames::of(rt.alloc(), &request.task)?;
-//! let shown = with_names(&request, &names);
+//! let (first, second) = inputs(rt, rt.stdin(), &request.task);
 //! ```
 #![tactic(auto)]
 
 mod arguments;
 mod fault;
-mod files;
 mod given;
 mod hinted;
 mod hints;
-mod names;
 mod options;
 mod places;
 mod request;
-mod subcommand;
 mod task;
 mod task_inputs;
 mod tasks;
 mod words;
 
 pub use fault::Fault;
-pub use files::{TaskFiles, files_of};
 pub use given::Values;
 pub use hinted::may_be_hinted;
 pub use hints::Hints;
-pub use names::{NO_FILE, ShownNames, with_names};
 pub use options::{Answers, Format, LintKind, Options, TableFormat};
 pub use places::{Place, again, cert_of, first_of, reads_twice, second_of};
 pub use request::{Request, request_of};
-pub use subcommand::{SUBCOMMANDS, Subcommand};
-pub use task::Task;
+pub use task::{NO_FILE, SUBCOMMANDS, Subcommand, Task, TaskFiles, files_of, name_or_none};
 pub use task_inputs::{Input, inputs, inputs_again};
 pub use words::{quoted, shown_words, texts_of};

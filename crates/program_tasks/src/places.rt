@@ -4,7 +4,7 @@ ghost use Rattle.std.specs.Prelude.{◌≡◌, ◌↔◌, true};
 ghost use Rattle.program_tasks.specs.Places.{again, cert_of, first_of, place_of, second_of, ReadsTwice};
 
 use crate::Task;
-use crate::files::files_of;
+use crate::task::files_of;
 
 /// The word that standard input stands for.
 const STANDARD_INPUT: &str = "-";

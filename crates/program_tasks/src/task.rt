@@ -1,9 +1,10 @@
-//! What the program is asked to do.
+//! What the program can be asked to do: each task, the subcommand that it is, and its files. A new task stands here first.
 
-ghost use Rattle.std.specs.Prelude.{◌≡◌};
-ghost use Rattle.program_tasks.specs.Subcommands.{subcommand_of};
+ghost use Rattle.std.specs.Prelude.{◌≡◌, ◌≢◌, ◌↔◌, true, IfSome, None};
+ghost use Rattle.program_tasks.specs.declared.task.Subcommand.{Subcommand};
+ghost use Rattle.program_tasks.specs.Files.{files_of, name_or_none};
+ghost use Rattle.program_tasks.specs.Subcommands.{subcommand_of, subcommand_word, usage_words};
 
-use crate::subcommand::Subcommand;
 use pmp_encoding::Limit;
 
 /// One command of the program. The names of files are the words that were given.
@@ -86,5 +87,151 @@ impl Task<'_> {
             Task::Lint { .. } => Subcommand::Lint,
             Task::Show { .. } => Subcommand::Show,
         }
+    }
+}
+
+/// The files of a task, by their names.
+#[derive(Clone, Copy)]
+pub struct TaskFiles<'a> {
+    /// What it reads first.
+    pub first: &'a str,
+    /// What it reads after that, where it does.
+    pub second: Option<&'a str>,
+    /// The certificate that it writes, where it writes one.
+    pub cert: Option<&'a str>,
+}
+
+impl<'a> TaskFiles<'a> {
+    /// One file that is read, and another after that where there is one.
+    fn read(first: &'a str, second: Option<&'a str>) -> TaskFiles<'a>
+        ensures { result ≡ record { first = first.entry; second = second.entry; cert = None } }
+    {
+        TaskFiles {
+            first,
+            second,
+            cert: None,
+        }
+    }
+}
+
+/// The files of a task.
+pub fn files_of<'a>(task: &Task<'a>) -> TaskFiles<'a>
+    ensures { result ≡ files_of task.now }
+{
+    match *task {
+        Task::Run {
+            platform,
+            trace,
+            ..
+        } => TaskFiles::read(platform, Some(trace)),
+        Task::Plan { map, cert, .. } => TaskFiles {
+            first: map,
+            second: None,
+            cert,
+        },
+        Task::Judge { map, trace, .. } => TaskFiles::read(map, Some(trace)),
+        Task::Check { map, cert } => TaskFiles::read(map, Some(cert)),
+        Task::Audit { map, registers } => TaskFiles::read(map, Some(registers)),
+        Task::Map { registers } => TaskFiles::read(registers, None),
+        Task::Lint { file, platform } => TaskFiles::read(file, platform),
+        Task::Show { map, .. } => TaskFiles::read(map, None),
+    }
+}
+
+/// The name of a file that is not read or written.
+pub const NO_FILE: &str = "";
+
+/// The name of a file, where there is one, and otherwise that of none.
+pub fn name_or_none(name: Option<&str>) -> &str
+    ensures { result.now ≡ name_or_none name.entry }
+{
+    name.unwrap_or(NO_FILE)
+}
+
+/// A subcommand of the program.
+#[derive(Clone, Copy)]
+pub enum Subcommand {
+    /// `run`.
+    Run,
+    /// `plan`.
+    Plan,
+    /// `judge`.
+    Judge,
+    /// `check`.
+    Check,
+    /// `show`.
+    Show,
+    /// `audit`.
+    Audit,
+    /// `map`.
+    Map,
+    /// `lint`.
+    Lint,
+}
+
+/// All of them, as the program's help lists them.
+pub const SUBCOMMANDS: [Subcommand; 8] = [
+    Subcommand::Run,
+    Subcommand::Plan,
+    Subcommand::Judge,
+    Subcommand::Check,
+    Subcommand::Show,
+    Subcommand::Audit,
+    Subcommand::Map,
+    Subcommand::Lint,
+];
+
+impl Subcommand {
+    /// The word that names it.
+    pub fn name(self) -> &'static str
+        ensures { result.now ≡ subcommand_word self }
+    {
+        match self {
+            Subcommand::Run => "run",
+            Subcommand::Plan => "plan",
+            Subcommand::Judge => "judge",
+            Subcommand::Check => "check",
+            Subcommand::Show => "show",
+            Subcommand::Audit => "audit",
+            Subcommand::Map => "map",
+            Subcommand::Lint => "lint",
+        }
+    }
+
+    /// The words by which a user enters it, for its usage.
+    pub fn usage_name(self) -> &'static str
+        ensures { result.now ≡ usage_words self }
+    {
+        match self {
+            Subcommand::Run => "pmpmon run",
+            Subcommand::Plan => "pmpmon plan",
+            Subcommand::Judge => "pmpmon judge",
+            Subcommand::Check => "pmpmon check",
+            Subcommand::Show => "pmpmon show",
+            Subcommand::Audit => "pmpmon audit",
+            Subcommand::Map => "pmpmon map",
+            Subcommand::Lint => "pmpmon lint",
+        }
+    }
+
+    /// Whether a word names it.
+    fn is_named(self, word: &str) -> bool
+        ensures { (result ≡ true) ↔ (word.now ≡ subcommand_word self) }
+    {
+        word == self.name()
+    }
+
+    /// The one that a word names.
+    pub fn of(word: &str) -> Option<Subcommand>
+        ensures some { IfSome result (λ subcommand. word.now ≡ subcommand_word subcommand) }
+        ensures none { result ≡ None → (subcommand : Subcommand)
+            → word.now ≢ subcommand_word subcommand }
+    {
+        for subcommand in &SUBCOMMANDS {
+            if subcommand.is_named(word) {
+                return Some(*subcommand);
+            }
+        }
+        None
     }
 }

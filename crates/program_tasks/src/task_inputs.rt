@@ -5,8 +5,8 @@ ghost use Rattle.program_tasks.specs.Inputs.{reader_in, AreInputs, AreInputsAgai
 ghost use Rattle.program_tasks.specs.Places.{IsAt, IsAtAgain};
 
 use crate::Task;
-use crate::names::NO_FILE;
 use crate::places::{Place, again, first_of, second_of};
+use crate::task::NO_FILE;
 use byte_streams::Counted;
 use program_files::{Explained, InputToRead};
 use std::fs;

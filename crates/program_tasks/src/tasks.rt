@@ -13,8 +13,7 @@ use crate::fault::Fault;
 use crate::given::Values;
 use crate::options::{Answers, LintKind, Options, TableFormat};
 use crate::request::Request;
-use crate::subcommand::Subcommand;
-use crate::task::Task;
+use crate::task::{Subcommand, Task};
 
 /// The word that standard input stands for.
 const INPUT: &str = "-";

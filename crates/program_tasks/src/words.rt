@@ -2,11 +2,10 @@
 
 ghost use Rattle.std.specs.Prelude.{◌≡◌, ◌++◌, IfOk, OnOk, map};
 ghost use Rattle.command_inputs.specs.Shown.{shown};
-ghost use Rattle.program_tasks.specs.Words.{quoted, quoted_byte, AreTextsOf, IsTextOf};
+ghost use Rattle.program_tasks.specs.Words.{quoted, quoted_byte, AreTextsOf};
 
-use command_inputs::{push_escaped, shown};
+use command_inputs::{push_escaped, shown, text_of};
 use std::alloc::{AllocError, Global};
-use std::str::from_utf8;
 
 /// The words without control characters.
 pub fn shown_words(alloc: Global, words: &[&str]) -> Result<Vec<Vec<u8>>, AllocError>
@@ -19,13 +18,6 @@ pub fn shown_words(alloc: Global, words: &[&str]) -> Result<Vec<Vec<u8>>, AllocE
         all.push(text)?;
     }
     Ok(all)
-}
-
-/// The text of bytes, where they are one.
-pub(crate) fn text_of(bytes: &[u8]) -> &str
-    ensures { IsTextOf bytes.now result }
-{
-    from_utf8(bytes).unwrap_or("")
 }
 
 /// Words as texts.

@@ -3,7 +3,7 @@
 use byte_streams::Counted;
 use command_line::request_of_words;
 use monitor_cli::{Lent, perform_on_files};
-use program_tasks::{Request, ShownNames};
+use program_tasks::Request;
 use std::alloc::Global;
 use std::process::Abort;
 use std::rt::Files;
@@ -13,7 +13,6 @@ fn done(
     rt: &(impl Abort + Files),
     alloc: Global,
     request: &Request<'_>,
-    names: &ShownNames,
     stdin: &[u8],
 ) -> (u8, Vec<u8>, Vec<u8>) {
     let lent = Lent {
@@ -23,7 +22,7 @@ fn done(
     };
     let mut out = Vec::new(alloc);
     let mut err = Counted::new(Vec::new(alloc));
-    let status = perform_on_files(&lent, &mut out, &mut err, request, names, false);
+    let status = perform_on_files(&lent, &mut out, &mut err, request, false);
     (status.expect(rt, "memory"), out, err.into_inner())
 }
 
@@ -46,8 +45,7 @@ fn ends_on_files(
     wanted: Wanted<'_>,
 ) {
     let request = request_of_words(alloc, words).expect(rt, "a command line");
-    let names = ShownNames::of(alloc, &request.task).expect(rt, "memory");
-    let (status, out, err) = done(rt, alloc, &request, &names, stdin);
+    let (status, out, err) = done(rt, alloc, &request, stdin);
     is_wanted(rt, (status, out.as_slice(), err.as_slice()), wanted)
 }
 

@@ -1,6 +1,8 @@
 use Rattle.std.proofs.Common.{◌≡◌, ℕ, [], Bool, true, false, List, Err, Ok, Option, ap, refl}
 use Rattle.byte_streams.specs.Writings.{writing, TakesAll}
 use Rattle.byte_streams.proofs.Writings.{takes_none}
+use Rattle.std.proofs.lemmas.Result.{err_from_is_err_and}
+use Rattle.command_inputs.specs.Shown.{IsShown}
 use Rattle.platforms.specs.Platform.{PlatformLayout}
 use Rattle.platform_file.specs.Document.{IsPlatformFile}
 use Rattle.file_lints.specs.PlatformLints.{IsLintLine}
@@ -10,26 +12,34 @@ use Rattle.commands.proofs.lint.lint_as_platform.Goals as goal
 
 -- what was written, by the answer
 text :
-    {W : Type 0} (contents : W → Option (List ℕ)) (failures stalls : W → ℕ) (old new : W) (name bytes : List ℕ) (is : Bool)
+    {W : Type 0} (contents : W → Option (List ℕ)) (failures stalls : W → ℕ) (old new : W) (name named bytes : List ℕ) (is : Bool) → IsShown name named
     → (is ≡ true → (platform : PlatformLayout) × IsPlatformFile bytes platform) → (is ≡ true → new ≡ old)
-    → (is ≡ false → (line : List ℕ) × IsLintLine name bytes line × TakesAll line (writing contents failures stalls old new))
+    → (is ≡ false → (line : List ℕ) × IsLintLine named bytes line × TakesAll line (writing contents failures stalls old new))
     → (text : List ℕ) × IsPlatformLint name bytes is text × TakesAll text (writing contents failures stalls old new)
-text contents failures stalls old new name bytes true platform silent written =
+text contents failures stalls old new name named bytes true is platform silent written =
     ([], (platform refl, refl), rw (silent refl) (takes_none contents failures stalls old))
-text contents failures stalls old new name bytes false platform silent written = written refl
+text contents failures stalls old new name named bytes false is platform silent written =
+    let w = written refl in (w.0, (named, is, w.1), w.2)
+
+pub returns-in_err-name : goal.returns-in_err-name
+returns-in_err-name g c =
+    let p = err_from_is_err_and c.from_residual.result c.from_residual.ensures.1 in
+    rw (p.1, p.2) (lints.Tells.no_memory refl)
 
 pub returns-in-Ok : goal.returns-in-Ok
 returns-in-Ok g c =
     let said = c.in-Ok.ensures in
+    let named = rw c.in_ok-name.ensures at c.text.ensures in
     let w =
-    text g.W.Sink.contents g.W.Sink.failures g.W.Sink.stalls c.args.out.now c.lint_platform.new.out c.args.name.now c.args.bytes.now c.in-Ok.is_platform
+    text g.W.Sink.contents g.W.Sink.failures g.W.Sink.stalls c.args.out.now c.lint_platform.new.out c.args.name.now c.text.result.now c.args.bytes.now c.in-Ok.is_platform named
     (λ e. said.platform (ap (λ t. Ok t) e)) (λ e. said.silent (ap (λ t. Ok t) e)) (λ e. said.written (ap (λ t. Ok t) e)) in
     rw c.answer_status.ensures (lints.Tells.whole c.in-Ok.is_platform w.0 w.1 w.2)
 
 pub returns-in-Err-Memory : goal.returns-in-Err-Memory
 returns-in-Err-Memory g c = lints.Tells.no_memory (c.in-Err-Memory.ensures.untouched (ap (λ f. Err f) c.in-Err-Memory.field-0-is))
 
-pub returns-in-Err-Device : goal.returns-in-Err-Device
-returns-in-Err-Device g c =
+pub returns : goal.returns
+returns g c =
     let w = c.in-Err-Device.ensures.broken (ap (λ f. Err f) c.in-Err-Device.field-0-is) in
-    lints.Tells.no_output false w.0 w.1 w.2
+    let named = rw c.in_ok-name.ensures at c.text.ensures in
+    lints.Tells.no_output false w.0 (c.text.result.now, named, w.1) w.2

@@ -1,11 +1,11 @@
 use Rattle.std.proofs.Common.{◌∙◌, ap, refl}
+use Rattle.program_tasks.specs.Files.{name_or_none}
 use Rattle.monitor_cli.proofs.OnFiles.{chosen}
 use Rattle.monitor_cli.proofs.on_files.perform_on_files.Goals as goal
 
 pub returns-clause-ends : goal.returns-clause-ends
 returns-clause-ends g c =
     record {
-      shown = c.with_names-shown.result;
       first = c.inputs-first.result.0;
       first_end = c.perform_and_close-status.new.first;
       second = c.inputs-first.result.1;
@@ -19,7 +19,6 @@ returns-clause-ends g c =
       closing = c.perform_and_close-status.new.err;
       ended = c.perform_and_close-status.ensures.2;
       why = c.or-why.result;
-      named = c.with_names-shown.ensures;
       inputs = c.inputs-first.ensures;
       fresh = (c.in_ok-cert.ensures.failures, c.in_ok-cert.ensures.reason);
       opened = record {
@@ -30,13 +29,13 @@ returns-clause-ends g c =
       ends = c.perform_and_close-status.ensures.3;
       closed = c.perform_and_close-status.ensures.4;
       why_is = (
-        c.first.result,
-        c.second.result,
-        c.cert.result,
         _,
-        c.first.ensures,
-        c.second.ensures,
-        c.cert.ensures,
+        c.name_or_none.result,
+        c.name_or_none-cert_name.result,
+        _,
+        ap (λ it. it.first) c.files_of-files.ensures,
+        c.name_or_none.ensures ∙ ap (λ it. name_or_none it.second) c.files_of-files.ensures,
+        c.name_or_none-cert_name.ensures ∙ ap (λ it. name_or_none it.cert) c.files_of-files.ensures,
         refl,
         chosen
             _ _ _ _ _ _ _ _ _ _ _ _ _ _ _ _ _ _ _ (c.reason.ensures ∙ ap (λ it. it.reason) c.into_inner.ensures) (c.reason-2.ensures ∙ ap (λ it. it.reason) c.into_inner-2.ensures) c.reason-3.ensures

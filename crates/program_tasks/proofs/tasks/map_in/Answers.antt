@@ -1,5 +1,5 @@
 use Rattle.std.proofs.Common.{inr}
-use Rattle.program_tasks.specs.declared.subcommand.Subcommand.TheVariants as subcommands
+use Rattle.program_tasks.specs.declared.task.Subcommand.TheVariants as subcommands
 use Rattle.program_tasks.specs.Faults.{IsFirst, demands_of}
 use Rattle.program_tasks.proofs.Refused.{given}
 use Rattle.program_tasks.proofs.Passed.{handed_on}

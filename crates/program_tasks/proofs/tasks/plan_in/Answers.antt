@@ -1,4 +1,4 @@
-use Rattle.program_tasks.specs.declared.subcommand.Subcommand.TheVariants as subcommands
+use Rattle.program_tasks.specs.declared.task.Subcommand.TheVariants as subcommands
 use Rattle.program_tasks.specs.Faults.{IsFirst, demands_of}
 use Rattle.program_tasks.proofs.Begins.{begins_wrongly}
 use Rattle.program_tasks.proofs.Passed.{handed_on}

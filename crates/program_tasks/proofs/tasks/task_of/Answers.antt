@@ -1,6 +1,6 @@
 use Rattle.std.proofs.Common.{Option, Result, Ok, Err, IfErr, ◌≡◌, subst, sym}
 use Rattle.program_tasks.specs.declared.fault.Fault.{Fault}
-use Rattle.program_tasks.specs.declared.subcommand.Subcommand.{Subcommand}
+use Rattle.program_tasks.specs.declared.task.Subcommand.{Subcommand}
 use Rattle.program_tasks.specs.Faults.{IsFaultOf, IsFirst, demands_of, first}
 use Rattle.program_tasks.specs.Subcommands.{Text, subcommand_word}
 use Rattle.program_tasks.specs.Tasks.{NamesNone}

@@ -1,5 +1,5 @@
 use Rattle.std.proofs.Common.{subst}
-use Rattle.program_tasks.specs.Words.{IsTextOf}
+use Rattle.command_inputs.specs.Shown.{IsTextOf}
 use Rattle.program_tasks.proofs.Texts.{one_more}
 use Rattle.program_tasks.proofs.words.texts_of.Goals as goal
 

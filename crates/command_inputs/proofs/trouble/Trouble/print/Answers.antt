@@ -1,7 +1,7 @@
 use Rattle.command_inputs.proofs.trouble.Trouble.print.Goals as goal
 
 pub returns-in-NotUnderstood : goal.returns-in-NotUnderstood
-returns-in-NotUnderstood g c = rw c.in-NotUnderstood.is (rw c.format-number.ensures.text at c.write_parts.ensures)
+returns-in-NotUnderstood g c = rw c.in-NotUnderstood.is (rw c.format-number.ensures.text at c.write_named.ensures)
 
 pub returns-in-TooLarge : goal.returns-in-TooLarge
 returns-in-TooLarge g c = rw c.in-TooLarge.is c.about-in-TooLarge.ensures

@@ -1,10 +1,10 @@
 use Rattle.std.proofs.Common.{◌≢◌, ◌∙◌, All, [], ◌∷◌, arith, subst, sym, true≢false}
 use Rattle.std.proofs.lemmas.List.{take_all}
 use Rattle.std.proofs.lemmas.List.Elements.{All-more}
-use Rattle.program_tasks.specs.declared.subcommand.Subcommand.{Subcommand}
-use Rattle.program_tasks.specs.declared.subcommand.Subcommand.TheVariants as subcommands
+use Rattle.program_tasks.specs.declared.task.Subcommand.{Subcommand}
+use Rattle.program_tasks.specs.declared.task.Subcommand.TheVariants as subcommands
 use Rattle.program_tasks.specs.Subcommands.{subcommand_word}
-use Rattle.program_tasks.proofs.subcommand.Subcommand.of.Goals as goal
+use Rattle.program_tasks.proofs.task.Subcommand.of.Goals as goal
 
 pub loop-subcommand-preserved : goal.loop-subcommand-preserved
 loop-subcommand-preserved c =

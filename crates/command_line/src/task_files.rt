@@ -1,14 +1,15 @@
-//! Certificates that would take the place of what their task reads or prints.
+//! Tasks whose files get in each other's way: a certificate that would take the place of what its task reads or prints, and
+//! standard input that would be read twice.
 
-ghost use Rattle.std.specs.Prelude.{◌≡◌, ◌≢◌, ◌⊎◌, IfSome, None};
+ghost use Rattle.std.specs.Prelude.{◌≡◌, ◌≢◌, ◌⊎◌, IfErr, IfSome, IsErr, IsOk, None};
 ghost use Rattle.std.specs.Process.{exit_status};
 ghost use Rattle.program_tasks.specs.Tasks.{input_word};
-ghost use Rattle.program_tasks.specs.Places.{cert_of, IsToStandardOutput};
+ghost use Rattle.program_tasks.specs.Places.{cert_of, IsToStandardOutput, ReadsTwice};
 
 use crate::faults::faulted;
 use crate::{no_certificate, takes_place};
 use program_files::{is_same_file, is_same_plain_file};
-use program_tasks::{Task, cert_of, files_of};
+use program_tasks::{Task, cert_of, files_of, reads_twice};
 use std::process::ExitCode;
 
 /// Why a certificate is not written under that name; the list, or what is read, would be lost.
@@ -29,7 +30,7 @@ fn misplaced(rt: &HostRuntime, cert: &str) -> Option<&'static str>
 
 /// Refuses a task whose certificate would take the place of its map, under another name of the same file, or of the file at
 /// standard input or output.
-pub(crate) fn refused(rt: &HostRuntime, task: &Task<'_>) -> Option<ExitCode>
+fn refused(rt: &HostRuntime, task: &Task<'_>) -> Option<ExitCode>
     ensures status { IfSome result (λ code. exit_status code ≡ 2 ⊎ exit_status code ≡ 4) }
     ensures word { IsToStandardOutput (cert_of task.now) → result ≢ None }
     ensures others { cert_of task.now ≡ None → result ≡ None }
@@ -45,4 +46,22 @@ pub(crate) fn refused(rt: &HostRuntime, task: &Task<'_>) -> Option<ExitCode>
         return Some(faulted(rt, takes_place(rt.alloc(), map)));
     }
     None
+}
+
+/// Refuses a task that would read standard input twice, or write its certificate over what it reads or prints: why is reported,
+/// and the status is answered. Any other task may be done.
+pub fn may_be_done(rt: &HostRuntime, task: &Task<'_>) -> Result<(), ExitCode>
+    ensures twice { ReadsTwice task.now → IsErr result }
+    ensures printed { IsToStandardOutput (cert_of task.now) → IsErr result }
+    ensures status { IfErr result (λ code. exit_status code ≡ 2 ⊎ exit_status code ≡ 4) }
+    ensures others { ¬ ReadsTwice task.now → cert_of task.now ≡ None → IsOk result }
+{
+    if reads_twice(task) {
+        let name = task.subcommand().name();
+        return Err(faulted(rt, crate::reads_twice(rt.alloc(), name)));
+    }
+    match refused(rt, task) {
+        Some(code) => Err(code),
+        None => Ok(()),
+    }
 }

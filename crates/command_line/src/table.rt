@@ -1,0 +1,157 @@
+//! The table of the program's subcommands: what help says of each, and its arguments. The command line and its usage are made of
+//! it; the man page and the completions are made of help (`tools/manual`).
+
+ghost use Rattle.std.specs.Prelude.{◌≡◌};
+ghost use Rattle.clap.specs.Words.{new_app};
+ghost use Rattle.program_tasks.specs.Subcommands.{subcommand_word};
+ghost use Rattle.command_line.specs.ClapModel.{app_by, with_arguments};
+
+use crate::arguments::{
+    ALL, AT_MOST, Argument, COSTS, ENTRIES, EXPECT, EXPLAIN, FIRST, FORMAT, HINTS, MEASURE, NAME,
+    PLATFORM, TABLE_FORMAT, TRACE, XLEN,
+};
+use program_tasks::Subcommand;
+
+/// What help says of a subcommand, and its arguments.
+#[derive(Clone, Copy)]
+pub struct Row<'a> {
+    /// What it does.
+    pub about: &'a str,
+    /// What stands after its options.
+    pub more: &'a str,
+    /// Its arguments, in the order in which help lists them.
+    pub arguments: &'a [Argument<'a>],
+}
+
+/// What is said of `--registers` where a map may stand.
+const AS_THEY_STAND: &str = "Read MAP as a listing of registers, which are taken as they stand";
+
+const RUN_ROW: Row<'static> = Row {
+    about: "Boot a platform and run a trace of accesses, calls and interrupts on it",
+    more: "A platform file is TOML: [monitor] and one [[ram]] or more, each with base and size in bytes, whole pages of 4096;\n[[device]] with a perm too; and, above them, harts = 1 to 4 (1) and entries = 16 or 64 (16).\n\nA trace has a line for each event, with M s or u, and SIZE 1, 2, 4 or 8 (for a fetch 2 or 4):\n\n  fetch M SIZE ADDR\n  load M SIZE ADDR\n  store M SIZE ADDR VALUE\n  reg xN VALUE\n  ecall W1 .. Wk         up to 8 words, put in a7, a6, a0 to a5\n  irq                    the timer's interrupt\n\n@H before an event names its hart, from 0. # begins a comment. The monitor's calls are\n\n  ecall 0x08454E43 0 BASE TEXT DATA SHARED_BASE SHARED ENTRY    create (pages; ENTRY is an offset in bytes)\n  ecall 0x08454E43 1 ID     destroy         ecall 0x08454E43 2 ID     run\n  ecall 0x08454E43 3        stop            ecall 0x08454E43 4 ID     resume\n  ecall 0x08454E43 5 VALUE  exit            ecall 0x08454E43 6 ID K   word K of the measurement\n\nEach event N is answered by 'N ok', 'N ok VALUE' (a load), 'N fault CAUSE', 'N call STATUS VALUE WORLD USED' or\n'N irq WORLD USED': WORLD is 0 for the host or an enclave's id, and USED how many PMP entries are loaded.\n\nWith --expect each answer is compared with the one that the comment of its line begins with, as '# 3 fault 5' or\n'# fault 5: why'. Where one differs the first that does is told after the report, with status 1.\n\nWith --explain a comment behind each answer says what happened, which entry decided an access and why a call was refused:\n'5 call -101 0x0000000000000000 1 1 # hart 0, enclave 1: run 1: refused, not the host'.\nA summary of the run comes last, in lines that begin with '# '.\n\nExamples:\n  pmpmon run platform.toml trace.txt --measure\n  pmpmon run platform.toml trace.txt --expect",
+    arguments: &[
+        Argument::File("PLATFORM", "The platform file"),
+        Argument::File("TRACE", "The trace of events"),
+        MEASURE,
+        EXPECT,
+        EXPLAIN,
+        HINTS,
+    ],
+};
+
+const PLAN_ROW: Row<'static> = Row {
+    about: "Print the fewest entries that mean a map, and write their certificate",
+    more: "Prints 'entries N', each entry as 'I 0xCC 0xAAAAAAAAAAAAAAAA' (configuration byte and address register),\nand the configuration words where the entries fit. The certificate shows that no shorter list means the map.\n\nA map file has lines 'BASE SIZE PERM', in bytes: whole pages of 4096 bytes, and one of none, r, rw, x, rx, rwx.\n\nWith --format c, asm or json the same registers are printed as C arrays and a function that loads them, as assembly\nthat loads them, or as one JSON object. --name NAME is what the names in C and assembly begin with.\n\nWith --first K the list stands from entry K on, and the hart needs K entries more. C and assembly leave the entries below K\nas they are. An entry below K that matches comes first: audit of all registers tells whether they mean the map.\n--at-most N counts the entries of the map alone.\n\nWith --xlen 32 the registers are those of RV32, whose words have the bytes of four entries. A map with a byte at or beyond\n2^34 is too far for it, with status 2.\n\nThe registers mean the map where the hart has that width, machine mode writes them on each hart, no entry is locked,\nmseccfg is 0, the hart protects whole pages, and addresses are written first, then words, then comes sfence.vma.\n\nExamples:\n  pmpmon plan map.txt map.pmpc --entries 64\n  pmpmon plan map.txt --format c --name board --first 3",
+    arguments: &[
+        Argument::File("MAP", "The map file"),
+        Argument::MaybeFile("CERT", "The file to write the certificate to"),
+        ENTRIES,
+        AT_MOST,
+        FORMAT,
+        NAME,
+        FIRST,
+        XLEN,
+        HINTS,
+    ],
+};
+
+const JUDGE_ROW: Row<'static> = Row {
+    about: "Load a map's entries, or take registers as they stand, and judge the accesses of a trace by them",
+    more: "A trace has a line for each access, with M s or u, and SIZE 1, 2, 4 or 8 (for a fetch 2 or 4):\n\n  fetch M SIZE ADDR\n  load M SIZE ADDR\n  store M SIZE ADDR VALUE\n\nEach is answered by 'N ok' or 'N fault CAUSE'.\n\nWith --registers MAP is a listing of registers, as audit takes it: OFF, TOR, NA4 and NAPOT, locked or not. --entries says\nnothing then. Registers with reserved values, or beside an mseccfg that is not zero, judge nothing: one line says why,\nwith status 1.\n\nWith --xlen 32 the registers are those of RV32, and a map with a byte at or beyond 2^34 is too far for it, with status 2.\n\nWith --expect each answer is compared with the one that the comment of its line begins with, as '# ok' or '# fault 5: why'.\nWhere one differs the first that does is told after the answers, with status 1.\n\nWith --explain a comment behind each answer says which entry decided it: '1 ok # entry 0: 0x80000000-0x80000fff rwx'.\n\nExamples, with a file trace.txt that holds the line 'load s 8 0x80000ff8':\n  pmpmon judge map.txt trace.txt\n  pmpmon judge --registers board.txt trace.txt",
+    arguments: &[
+        Argument::File(
+            "MAP",
+            "The map file, or with --registers the listing of registers",
+        ),
+        Argument::File("TRACE", "The trace of accesses"),
+        ENTRIES,
+        Argument::Flag("registers", AS_THEY_STAND),
+        EXPECT,
+        EXPLAIN,
+        XLEN,
+        HINTS,
+    ],
+};
+
+const CHECK_ROW: Row<'static> = Row {
+    about: "Check that a certificate proves its entries right and fewest for a map",
+    more: "Prints 'accepted N' (for a plan of --entries 64 'accepted N of 64'), or 'refused CODE NAME' with status 1.\nThe checker trusts neither the planner nor who wrote the certificate.\n\nExample:\n  pmpmon check map.txt map.pmpc",
+    arguments: &[
+        Argument::File("MAP", "The map file"),
+        Argument::File("CERT", "The certificate"),
+        HINTS,
+    ],
+};
+
+const SHOW_ROW: Row<'static> = Row {
+    about: "Print a map, or what registers mean, as a table, each stretch with the entry that decides it",
+    more: "Prints the map as a table: each stretch of bytes with one permission that one entry decides, its size, its\npermission (r, w, x, a hyphen for each that it lacks), the entry, and the entries that it overrides there; then all\nelse; then how many entries the map needs, and whether a hart of --entries has as many.\n\nWith --costs lines as 'without line 3: 22 entries' follow, one for each line of the map that sets something: what it\nneeds without that line. With --format svg the table is a picture, with --format json one object, without costs.\nNone of them can be used with --registers.\n\nWith --registers the file is a listing of registers, as audit takes it, and the table says what they give: OFF, TOR, NA4\nand NAPOT, locked or not. --entries and --at-most say nothing then. Registers with reserved values, or beside an mseccfg\nthat is not zero, have no table: one line says why, with status 1.\n\nWith --xlen 32 the registers are those of RV32, and a map with a byte at or beyond 2^34 is too far for it, with status 2.\n\nExamples:\n  pmpmon show map.txt --entries 64\n  pmpmon show map.txt --format svg > map.svg\n  pmpmon show --registers board.txt",
+    arguments: &[
+        Argument::File(
+            "MAP",
+            "The map file, or with --registers the listing of registers",
+        ),
+        ENTRIES,
+        AT_MOST,
+        Argument::Flag("registers", AS_THEY_STAND),
+        XLEN,
+        TABLE_FORMAT,
+        COSTS,
+        HINTS,
+    ],
+};
+
+const AUDIT_ROW: Row<'static> = Row {
+    about: "Say whether registers mean a map, or where they differ first",
+    more: "REGISTERS is what 'plan' prints, or lines 'pmpaddrN VALUE' and 'pmpcfgK VALUE' in any order; a later line overrides an\nearlier one, and what no line sets is zero.\n\nPrints 'means the map: 5 entries where 3 are enough'; or, with status 1, the first stretch that differs (with --all each),\nwhat the map and the registers say there and which entry says it, or the first pair that no entry has. Lines of other\nregisters are passed over, which a comment says. Where mseccfg is not zero there is no verdict, with status 1.\n\nWith --xlen 32 the registers are those of RV32: pmpcfgK has four entries from 4K on, numbers have 32 bits, and a map with a\nbyte at or beyond 2^34 is too far.\n\nExample:\n  pmpmon audit map.txt registers.txt",
+    arguments: &[
+        Argument::File("MAP", "The map file"),
+        Argument::File("REGISTERS", "The listing of the registers"),
+        ALL,
+        XLEN,
+        HINTS,
+    ],
+};
+
+const MAP_ROW: Row<'static> = Row {
+    about: "Print the map that registers mean, where they mean one by whole pages",
+    more: "REGISTERS is a listing of registers, as audit takes it. Prints a line 'BASE SIZE PERM' for each range of pages that\nsupervisor and user mode may use: a map file, which plan makes the fewest entries of.\n\nStatus 1, and one line that says why, where no map of whole pages is what the registers mean.\n\nWith --xlen 32 the registers are those of RV32, whose space has 2^34 bytes.\n\nExample:\n  pmpmon map board.txt | pmpmon plan -",
+    arguments: &[
+        Argument::File("REGISTERS", "The listing of the registers"),
+        XLEN,
+        HINTS,
+    ],
+};
+
+const LINT_ROW: Row<'static> = Row {
+    about: "Say what is wrong with a file, line by line, and how to fix it",
+    more: "Prints a line for each line of the file that is at fault: 'FILE:LINE:COLUMN:', what is wrong with it, and how to fix\nit; in a map without fault, a warning for each line that can go, all of them together, or a note where the line says what\nholds anyway. A file whose name ends in '.toml' should be a platform: the first thing that it breaks is printed.\n\nWith --registers FILE is a listing of registers, as audit takes it, and nothing is printed where it is understood;\nwith --xlen 32 one of RV32, which says nothing of other files.\nWith --trace it is a trace: of a platform's harts where one is named, and otherwise of four.\n\nStatus 0 where the file is what it should be, with warnings too, and 1 where it is not.\n\nExamples:\n  pmpmon lint map.txt\n  pmpmon lint --trace trace.txt --platform platform.toml",
+    arguments: &[
+        Argument::File(
+            "FILE",
+            "The map file, or the platform file where its name ends in .toml",
+        ),
+        Argument::Flag("registers", "Read FILE as a listing of registers"),
+        TRACE,
+        PLATFORM,
+        XLEN,
+        HINTS,
+    ],
+};
+
+/// The row of a subcommand.
+pub fn row_of<'a>(subcommand: Subcommand) -> Row<'a>
+    ensures { with_arguments (new_app (subcommand_word subcommand)) result.arguments.now
+        ≡ app_by subcommand }
+{
+    match subcommand {
+        Subcommand::Run => RUN_ROW,
+        Subcommand::Plan => PLAN_ROW,
+        Subcommand::Judge => JUDGE_ROW,
+        Subcommand::Check => CHECK_ROW,
+        Subcommand::Show => SHOW_ROW,
+        Subcommand::Audit => AUDIT_ROW,
+        Subcommand::Map => MAP_ROW,
+        Subcommand::Lint => LINT_ROW,
+    }
+}
