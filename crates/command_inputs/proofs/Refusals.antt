@@ -40,7 +40,8 @@ map_fault bytes maps.TooManyRanges unknown many more = many refl
 map_fault bytes maps.Memory unknown many more = more refl
 
 -- the map of a file's bytes is that of the file
-pub has_map : {R E : Type 0} (source : Reading R) (bytes : List ℕ) (result : Result (List Run) E) → HasBytes (2 ^ 20) source bytes → IfOk result (Makes bytes) → IfOk result (HasMap source)
+pub has_map : {R E : Type 0} (source : Reading R) (bytes : List ℕ) (result : Result (List Run) E) → HasBytes (2 ^ 20) source bytes → IfOk result (Makes bytes)
+    → IfOk result (HasMap source)
 has_map source bytes (Ok map) read makes = record { bytes = bytes; read = read; makes = makes }
 has_map source bytes (Err e) read makes = tt
 

@@ -12,16 +12,20 @@ use Rattle.program_tasks.specs.Requests.{HasRequest, IsFaultOfRequest, NamesNoRe
 use Rattle.program_tasks.specs.Subcommands.{word_of}
 use Rattle.command_line.specs.CommandLine.{AreNone, IsFaultIn, IsRequest}
 
-joined : {Z : Type 0} (sub : Option (Box SubCommand Z)) (name : Text) (rows : List Row) → Some name ≡ option_map (λ b. (out-SubCommand (box_value b)).name.now) sub → Some rows ≡ option_map (λ p. p.1) (subcommand_rows sub) → subcommand_rows sub ≡ Some (name, rows)
+joined : {Z : Type 0} (sub : Option (Box SubCommand Z)) (name : Text) (rows : List Row)
+    → Some name ≡ option_map (λ b. (out-SubCommand (box_value b)).name.now) sub → Some rows ≡ option_map (λ p. p.1) (subcommand_rows sub)
+    → subcommand_rows sub ≡ Some (name, rows)
 joined None name rows p q = cc
 joined (Some b) name rows p q = cc
 
-pub entered : (m : ArgMatches) (name : Text) (rows : List Row) → Some name ≡ subcommand_name_of m → Some rows ≡ option_map (λ p. p.1) (subcommand_rows (out-ArgMatches m).subcommand) → subcommand_rows_of m ≡ Some (name, rows)
+pub entered : (m : ArgMatches) (name : Text) (rows : List Row) → Some name ≡ subcommand_name_of m
+    → Some rows ≡ option_map (λ p. p.1) (subcommand_rows (out-ArgMatches m).subcommand) → subcommand_rows_of m ≡ Some (name, rows)
 entered m name rows p q = joined (out-ArgMatches m).subcommand name rows p q
 
 pub with_rows :
     {E : Type 0} (result : Result Request E) (found : Option (Text × List Row)) (name : Text) (rows : List Row) → found ≡ Some (name, rows)
-    → IfOk result (λ request. word_of request.task ≡ name) → IfOk result (HasRequest (λ id. first_of id rows) (λ id. one_of id rows)) → IfOk result (IsRequest found)
+    → IfOk result (λ request. word_of request.task ≡ name) → IfOk result (HasRequest (λ id. first_of id rows) (λ id. one_of id rows))
+    → IfOk result (IsRequest found)
 with_rows (Ok request) found name rows e word values = (rows, rw (sym word) at e, values)
 with_rows (Err error) found name rows e word values = tt
 
@@ -30,10 +34,12 @@ pub fault_with_rows :
     → IfErr result (IsFaultOfRequest name (λ id. first_of id rows) (λ id. one_of id rows)) → IfErr result (IsFaultIn found)
 fault_with_rows result found name rows e is = subst (λ it. IfErr result (IsFaultIn it)) (sym e) is
 
-same_name : (found : Option (Text × List Row)) (name word : Text) (rows others : List Row) → found ≡ Some (name, rows) → found ≡ Some (word, others) → word ≡ name
+same_name : (found : Option (Text × List Row)) (name word : Text) (rows others : List Row) → found ≡ Some (name, rows) → found ≡ Some (word, others)
+    → word ≡ name
 same_name found name word rows others e f = ap (λ o. option_map_or (λ p. p.0) o name) (sym f ∙ e)
 
-same_rows : (found : Option (Text × List Row)) (name word : Text) (rows others : List Row) → found ≡ Some (name, rows) → found ≡ Some (word, others) → others ≡ rows
+same_rows : (found : Option (Text × List Row)) (name word : Text) (rows others : List Row) → found ≡ Some (name, rows) → found ≡ Some (word, others)
+    → others ≡ rows
 same_rows found name word rows others e f = ap (λ o. option_map_or (λ p. p.1) o rows) (sym f ∙ e)
 
 pub none_with_rows :

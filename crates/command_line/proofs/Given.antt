@@ -13,7 +13,8 @@ same t u e = cc
 other : {P : Type 0} (t : Text) → t ≡ codes "false" → Some t ≡ Some (codes "true") → P
 other t e f = cc
 
-pub read : (E : Type 0) (text : Option Text) (flag : Option Bool) → (text ≡ None → flag ≡ None) → ((t : Text) → text ≡ Some t → ReadsOne {T = Bool} {E = E} ParsesBool t flag) → (unwrap_or flag false ≡ true) ↔ (text ≡ Some (codes "true"))
+pub read : (E : Type 0) (text : Option Text) (flag : Option Bool) → (text ≡ None → flag ≡ None)
+    → ((t : Text) → text ≡ Some t → ReadsOne {T = Bool} {E = E} ParsesBool t flag) → (unwrap_or flag false ≡ true) ↔ (text ≡ Some (codes "true"))
 read E None None none value = (λ e. absurd (true≢false (sym e)), λ e. cc)
 read E None (Some b) none value = (λ e. apart b (none refl), λ e. cc)
 read E (Some t) (Some true) none value = (λ e. ap (λ x. Some x) (value t refl), λ e. refl)

@@ -41,4 +41,16 @@ nothing_found name (shape ∷ shapes) none = rw none.0 (nothing_found name shape
 -- a word that is none of a subcommand finds none
 pub not_named : (name : Text) → ((subcommand : Subcommand) → name ≢ subcommand_word subcommand) → app_named name ≡ program_app
 not_named name other =
-    ap app_alone (nothing_found name program_app.subs (differs name _ (other Run), (differs name _ (other Plan), (differs name _ (other Judge), (differs name _ (other Check), (differs name _ (other Show), (differs name _ (other Audit), (differs name _ (other Map), (differs name _ (other Lint), tt)))))))))
+    ap app_alone (nothing_found name program_app.subs (
+      differs name _ (other Run),
+      (
+        differs name _ (other Plan),
+        (
+          differs name _ (other Judge),
+          (
+            differs name _ (other Check),
+            (differs name _ (other Show), (differs name _ (other Audit), (differs name _ (other Map), (differs name _ (other Lint), tt)))),
+          ),
+        ),
+      ),
+    ))

@@ -20,19 +20,22 @@ pub no_kind : (app : App) (words : List Text) → app ≡ program_app → (is_si
 no_kind app words e h = subst (λ a. is_simple_and_free a ≡ true → fault_of a words ≡ []) e h program_told
 
 pub some_kind :
-    (app : App) (words : List Text) (kind : ErrorKind) → app ≡ program_app → (is_simple_and_free app ≡ true → (kind ≡ OutOfMemory) ⊎ IsAmong kind (fault_of app words))
+    (app : App) (words : List Text) (kind : ErrorKind) → app ≡ program_app
+    → (is_simple_and_free app ≡ true → (kind ≡ OutOfMemory) ⊎ IsAmong kind (fault_of app words))
     → Refuses words kind
 some_kind app words kind e h =
     let told = subst (λ a. is_simple_and_free a ≡ true → (kind ≡ OutOfMemory) ⊎ IsAmong kind (fault_of a words)) e h program_told in
     ⊎_elim (λ m. inl m) (λ k. inr (inl k)) told
 
 pub some_request :
-    (app : App) (words : List Text) (m : ArgMatches) (request : Request) → app ≡ program_app → HasMatchesOf app words m → IsRequest (subcommand_rows_of m) request
+    (app : App) (words : List Text) (m : ArgMatches) (request : Request) → app ≡ program_app → HasMatchesOf app words m
+    → IsRequest (subcommand_rows_of m) request
     → IsRequest (subcommand_of program_app words) request
 some_request app words m request e h is = subst (λ found. IsRequest found request) (subst (λ a. HasMatchesOf a words m) e h program_simple).1 is
 
 pub no_request :
-    (app : App) (words : List Text) (m : ArgMatches) (kind : ErrorKind) (fault : Fault) → app ≡ program_app → HasMatchesOf app words m → AreNone (subcommand_rows_of m)
+    (app : App) (words : List Text) (m : ArgMatches) (kind : ErrorKind) (fault : Fault) → app ≡ program_app → HasMatchesOf app words m
+    → AreNone (subcommand_rows_of m)
     → IsFaultIn (subcommand_rows_of m) fault → kind ≡ fault_kind fault → Refuses words kind
 no_request app words m kind fault e h none first told =
     let same = (subst (λ a. HasMatchesOf a words m) e h program_simple).1 in

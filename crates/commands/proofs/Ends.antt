@@ -16,7 +16,8 @@ use Rattle.commands.specs.Plan.{most_entries}
 use Rattle.commands.specs.Stops.{Stops}
 
 pub stops :
-    {S : Type 0} (does : Meaning S) (refuses : S → List ℕ → Type 0) (starves : S → List ℕ → S → Type 0) (old new : S) (before after held holds : Option (List ℕ)) (fault : RunFault)
+    {S : Type 0} (does : Meaning S) (refuses : S → List ℕ → Type 0) (starves : S → List ℕ → S → Type 0) (old new : S)
+    (before after held holds : Option (List ℕ)) (fault : RunFault)
     → ((n : ℕ) → fault ≡ runs.Line n → StopsAt n does refuses old new before after held holds)
     → (fault ≡ runs.TooLong → StopsTooLong does old new before after held holds)
     → (fault ≡ runs.Read → StopsReading does old new before after held holds)
@@ -31,7 +32,8 @@ stops does refuses starves old new before after held holds runs.Memory line long
 
 -- no plan, where there is none within the bound
 pub unplanned :
-    {C X : Type 0} (view : View) (xlen : Xlen) (limit : Limit) (most : Option ℕ) (map : Bor (List ℕ)) (file : Option (Bor (List ℕ))) (cert : Placing C) (result : Result X Trouble) → IsUntouched cert
+    {C X : Type 0} (view : View) (xlen : Xlen) (limit : Limit) (most : Option ℕ) (map : Bor (List ℕ)) (file : Option (Bor (List ℕ))) (cert : Placing C)
+    (result : Result X Trouble) → IsUntouched cert
     → IfErr result (λ trouble. (trouble ≡ Memory) ⊎ (NeedsMore view most trouble ⊎ IsTooFar view xlen most map trouble))
     → IfErr result (λ trouble. IsUnplanned view xlen limit most map file cert trouble)
 unplanned view xlen limit most map file cert (Ok x) quiet refused = tt
@@ -44,6 +46,7 @@ pub fits_c : (limit : Limit) (first : ℕ) (at_most : Option ℕ) (n : ℕ) → 
 fits_c limit first None n h = h
 fits_c limit first (Some most) n h = omega (arith, h)
 
-pub fits_asm : (limit : Limit) (first : ℕ) (at_most : Option ℕ) (n : ℕ) → IsWithin (most_entries limit first at_most formats.Asm) n → n ≤ limit_number limit - first
+pub fits_asm : (limit : Limit) (first : ℕ) (at_most : Option ℕ) (n : ℕ) → IsWithin (most_entries limit first at_most formats.Asm) n
+    → n ≤ limit_number limit - first
 fits_asm limit first None n h = h
 fits_asm limit first (Some most) n h = omega (arith, h)

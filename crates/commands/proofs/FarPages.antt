@@ -1,5 +1,6 @@
 -- A plan reaches too far where a page does.
-use Rattle.std.proofs.Common.{◌≡◌, ◌≢◌, ℕ, zero, suc, ◌+◌, ◌-◌, ◌*◌, ◌^◌, ◌<◌, ◌≤◌, ◌⊎◌, inl, inr, ⊎_elim, List, [], ◌∷◌, Bool, true, nat_le, All, Option, refl, sym, subst, ◌∙◌, arith}
+use Rattle.std.proofs.Common.{◌≡◌, ◌≢◌, ℕ, zero, suc, ◌+◌, ◌-◌, ◌*◌, ◌^◌, ◌<◌, ◌≤◌, ◌⊎◌, inl, inr, ⊎_elim, List, [], ◌∷◌, Bool, true, nat_le, All, Option, refl}
+use Rattle.std.proofs.Common.{sym, subst, ◌∙◌, arith}
 use Rattle.std.specs.Borrow.{Bor}
 use Rattle.std.specs.List.{AllByRecursion, list_all}
 use Rattle.std.proofs.lemmas.Bool.{cases_lt, and_from, and_parts, le-leb, leb-true}
@@ -50,7 +51,8 @@ look view first (suc n) =
     (λ here.
     inl
     (λ page from to.
-    ⊎_elim (λ low. none page from low) (λ high. (let same : first + n ≡ page = omega arith in subst (λ (x : ℕ). view x ≡ NoAccess) same here)) (cases_lt page (first + n))))
+    ⊎_elim (λ low. none page from low) (λ high. (let same : first + n ≡ page = omega arith in subst (λ (x : ℕ). view x ≡ NoAccess) same here))
+    (cases_lt page (first + n))))
     (λ some. inr (first + n, omega arith, omega arith, some))
     (is_none (view (first + n))))
     (λ found. inr (found.0, found.1, omega (arith, found.2), found.3))
@@ -67,13 +69,16 @@ narrow view most entries planned far =
     (λ found. (found.0, omega (arith, found.1), omega (arith, found.2), found.3))
     (look view (2 ^ 22) (2 ^ 44 - 2 ^ 22))
 
-pub page_beyond : (view : View) (xlen : Xlen) (most : Option ℕ) (entries : List Entry) → IsPlanned view most entries → (AreReached xlen entries → ⊥) → HasPageBeyond xlen view
+pub page_beyond : (view : View) (xlen : Xlen) (most : Option ℕ) (entries : List Entry) → IsPlanned view most entries → (AreReached xlen entries → ⊥)
+    → HasPageBeyond xlen view
 page_beyond view Rv32 most entries planned far = narrow view most entries planned far
 page_beyond view Rv64 most entries planned far = absurd (far tt)
 
-pub is_beyond : (view : View) (xlen : Xlen) (most : Option ℕ) (entries : List Entry) → IsPlanned view most entries → HasPageBeyond xlen view → AreReached xlen entries → ⊥
+pub is_beyond : (view : View) (xlen : Xlen) (most : Option ℕ) (entries : List Entry) → IsPlanned view most entries → HasPageBeyond xlen view
+    → AreReached xlen entries → ⊥
 is_beyond view Rv32 most entries planned page near =
-    page.3 (none_behind view entries 22 planned.fewest.means (All-from_recursion (EndsWithin 22) entries (near_all entries near)) page.0 (omega (arith, page.1)) page.2)
+    page.3 (none_behind view entries 22 planned.fewest.means (All-from_recursion (EndsWithin 22) entries (near_all entries near)) page.0
+    (omega (arith, page.1)) page.2)
 is_beyond view Rv64 most entries planned page near = omega (arith, page.1, page.2)
 
 pub too_far :

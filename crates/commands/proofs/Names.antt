@@ -1,7 +1,9 @@
 -- A refusal's name fits in a line.
 use Rattle.std.proofs.Common.{◌≤◌, length, arith}
 use Rattle.certificate_check.specs.declared.refusal.CheckRefusal.{CheckRefusal}
-use Rattle.certificate_check.specs.declared.refusal.CheckRefusal.TheVariants.{BadMagic, BadVersion, Truncated, BadTag, BadPerm, BadEntry, SubPageEntry, TooDeep, LeafNotUniform, WrongLeaf, CostTooHigh, CostOverflow, EntriesTooMany, WrongMeaning, Trailing, BadLimit}
+use Rattle.certificate_check.specs.declared.refusal.CheckRefusal.TheVariants.{BadMagic, BadVersion, Truncated, BadTag, BadPerm, BadEntry, SubPageEntry, TooDeep}
+use Rattle.certificate_check.specs.declared.refusal.CheckRefusal.TheVariants.{LeafNotUniform, WrongLeaf, CostTooHigh, CostOverflow, EntriesTooMany}
+use Rattle.certificate_check.specs.declared.refusal.CheckRefusal.TheVariants.{WrongMeaning, Trailing, BadLimit}
 use Rattle.certificate_check.specs.Refusals.{refusal_name}
 
 pub name_fits : (refusal : CheckRefusal) → length (refusal_name refusal) ≤ 32

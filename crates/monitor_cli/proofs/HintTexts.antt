@@ -13,7 +13,8 @@ use Rattle.commands.specs.Lint as lints
 use Rattle.monitor_cli.specs.Hints.{AreHints, AreRunHints, HasTaskHints, InOrder, TellsHints, boot_hint, cut, hints_in, of_boot, of_second, told}
 use Rattle.platform_file.specs.Document.{IsPlatformFile}
 
-pub wrong : (IsText : Bool → List ℕ → Type 0) (status : ℕ) (is : Bool) (text : List ℕ) → status ≡ answer_status is → IsText is text → status ≢ 0 → AreHints IsText (Some (hints_in text))
+pub wrong : (IsText : Bool → List ℕ → Type 0) (status : ℕ) (is : Bool) (text : List ℕ) → status ≡ answer_status is → IsText is text → status ≢ 0
+    → AreHints IsText (Some (hints_in text))
 wrong IsText status true text e said other = absurd (other e)
 wrong IsText status false text e said other = (text, said, refl)
 
@@ -30,14 +31,16 @@ held IsText out done status text (lints.Tells.no_output is said is_text breaks) 
 
 -- the hints of the second of two inputs, where the first has none
 pub in_second :
-    {R X E : Type 0} (First Second : Option (List ℕ) → Type 0) (second : Reading R) (text : Option X → Option (List ℕ)) (result : Result (Option X) E) → First None
+    {R X E : Type 0} (First Second : Option (List ℕ) → Type 0) (second : Reading R) (text : Option X → Option (List ℕ)) (result : Result (Option X) E)
+    → First None
     → IfOk result (λ hints. Second (text hints)) → IfOk result (λ hints. InOrder First Second second (text hints))
 in_second First Second second text (Ok hints) none has = of_second (text hints) none has
 in_second First Second second text (Err fault) none has = tt
 
 -- hints that are one thing are another
 pub carried :
-    {X E : Type 0} (P Q : Option (List ℕ) → Type 0) (text : Option X → Option (List ℕ)) (result : Result (Option X) E) → ((hints : Option (List ℕ)) → P hints → Q hints)
+    {X E : Type 0} (P Q : Option (List ℕ) → Type 0) (text : Option X → Option (List ℕ)) (result : Result (Option X) E)
+    → ((hints : Option (List ℕ)) → P hints → Q hints)
     → IfOk result (λ hints. P (text hints)) → IfOk result (λ hints. Q (text hints))
 carried P Q text (Ok hints) f has = f (text hints) has
 carried P Q text (Err fault) f has = tt
@@ -45,7 +48,8 @@ carried P Q text (Err fault) f has = tt
 -- the hint of a platform that does not boot
 pub of_need :
     {R : Type 0} (file bytes name hint : List ℕ) (second : Reading R) (platform : PlatformLayout) → IsPlatformFile bytes platform
-    → ((n : ℕ) × IsBootFault platform (NeedsMoreEntries n) × (hint ≡ boot_hint file platform n)) → IsUnread second → AreRunHints file bytes name second (Some hint)
+    → ((n : ℕ) × IsBootFault platform (NeedsMoreEntries n) × (hint ≡ boot_hint file platform n)) → IsUnread second
+    → AreRunHints file bytes name second (Some hint)
 of_need file bytes name hint second platform is needs unread =
     subst (λ said. AreRunHints file bytes name second (Some said)) (sym needs.2) (of_boot platform needs.0 is needs.1 unread)
 
@@ -58,7 +62,8 @@ told_by request first second err hints (Err y) has broken = cut hints has broken
 
 -- hints of one input, where the other is not read
 pub and_unread :
-    {X E Q : Type 0} (Hints : Option (List ℕ) → Type 0) (text : Option X → Option (List ℕ)) (result : Result (Option X) E) → IfOk result (λ hints. Hints (text hints)) → Q
+    {X E Q : Type 0} (Hints : Option (List ℕ) → Type 0) (text : Option X → Option (List ℕ)) (result : Result (Option X) E)
+    → IfOk result (λ hints. Hints (text hints)) → Q
     → IfOk result (λ hints. Hints (text hints) × Q)
 and_unread Hints text (Ok hints) has unread = (has, unread)
 and_unread Hints text (Err fault) has unread = tt

@@ -14,8 +14,10 @@ says err name reason (Err y) broken = cut name reason broken
 
 -- the first of four failures, by what each is
 pub chosen :
-    (first second cert out : Bor (List ℕ)) (of_first of_second of_cert of_out r₁ r₂ r₃ r₄ : Option Reason) (f₁ f₂ f₃ f₄ a b why : Option (Bor (List ℕ) × Reason))
-    → r₁ ≡ of_first → r₂ ≡ of_second → r₃ ≡ of_cert → r₄ ≡ of_out → f₁ ≡ failure_of first r₁ → f₂ ≡ failure_of second r₂ → f₃ ≡ failure_of cert r₃ → f₄ ≡ failure_of out r₄
+    (first second cert out : Bor (List ℕ)) (of_first of_second of_cert of_out r₁ r₂ r₃ r₄ : Option Reason)
+    (f₁ f₂ f₃ f₄ a b why : Option (Bor (List ℕ) × Reason))
+    → r₁ ≡ of_first → r₂ ≡ of_second → r₃ ≡ of_cert → r₄ ≡ of_out → f₁ ≡ failure_of first r₁ → f₂ ≡ failure_of second r₂ → f₃ ≡ failure_of cert r₃
+    → f₄ ≡ failure_of out r₄
     → a ≡ option_or f₁ f₂ → b ≡ option_or a f₃ → why ≡ option_or b f₄
     → why ≡ option_or (option_or (option_or (failure_of first of_first) (failure_of second of_second)) (failure_of cert of_cert)) (failure_of out of_out)
 chosen first second cert out of_first of_second of_cert of_out r₁ r₂ r₃ r₄ f₁ f₂ f₃ f₄ a b why s₁ s₂ s₃ s₄ t₁ t₂ t₃ t₄ u v w =

@@ -19,7 +19,8 @@ unmeasured false machine held e = refl
 unmeasured true machine held e = cc
 
 pub measured :
-    (measure : Bool) (machine : Machine) (before after : Option (List ℕ)) → measure ≡ true → (text : List ℕ) × AreMeasures (kept_of machine).table 64 text × Appends before after text
+    (measure : Bool) (machine : Machine) (before after : Option (List ℕ)) → measure ≡ true
+    → (text : List ℕ) × AreMeasures (kept_of machine).table 64 text × Appends before after text
     → IsMeasured measure machine before after
 measured true machine before after e written = written
 measured false machine before after e written = cc

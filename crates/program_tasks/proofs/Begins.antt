@@ -16,9 +16,11 @@ another_file mine other map e differs same = differs (sym e ∙ same)
 
 -- the fault of the last demand of `plan`, where the values meet the others
 pub begins_wrongly :
-    (value flag : Text → Option Text) (map : Text) (cert : Option (Bor Text)) (limit : Limit) (at_most : Option ℕ) (format : Format) (xlen : Xlen) (name : Option (Bor Text)) (fault : Fault)
+    (value flag : Text → Option Text) (map : Text) (cert : Option (Bor Text)) (limit : Limit) (at_most : Option ℕ) (format : Format) (xlen : Xlen)
+    (name : Option (Bor Text)) (fault : Fault)
     → value (codes "MAP") ≡ Some map → value (codes "CERT") ≡ option_map (λ s. s.now) cert → option_map (λ s. s.now) cert ≢ Some map
-    → value (codes "entries") ≡ Some (limit_word limit) → Counts (value (codes "at-most")) at_most → value (codes "format") ≡ Some (format_word format) → value (codes "xlen") ≡ Some (width_word xlen)
+    → value (codes "entries") ≡ Some (limit_word limit) → Counts (value (codes "at-most")) at_most → value (codes "format") ≡ Some (format_word format)
+    → value (codes "xlen") ≡ Some (width_word xlen)
     → value (codes "name") ≡ option_map (λ s. s.now) name → IfSome name (λ s. is_identifier s.now ≡ true)
     → Breaks value flag begins_inside fault → IsFirst value flag (demands_of subcommands.Plan) fault
 begins_wrongly value flag map cert limit at_most format xlen name fault m c other l a f w n well broken =

@@ -1,5 +1,6 @@
 -- The first demand that values lack leaves no sound task.
-use Rattle.std.proofs.Common.{[], ◌∷◌, ◌≡◌, ◌≢◌, ◌∙◌, List, Option, Some, None, Bool, true, false, IfSome, ap, codes, find, inl, inr, option_map, refl, subst, sym, true≢false}
+use Rattle.std.proofs.Common.{[], ◌∷◌, ◌≡◌, ◌≢◌, ◌∙◌, List, Option, Some, None, Bool, true, false, IfSome, ap, codes, find, inl, inr, option_map, refl, subst}
+use Rattle.std.proofs.Common.{sym, true≢false}
 use Rattle.std.specs.Borrow.{Bor}
 use Rattle.std.specs.Str.{bytes_eq}
 use Rattle.program_tasks.specs.declared.fault.Fault.{Fault}
@@ -37,7 +38,9 @@ met_all value flag (demand ∷ demands) fault met first = elim first [
 
 -- the subcommand that a word names
 of_word : Text → Option Subcommand
-of_word word = find (λ subcommand. bytes_eq word (subcommand_word subcommand)) (subcommands.Run ∷ subcommands.Plan ∷ subcommands.Judge ∷ subcommands.Check ∷ subcommands.Show ∷ subcommands.Audit ∷ subcommands.Map ∷ subcommands.Lint ∷ [])
+of_word word = find (λ subcommand. bytes_eq word (subcommand_word subcommand))
+    (subcommands.Run ∷ subcommands.Plan ∷ subcommands.Judge ∷ subcommands.Check ∷ subcommands.Show ∷ subcommands.Audit ∷ subcommands.Map ∷ subcommands.Lint ∷
+    [])
 
 known : (subcommand : Subcommand) → of_word (subcommand_word subcommand) ≡ Some subcommand
 unfolding of_word
@@ -56,22 +59,26 @@ one_subcommand a b e = cc
 same_subcommand : (a b : Subcommand) → subcommand_word a ≡ subcommand_word b → a ≡ b
 same_subcommand a b e = one_subcommand a b (sym (known a) ∙ ap of_word e ∙ known b)
 
-one_answer_met : (flag : Text → Option Text) (answers : Answers) → HasAnswers flag answers → IsGiven (flag (codes "expect")) × IsGiven (flag (codes "explain")) → ⊥
+one_answer_met : (flag : Text → Option Text) (answers : Answers) → HasAnswers flag answers → IsGiven (flag (codes "expect")) × IsGiven (flag (codes "explain"))
+    → ⊥
 one_answer_met flag answered.Plain has both = has.0 both.0
 one_answer_met flag answered.Explained has both = has.0 both.0
 one_answer_met flag answered.Compared has both = has.1 both.1
 
-one_kind_met : (value flag : Text → Option Text) (kind : LintKind) → HasKind value flag kind → IsGiven (flag (codes "registers")) × IsGiven (flag (codes "trace")) → ⊥
+one_kind_met : (value flag : Text → Option Text) (kind : LintKind) → HasKind value flag kind
+    → IsGiven (flag (codes "registers")) × IsGiven (flag (codes "trace")) → ⊥
 one_kind_met value flag kinds.ByName has both = has.0 both.0
 one_kind_met value flag kinds.Registers has both = has.1 both.1
 one_kind_met value flag kinds.Trace has both = has.0 both.0
 
-of_trace_met : (value flag : Text → Option Text) (kind : LintKind) → HasKind value flag kind → (value (codes "platform") ≢ None) × (¬ IsGiven (flag (codes "trace"))) → ⊥
+of_trace_met : (value flag : Text → Option Text) (kind : LintKind) → HasKind value flag kind
+    → (value (codes "platform") ≢ None) × (¬ IsGiven (flag (codes "trace"))) → ⊥
 of_trace_met value flag kinds.ByName has lacks = lacks.0 has.2
 of_trace_met value flag kinds.Registers has lacks = lacks.0 has.2
 of_trace_met value flag kinds.Trace has lacks = lacks.1 has.1
 
-pub named_well : (value : Option Text) (name : Option (Bor Text)) (word : Text) → value ≡ option_map (λ s. s.now) name → IfSome name (λ s. is_identifier s.now ≡ true) → value ≡ Some word → is_identifier word ≢ true → ⊥
+pub named_well : (value : Option Text) (name : Option (Bor Text)) (word : Text) → value ≡ option_map (λ s. s.now) name
+    → IfSome name (λ s. is_identifier s.now ≡ true) → value ≡ Some word → is_identifier word ≢ true → ⊥
 named_well value None word e well is bad = cc
 named_well value (Some name) word e well is bad = bad (rw (same name.now word (sym e ∙ is)) at well)
 
@@ -79,7 +86,8 @@ not_both : (b : Bool) → b ≡ true → b ≡ false → ⊥
 not_both b e f = true≢false (sym e ∙ f)
 
 -- a sound task's values meet what its subcommand asks
-met : (value flag : Text → Option Text) (task : Task) (options : Options) → HasValues value flag task options → IsSound task options → AreMet value flag (demands_of (subcommand_of task))
+met : (value flag : Text → Option Text) (task : Task) (options : Options) → HasValues value flag task options → IsSound task options
+    → AreMet value flag (demands_of (subcommand_of task))
 met value flag (Run platform trace measure) options v sound = (given value _ _ v.0, (given value _ _ v.1, (one_answer_met flag options.answers v.3, tt)))
 met value flag (Plan map cert limit) options v sound = (
   given value _ _ v.0,
@@ -176,7 +184,8 @@ met value flag (Lint file platform) options v sound = (
 )
 
 -- no sound task is a subcommand with values that lack one of its demands
-pub none_of : (subcommand : Subcommand) (value flag : Text → Option Text) (fault : Fault) → IsFirst value flag (demands_of subcommand) fault → NamesNone (subcommand_word subcommand) value flag
+pub none_of : (subcommand : Subcommand) (value flag : Text → Option Text) (fault : Fault) → IsFirst value flag (demands_of subcommand) fault
+    → NamesNone (subcommand_word subcommand) value flag
 none_of subcommand value flag fault first task options e v sound =
     let asked = ap demands_of (same_subcommand (subcommand_of task) subcommand e) in
     met_all value flag (demands_of subcommand) fault (subst (AreMet value flag) asked (met value flag task options v sound)) first

@@ -5,7 +5,8 @@ use Rattle.std.specs.Borrow.{Bor}
 use Rattle.command_inputs.specs.Shown.{IsTextOf}
 use Rattle.program_tasks.specs.Words.{AreTextsOf}
 
-pushed : (all : List (List ℕ)) (texts : List (Bor (List ℕ))) (bytes : List ℕ) (text : Bor (List ℕ)) → AreTextsOf all texts → IsTextOf bytes text → AreTextsOf (all ++ bytes ∷ []) (texts ++ text ∷ [])
+pushed : (all : List (List ℕ)) (texts : List (Bor (List ℕ))) (bytes : List ℕ) (text : Bor (List ℕ)) → AreTextsOf all texts → IsTextOf bytes text
+    → AreTextsOf (all ++ bytes ∷ []) (texts ++ text ∷ [])
 pushed [] [] bytes text are is = (is, tt)
 pushed (b ∷ all) (t ∷ texts) bytes text are is = (are.0, pushed all texts bytes text are.1 is)
 pushed [] (t ∷ texts) bytes text are is = absurd are

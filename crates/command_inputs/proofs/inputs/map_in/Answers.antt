@@ -12,4 +12,5 @@ pub returns-clause-made : goal.returns-clause-made
 returns-clause-made g c = has_map _ c.in_ok-bytes.bytes.items c.map_by.result c.in_ok-bytes.ensures.whole (rw c.as_slice.ensures.value at c.map_by.ensures.made)
 
 pub returns-clause-refused : goal.returns-clause-refused
-returns-clause-refused g c = has_no_map c.args.file _ c.in_ok-bytes.bytes.items c.map_by.result c.in_ok-bytes.ensures.whole (rw c.as_slice.ensures.value at c.map_by.ensures.refused)
+returns-clause-refused g c = has_no_map c.args.file _ c.in_ok-bytes.bytes.items c.map_by.result c.in_ok-bytes.ensures.whole
+    (rw c.as_slice.ensures.value at c.map_by.ensures.refused)

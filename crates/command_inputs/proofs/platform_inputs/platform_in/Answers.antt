@@ -8,7 +8,8 @@ use Rattle.platform_file.specs.Document.{IsPlatformFile}
 use Rattle.command_inputs.specs.Troubles.{text_trouble}
 use Rattle.command_inputs.proofs.platform_inputs.platform_in.Goals as goal
 
-by_fault : (fault : TextFault) (file : Bor (List ℕ)) (P : Type 0) → (fault ≡ texts.NotAPlatform → P) → (text_trouble file fault ≡ Memory) ⊎ ((text_trouble file fault ≡ NotAPlatform file) × P)
+by_fault : (fault : TextFault) (file : Bor (List ℕ)) (P : Type 0) → (fault ≡ texts.NotAPlatform → P)
+    → (text_trouble file fault ≡ Memory) ⊎ ((text_trouble file fault ≡ NotAPlatform file) × P)
 by_fault texts.NotAPlatform file P p = inr (refl, p refl)
 by_fault texts.Memory file P p = inl refl
 

@@ -9,4 +9,5 @@ returns-in_err-bytes-clause-refused g c =
     rw (p.1, p.2) (no_bytes _ c.in_err-bytes.ensures.refused)
 
 pub returns-clause-refused : goal.returns-clause-refused
-returns-clause-refused g c = no_platform c.args.file _ c.in_ok-bytes.bytes.items c.platform_in.result c.in_ok-bytes.ensures.whole (rw c.as_slice.ensures.value at c.platform_in.ensures.refused)
+returns-clause-refused g c = no_platform c.args.file _ c.in_ok-bytes.bytes.items c.platform_in.result c.in_ok-bytes.ensures.whole
+    (rw c.as_slice.ensures.value at c.platform_in.ensures.refused)

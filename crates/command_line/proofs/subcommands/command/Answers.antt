@@ -7,7 +7,8 @@ use Rattle.command_line.proofs.subcommands.command.Goals as goal
 pub loop-argument-preserved : goal.loop-argument-preserved
 loop-argument-preserved c = record {
   local = c.in_ok-command.ensures.globals ∙ ap₂ ◌||◌ c.loop-argument.invariant.local c.arg.ensures.local;
-  app = with_next_argument _ _ _ _ _ _ _ c.loop-argument-test.true (c.in_ok-command.ensures.shape c.arg.ensures.local) c.arg.ensures.rule c.loop-argument.invariant.app;
+  app = with_next_argument _ _ _ _ _ _ _ c.loop-argument-test.true (c.in_ok-command.ensures.shape c.arg.ensures.local) c.arg.ensures.rule
+      c.loop-argument.invariant.app;
 }
 
 pub returns : goal.returns

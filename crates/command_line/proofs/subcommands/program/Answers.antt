@@ -15,7 +15,8 @@ loop-subcommand-init c = record {
 pub loop-subcommand-preserved : goal.loop-subcommand-preserved
 loop-subcommand-preserved c = record {
   local = c.in_ok-program.ensures.globals ∙ ap₂ ◌||◌ c.loop-subcommand.invariant.local c.in_ok-subcommand_command.ensures.local;
-  app = with_next_subcommand _ _ _ _ _ _ _ c.loop-subcommand-test.true (c.in_ok-program.ensures.shape c.in_ok-subcommand_command.ensures.local) c.in_ok-subcommand_command.ensures.app
+  app = with_next_subcommand _ _ _ _ _ _ _ c.loop-subcommand-test.true (c.in_ok-program.ensures.shape c.in_ok-subcommand_command.ensures.local)
+      c.in_ok-subcommand_command.ensures.app
       c.loop-subcommand.invariant.app;
 }
 

@@ -19,14 +19,21 @@ returns-in_err-reached-in-Some-clause-refused c =
     let b = c.in_err-reached-in-Some.ensures.beyond in
     let made = c.in_ok-plan.ensures in
     rw (p.1, p.2) (for_width (too_far _ _ _ c.in_ok-plan.plan.entries _ _
-    (record { fewest = made.fewest; chosen = made.choice; order = made.order; within = rw c.entries-entries.ensures at (no_more c.in-Some.bank _ _ c.in-Some.ensures.none.1) })
+    (record {
+      fewest = made.fewest;
+      chosen = made.choice;
+      order = made.order;
+      within = rw c.entries-entries.ensures at
+          (no_more c.in-Some.bank _ _ c.in-Some.ensures.none.1);
+    })
     b.0 b.1))
 
 pub returns-in-Some-clause-loaded : goal.returns-in-Some-clause-loaded
 returns-in-Some-clause-loaded c =
     let made = c.in_ok-plan.ensures in
     let within = rw c.entries-entries.ensures at (no_more c.in-Some.bank _ _ c.in-Some.ensures.none.1) in
-    let planned : IsPlanned (view_of_runs c.args.map.now) (Some (limit_number c.args.limit)) c.in_ok-plan.plan.entries = record { fewest = made.fewest; chosen = made.choice; order = made.order; within = within } in
+    let planned : IsPlanned (view_of_runs c.args.map.now) (Some (limit_number c.args.limit)) c.in_ok-plan.plan.entries = record
+    { fewest = made.fewest; chosen = made.choice; order = made.order; within = within } in
     record {
       entries = c.entries-entries.result.now;
       planned = rw (sym c.entries-entries.ensures) at planned;

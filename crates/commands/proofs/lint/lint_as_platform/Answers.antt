@@ -31,7 +31,8 @@ returns-in-Ok g c =
     let said = c.in-Ok.ensures in
     let named = rw c.in_ok-name.ensures at c.text.ensures in
     let w =
-    text g.W.Sink.contents g.W.Sink.failures g.W.Sink.stalls c.args.out.now c.lint_platform.new.out c.args.name.now c.text.result.now c.args.bytes.now c.in-Ok.is_platform named
+    text g.W.Sink.contents g.W.Sink.failures g.W.Sink.stalls c.args.out.now c.lint_platform.new.out c.args.name.now c.text.result.now c.args.bytes.now
+    c.in-Ok.is_platform named
     (λ e. said.platform (ap (λ t. Ok t) e)) (λ e. said.silent (ap (λ t. Ok t) e)) (λ e. said.written (ap (λ t. Ok t) e)) in
     rw c.answer_status.ensures (lints.Tells.whole c.in-Ok.is_platform w.0 w.1 w.2)
 

@@ -6,7 +6,8 @@ use Rattle.commands.specs.Lint as lints
 use Rattle.commands.proofs.lint.lint_listing.Goals as goal
 
 pub returns-in-Ok : goal.returns-in-Ok
-returns-in-Ok g c = rw c.answer_status.ensures (lints.Tells.whole true [] ((_, c.in-Ok.ensures.listing), refl) (takes_none g.W.Sink.contents g.W.Sink.failures g.W.Sink.stalls _))
+returns-in-Ok g c = rw c.answer_status.ensures (lints.Tells.whole true [] ((_, c.in-Ok.ensures.listing), refl)
+    (takes_none g.W.Sink.contents g.W.Sink.failures g.W.Sink.stalls _))
 
 pub returns-in-Ok-print_listing_fault : goal.returns-in-Ok-print_listing_fault
 returns-in-Ok-print_listing_fault g c =

@@ -6,7 +6,8 @@ use Rattle.map_lint.specs.Lints.{IsAtFault, IsVerdictOfLines}
 use Rattle.commands.specs.Lint as lints
 use Rattle.commands.proofs.lint.lint_map.Goals as goal
 
-verdict : (bytes : List ℕ) (is_map : Bool) → (is_map ≡ true → (runs : List Run) × Makes bytes runs) → (is_map ≡ false → IsAtFault bytes) → IsVerdictOfLines bytes is_map
+verdict : (bytes : List ℕ) (is_map : Bool) → (is_map ≡ true → (runs : List Run) × Makes bytes runs) → (is_map ≡ false → IsAtFault bytes)
+    → IsVerdictOfLines bytes is_map
 verdict bytes true map fault = map refl
 verdict bytes false map fault = fault refl
 

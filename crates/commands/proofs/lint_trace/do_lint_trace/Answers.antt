@@ -14,4 +14,5 @@ returns-in_err-bytes g c =
     rw (p.1, p.2) (commands.LintsTrace.no_bytes _ _ c.in_ok-harts.ensures.has c.in_err-bytes.ensures.refused refl)
 
 pub returns : goal.returns
-returns g c = commands.LintsTrace.linted _ _ c.lint_as_trace.result c.in_ok-harts.ensures.has c.in_ok-bytes.ensures.whole (rw c.as_slice.ensures.value at c.lint_as_trace.ensures)
+returns g c = commands.LintsTrace.linted _ _ c.lint_as_trace.result c.in_ok-harts.ensures.has c.in_ok-bytes.ensures.whole
+    (rw c.as_slice.ensures.value at c.lint_as_trace.ensures)

@@ -11,7 +11,8 @@ use Rattle.commands.proofs.lint_trace.lint_as_trace.Goals as goal
 
 -- what was written, by the answer
 text :
-    {W : Type 0} (contents : W → Option (List ℕ)) (failures stalls : W → ℕ) (old new : W) (name named bytes : List ℕ) (taker : Taker) (is : Bool) → IsShown name named
+    {W : Type 0} (contents : W → Option (List ℕ)) (failures stalls : W → ℕ) (old new : W) (name named bytes : List ℕ) (taker : Taker) (is : Bool)
+    → IsShown name named
     → is ≡ is_trace taker bytes → (is ≡ true → new ≡ old)
     → (is ≡ false → (text : List ℕ) × IsLintText named taker bytes text × TakesAll text (writing contents failures stalls old new))
     → (text : List ℕ) × IsTraceLint name taker bytes is text × TakesAll text (writing contents failures stalls old new)
@@ -30,7 +31,8 @@ returns-in-Ok g c =
     let said = c.in-Ok.ensures in
     let named = rw c.in_ok-name.ensures at c.text.ensures in
     let w =
-    text g.W.Sink.contents g.W.Sink.failures g.W.Sink.stalls c.args.out.now c.lint_trace.new.out c.args.name.now c.text.result.now c.args.bytes.now c.args.taker c.in-Ok.is_trace named
+    text g.W.Sink.contents g.W.Sink.failures g.W.Sink.stalls c.args.out.now c.lint_trace.new.out c.args.name.now c.text.result.now c.args.bytes.now c.args.taker
+    c.in-Ok.is_trace named
     said.trace (λ e. said.silent (ap (λ t. Ok t) e)) (λ e. said.written (ap (λ t. Ok t) e)) in
     rw c.answer_status.ensures (lints.Tells.whole c.in-Ok.is_trace w.0 w.1 w.2)
 

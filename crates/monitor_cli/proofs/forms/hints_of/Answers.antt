@@ -10,7 +10,8 @@ returns-in-Bytes g c =
     let had = rw (c.kind.ensures, c.in-Bytes.is) at c.in_ok-bytes.ensures in
     carried (AreHints (IsLintAs c.args.form c.args.name.now c.in-Bytes.bytes.items))
     (HasHints c.args.form c.args.name.now (reading g.R.Source.remaining g.R.Source.failures c.args.source.now c.bytes_or_hint.new.source))
-    (λ said. option_map (λ text. text.items) said) c.hints_for.result (λ said are. hints.HasHints.of_lint c.in-Bytes.bytes.items said had are) (rw c.as_slice.ensures.value at c.hints_for.ensures)
+    (λ said. option_map (λ text. text.items) said) c.hints_for.result (λ said are. hints.HasHints.of_lint c.in-Bytes.bytes.items said had are)
+    (rw c.as_slice.ensures.value at c.hints_for.ensures)
 
 pub returns-in-Hint : goal.returns-in-Hint
 returns-in-Hint g c =

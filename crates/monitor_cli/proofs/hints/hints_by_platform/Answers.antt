@@ -18,5 +18,6 @@ returns g c =
     let boots = c.in_ok-hint.ensures.boots c.in_default-2.is in
     carried (λ hints. HasHints (Trace (Run c.in_ok-layout.layout.harts)) c.args.trace.now second hints)
     (λ hints. AreRunHints c.args.platform.now c.args.text.now c.args.trace.now second hints)
-    (λ said. option_map (λ text. text.items) said) c.hints_of.result (λ hints has. of_trace c.in_ok-layout.layout boots.0 hints c.in_ok-layout.ensures.ok boots.1 has)
+    (λ said. option_map (λ text. text.items) said) c.hints_of.result (λ hints has. of_trace c.in_ok-layout.layout boots.0 hints c.in_ok-layout.ensures.ok
+    boots.1 has)
     (rw c.harts-harts.ensures.value at c.hints_of.ensures)

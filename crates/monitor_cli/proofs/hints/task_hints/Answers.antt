@@ -15,5 +15,6 @@ returns-in-Map g c =
     let failures = g.R.Source.failures in
     rw c.in-Map.is
     (and_unread {Q = IsUnread (reading remaining failures second second)}
-    (λ hints. HasHints (Listing c.args.request.now.options.xlen) c.in-Map.registers.now (reading remaining failures c.args.first.now c.hints_of.new.source) hints)
+    (λ hints. HasHints (Listing c.args.request.now.options.xlen) c.in-Map.registers.now
+    (reading remaining failures c.args.first.now c.hints_of.new.source) hints)
     (λ hints. option_map (λ text. text.items) hints) c.hints_of.result c.hints_of.ensures refl)

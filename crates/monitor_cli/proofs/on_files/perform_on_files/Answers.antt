@@ -38,7 +38,8 @@ returns-clause-ends g c =
         c.name_or_none-cert_name.ensures ∙ ap (λ it. name_or_none it.cert) c.files_of-files.ensures,
         refl,
         chosen
-            _ _ _ _ _ _ _ _ _ _ _ _ _ _ _ _ _ _ _ (c.reason.ensures ∙ ap (λ it. it.reason) c.into_inner.ensures) (c.reason-2.ensures ∙ ap (λ it. it.reason) c.into_inner-2.ensures) c.reason-3.ensures
+            _ _ _ _ _ _ _ _ _ _ _ _ _ _ _ _ _ _ _ (c.reason.ensures ∙ ap (λ it. it.reason) c.into_inner.ensures)
+            (c.reason-2.ensures ∙ ap (λ it. it.reason) c.into_inner-2.ensures) c.reason-3.ensures
             c.reason-4.ensures c.failure.ensures c.failure-2.ensures c.failure-3.ensures c.failure-4.ensures c.or.ensures c.or-2.ensures c.or-why.ensures,
       );
       follows = rw (← c.are_told-hints.ensures) c.follow.ensures;

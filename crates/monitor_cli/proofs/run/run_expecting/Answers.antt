@@ -12,7 +12,8 @@ returns-in-Err g c =
     rw c.of_run.ensures
     (unfinished _ c.in-Err.fault
     (stops DoesLine RefusesLine StarvesLine _ _ _ _ _ _ c.in-Err.fault
-    (λ n is. e.line kept n (ended ∙ ap (λ f. Err f) is)) (λ is. e.too_long kept (ended ∙ ap (λ f. Err f) is)) (λ is. e.read kept (ended ∙ ap (λ f. Err f) is)) (λ is. e.write kept (ended ∙ ap (λ f. Err f) is))
+    (λ n is. e.line kept n (ended ∙ ap (λ f. Err f) is)) (λ is. e.too_long kept (ended ∙ ap (λ f. Err f) is)) (λ is. e.read kept (ended ∙ ap (λ f. Err f) is))
+    (λ is. e.write kept (ended ∙ ap (λ f. Err f) is))
     (λ is. e.memory kept (ended ∙ ap (λ f. Err f) is)))
     (rw ended at e.reads) (rw ended at e.writes))
 
@@ -32,7 +33,8 @@ returns-in-Ok-tell_first g c =
     let before = rw ended at e.writes in
     let m = c.in-Ok-measure_where.ensures in
     let w = c.in-Ok-tell_first.ensures in
-    compared _ _ _ _ _ (rw ended at e.all c.requires.kept) m.measured w.told (rw ended at e.reads) (w.well.0 ∙ m.well.0 ∙ before.0, w.well.1 ∙ m.well.1 ∙ before.1)
+    compared _ _ _ _ _ (rw ended at e.all c.requires.kept) m.measured w.told (rw ended at e.reads)
+    (w.well.0 ∙ m.well.0 ∙ before.0, w.well.1 ∙ m.well.1 ∙ before.1)
 
 pub returns : goal.returns
 returns g c =
@@ -41,4 +43,5 @@ returns g c =
     let before = rw ended at e.writes in
     let m = c.in-Ok-measure_where.ensures in
     let b = c.in-Err-tell_first.ensures.broken in
-    not_told _ _ _ b.0 (rw (ended, b.1) at e.all c.requires.kept) m.measured b.2.part (rw ended at e.reads) (rw (m.well.0 ∙ before.0, m.well.1 ∙ before.1) at b.2.fails)
+    not_told _ _ _ b.0 (rw (ended, b.1) at e.all c.requires.kept) m.measured b.2.part (rw ended at e.reads)
+    (rw (m.well.0 ∙ before.0, m.well.1 ∙ before.1) at b.2.fails)

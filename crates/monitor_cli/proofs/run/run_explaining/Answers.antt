@@ -9,7 +9,8 @@ returns-in-Err g c =
     let e = c.explain_run-machine.ensures in
     let ended = c.in-Err.is in
     let s = stops_with _ _ _ _ _ _ _ c.in-Err.fault
-    (λ n is. e.line kept n (ended ∙ ap (λ f. Err f) is)) (λ is. e.too_long kept (ended ∙ ap (λ f. Err f) is)) (λ is. e.read kept (ended ∙ ap (λ f. Err f) is)) (λ is. e.write kept (ended ∙ ap (λ f. Err f) is))
+    (λ n is. e.line kept n (ended ∙ ap (λ f. Err f) is)) (λ is. e.too_long kept (ended ∙ ap (λ f. Err f) is)) (λ is. e.read kept (ended ∙ ap (λ f. Err f) is))
+    (λ is. e.write kept (ended ∙ ap (λ f. Err f) is))
     (λ is. e.memory kept (ended ∙ ap (λ f. Err f) is)) in
     rw c.of_run.ensures (stopped _ c.in-Err.fault s.2 (rw ended at e.reads) (rw ended at e.writes))
 

@@ -16,4 +16,5 @@ behind_hints (Err fault) name value flag hints e is = of_task hints e is
 
 pub returns-clause-fault : goal.returns-clause-fault
 returns-clause-fault g c =
-    behind_hints c.task_of.result c.args.name.now (g.V.Values.value c.args.given.now) (g.V.Values.flag c.args.given.now) c.in_ok-hints.hints c.in_ok-hints.ensures.value c.task_of.ensures.fault
+    behind_hints c.task_of.result c.args.name.now (g.V.Values.value c.args.given.now)
+    (g.V.Values.flag c.args.given.now) c.in_ok-hints.hints c.in_ok-hints.ensures.value c.task_of.ensures.fault

@@ -8,7 +8,8 @@ pub returns-in_err-registers-clause-fault : goal.returns-in_err-registers-clause
 returns-in_err-registers-clause-fault g c =
     let value = g.V.Values.value c.args.given.now in
     let flag = g.V.Values.flag c.args.given.now in
-    handed_on c.from_residual-in_err-registers.result c.in_err-registers.field-0.0 (IsFirst value flag (demands_of subcommands.Audit)) c.from_residual-in_err-registers.ensures.1
+    handed_on c.from_residual-in_err-registers.result c.in_err-registers.field-0.0
+    (IsFirst value flag (demands_of subcommands.Audit)) c.from_residual-in_err-registers.ensures.1
     (no_registers value flag _ _ c.in_ok-map.ensures.value c.in_err-registers.ensures.missing)
 
 pub returns-in_err-once-clause-fault : goal.returns-in_err-once-clause-fault
@@ -16,12 +17,14 @@ returns-in_err-once-clause-fault g c =
     let value = g.V.Values.value c.args.given.now in
     let flag = g.V.Values.flag c.args.given.now in
     let twice = c.in_err-once.ensures.twice in
-    handed_on c.from_residual-in_err-once.result c.in_err-once.field-0.0 (IsFirst value flag (demands_of subcommands.Audit)) c.from_residual-in_err-once.ensures.1
+    handed_on c.from_residual-in_err-once.result c.in_err-once.field-0.0 (IsFirst value flag (demands_of subcommands.Audit))
+    c.from_residual-in_err-once.ensures.1
     (read_twice value flag _ _ _ c.in_ok-map.ensures.value c.in_ok-registers.ensures.value twice.0 twice.1 c.in_err-once.ensures.fault)
 
 pub returns-in_err-xlen-clause-fault : goal.returns-in_err-xlen-clause-fault
 returns-in_err-xlen-clause-fault g c =
     let value = g.V.Values.value c.args.given.now in
     let flag = g.V.Values.flag c.args.given.now in
-    handed_on c.from_residual-in_err-xlen.result c.in_err-xlen.field-0.0 (IsFirst value flag (demands_of subcommands.Audit)) c.from_residual-in_err-xlen.ensures.1
+    handed_on c.from_residual-in_err-xlen.result c.in_err-xlen.field-0.0 (IsFirst value flag (demands_of subcommands.Audit))
+    c.from_residual-in_err-xlen.ensures.1
     (wide_wrongly value flag _ _ _ c.in_ok-map.ensures.value c.in_ok-registers.ensures.value c.in_ok-once.ensures.once c.in_err-xlen.ensures.fault)

@@ -23,8 +23,10 @@ named_none (Err fault) name value flag subcommand e is = subst (λ word. NamesNo
 
 pub returns-clause-fault : goal.returns-clause-fault
 returns-clause-fault g c =
-    named_fault c.task_in.result c.args.name.now (g.V.Values.value c.args.given.now) (g.V.Values.flag c.args.given.now) c.in-Some.subcommand c.in-Some.ensures.some c.task_in.ensures.fault
+    named_fault c.task_in.result c.args.name.now (g.V.Values.value c.args.given.now)
+    (g.V.Values.flag c.args.given.now) c.in-Some.subcommand c.in-Some.ensures.some c.task_in.ensures.fault
 
 pub returns-clause-refused : goal.returns-clause-refused
 returns-clause-refused g c =
-    named_none c.task_in.result c.args.name.now (g.V.Values.value c.args.given.now) (g.V.Values.flag c.args.given.now) c.in-Some.subcommand c.in-Some.ensures.some c.task_in.ensures.fault
+    named_none c.task_in.result c.args.name.now (g.V.Values.value c.args.given.now)
+    (g.V.Values.flag c.args.given.now) c.in-Some.subcommand c.in-Some.ensures.some c.task_in.ensures.fault

@@ -13,8 +13,10 @@ use Rattle.commands.proofs.on_maps.audit.do_audit.Goals as goal
 
 -- an audit is made of the map, the listing and the fewest entries
 is_audited :
-    {R : Type 0} {first second : Reading R} {runs : List Run} {xlen : Xlen} {listing : List ℕ} {fewest : ℕ} → HasMap first runs → HasBytes (2 ^ 20) second listing
-    → (entries : List Entry) × IsFewest (view_of_runs runs) entries × AreReached xlen entries × (length entries ≡ fewest) → IsAudited first second (view_of_runs runs) xlen listing fewest
+    {R : Type 0} {first second : Reading R} {runs : List Run} {xlen : Xlen} {listing : List ℕ} {fewest : ℕ} → HasMap first runs
+    → HasBytes (2 ^ 20) second listing
+    → (entries : List Entry) × IsFewest (view_of_runs runs) entries × AreReached xlen entries × (length entries ≡ fewest)
+    → IsAudited first second (view_of_runs runs) xlen listing fewest
 is_audited has_map read planned = record {
   runs = _;
   has_map = has_map;
@@ -57,7 +59,8 @@ returns-in-Err-Line g c =
     not_understood _ _ _ c.in-Err-Line.line made unknown.0 unknown.1
 
 pub returns-in-Err-Memory : goal.returns-in-Err-Memory
-returns-in-Err-Memory g c = audits.Audits.no_memory _ _ c.in_ok-map.ensures.made c.in_ok-listing.ensures.whole (c.in-Err-Memory.ensures.untouched (ap (λ f. Err f) c.in-Err-Memory.field-0-is))
+returns-in-Err-Memory g c = audits.Audits.no_memory _ _ c.in_ok-map.ensures.made c.in_ok-listing.ensures.whole
+    (c.in-Err-Memory.ensures.untouched (ap (λ f. Err f) c.in-Err-Memory.field-0-is))
 
 pub returns : goal.returns
 returns g c =

@@ -14,6 +14,8 @@ returns-in-Err g c =
     let e = c.in-Err.ensures in
     rw c.of_run.ensures
     (until c.in-Err.fault
-    (stops (explaining (answered_by (g.J.AccessJudge.outcomes c.args.by.now)) (on_access (g.D.Deciders.decides c.args.deciders.now))) is_no_access (λ old line new. ⊥) tt tt _ _ _ _ c.in-Err.fault
-    (λ n is. e.line n (ap (λ f. Err f) is)) (λ is. e.too_long (ap (λ f. Err f) is)) (λ is. e.read (ap (λ f. Err f) is)) (λ is. e.write (ap (λ f. Err f) is)) (λ is. absurd (e.no_memory (ap (λ f. Err f) is))))
+    (stops (explaining (answered_by (g.J.AccessJudge.outcomes c.args.by.now)) (on_access (g.D.Deciders.decides c.args.deciders.now))) is_no_access
+    (λ old line new. ⊥) tt tt _ _ _ _ c.in-Err.fault
+    (λ n is. e.line n (ap (λ f. Err f) is)) (λ is. e.too_long (ap (λ f. Err f) is)) (λ is. e.read (ap (λ f. Err f) is)) (λ is. e.write (ap (λ f. Err f) is))
+    (λ is. absurd (e.no_memory (ap (λ f. Err f) is))))
     e.reads e.writes)

@@ -13,5 +13,6 @@ returns-in-Err g c =
     rw c.of_run.ensures
     (until c.in-Err.fault
     (stops (answered_by (g.J.AccessJudge.outcomes c.args.by.now)) is_no_access (λ old line new. ⊥) tt tt _ _ _ _ c.in-Err.fault
-    (λ n is. e.line n (ap (λ f. Err f) is)) (λ is. e.too_long (ap (λ f. Err f) is)) (λ is. e.read (ap (λ f. Err f) is)) (λ is. e.write (ap (λ f. Err f) is)) (λ is. absurd (e.no_memory (ap (λ f. Err f) is))))
+    (λ n is. e.line n (ap (λ f. Err f) is)) (λ is. e.too_long (ap (λ f. Err f) is)) (λ is. e.read (ap (λ f. Err f) is)) (λ is. e.write (ap (λ f. Err f) is))
+    (λ is. absurd (e.no_memory (ap (λ f. Err f) is))))
     e.reads e.writes)

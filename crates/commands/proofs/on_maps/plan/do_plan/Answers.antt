@@ -31,9 +31,11 @@ print_as-requires g c = record {
 pub returns-in-Ok : goal.returns-in-Ok
 returns-in-Ok g c =
     let w = rw c.entries.ensures at c.in-Ok.ensures in
-    planned _ _ w.0 c.in_ok-map.ensures.made (rw c.most_entries-most.ensures at c.in_ok-plan.ensures.planned) c.in_ok-plan.ensures.reached c.in_ok-plan.ensures.certified w.1 w.2
+    planned _ _ w.0 c.in_ok-map.ensures.made (rw c.most_entries-most.ensures at c.in_ok-plan.ensures.planned) c.in_ok-plan.ensures.reached
+    c.in_ok-plan.ensures.certified w.1 w.2
 
 pub returns : goal.returns
 returns g c =
     let w = rw c.entries.ensures at c.in-Err.ensures in
-    plans.Plans.no_output _ _ w.0 c.in_ok-map.ensures.made (rw c.most_entries-most.ensures at c.in_ok-plan.ensures.planned) c.in_ok-plan.ensures.reached c.in_ok-plan.ensures.certified w.1 w.2
+    plans.Plans.no_output _ _ w.0 c.in_ok-map.ensures.made (rw c.most_entries-most.ensures at c.in_ok-plan.ensures.planned) c.in_ok-plan.ensures.reached
+    c.in_ok-plan.ensures.certified w.1 w.2

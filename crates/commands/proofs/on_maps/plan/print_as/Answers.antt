@@ -14,7 +14,15 @@ pub returns-in-Json : goal.returns-in-Json
 returns-in-Json g c = rw c.in-Json.is c.print_json.ensures
 
 pub print_c-requires : goal.print_c-requires
-print_c-requires g c = let fits = c.requires.fits in record { reached = c.requires.reached; fits = fits_c c.args.limit c.args.first fits.0 _ (rw c.in-C.is at fits.1) }
+print_c-requires g c = let fits = c.requires.fits in record {
+  reached = c.requires.reached;
+  fits = fits_c c.args.limit c.args.first fits.0 _
+      (rw c.in-C.is at fits.1);
+}
 
 pub print_asm-requires : goal.print_asm-requires
-print_asm-requires g c = let fits = c.requires.fits in record { reached = c.requires.reached; fits = fits_asm c.args.limit c.args.first fits.0 _ (rw c.in-Asm.is at fits.1) }
+print_asm-requires g c = let fits = c.requires.fits in record {
+  reached = c.requires.reached;
+  fits = fits_asm c.args.limit c.args.first fits.0 _
+      (rw c.in-Asm.is at fits.1);
+}

@@ -19,7 +19,8 @@ returns-in-Err-Line g c =
     shows.ShowsRegisters.not_understood _ c.in-Err-Line.line c.in_ok-listing.ensures.whole unknown.0 unknown.1
 
 pub returns-in-Err-Memory : goal.returns-in-Err-Memory
-returns-in-Err-Memory g c = shows.ShowsRegisters.no_memory _ c.in_ok-listing.ensures.whole (c.in-Err-Memory.ensures.untouched (ap (λ f. Err f) c.in-Err-Memory.field-0-is))
+returns-in-Err-Memory g c = shows.ShowsRegisters.no_memory _ c.in_ok-listing.ensures.whole
+    (c.in-Err-Memory.ensures.untouched (ap (λ f. Err f) c.in-Err-Memory.field-0-is))
 
 pub returns : goal.returns
 returns g c =

@@ -15,7 +15,8 @@ loop-subcommand-preserved c =
 -- what holds of each in the list holds of each
 each :
     (P : Subcommand → Type 0)
-    → All P (subcommands.Run ∷ subcommands.Plan ∷ subcommands.Judge ∷ subcommands.Check ∷ subcommands.Show ∷ subcommands.Audit ∷ subcommands.Map ∷ subcommands.Lint ∷ [])
+    → All P (subcommands.Run ∷ subcommands.Plan ∷ subcommands.Judge ∷ subcommands.Check ∷ subcommands.Show ∷ subcommands.Audit ∷ subcommands.Map
+    ∷ subcommands.Lint ∷ [])
     → (subcommand : Subcommand) → P subcommand
 each P all subcommands.Run = all 0 subcommands.Run (omega arith)
 each P all subcommands.Plan = all 1 subcommands.Run (omega arith)
@@ -28,4 +29,5 @@ each P all subcommands.Lint = all 7 subcommands.Run (omega arith)
 
 pub returns-clause-none : goal.returns-clause-none
 returns-clause-none c = λ none subcommand.
-    each (λ it. c.args.word.now ≢ subcommand_word it) (subst (All (λ it. c.args.word.now ≢ subcommand_word it)) (take_all _ _ c.loop-subcommand-test.false) c.loop-subcommand.invariant) subcommand
+    each (λ it. c.args.word.now ≢ subcommand_word it) (subst (All (λ it. c.args.word.now ≢ subcommand_word it))
+    (take_all _ _ c.loop-subcommand-test.false) c.loop-subcommand.invariant) subcommand
