@@ -1,0 +1,52 @@
+#!/usr/bin/env bash
+# Looks over the scripts of this repository: those of the shell with shellcheck, those in Python with ruff or pyflakes.
+#
+#   tests/scripts/run.sh
+#
+# What is not installed is left out, and said. The last line is 'N passed, M failed'. On Debian:
+#   apt-get install --no-install-recommends shellcheck python3-pyflakes
+set -u
+cd "$(dirname "$(realpath "$0")")/../.." || exit 1
+passed=0
+failed=0
+shell=()
+python=()
+while read -r file; do
+    # (a script is known by its first line)
+    IFS= read -r first <"$file" || continue
+    case $first in
+        '#!'*python*) python+=("$file") ;;
+        '#!'*sh) shell+=("$file") ;;
+        *) case $file in *.py) python+=("$file") ;; esac ;;
+    esac
+done < <(git ls-files | grep -v '\.\(svg\|bin\|dtb\)$')
+
+# Runs a tool over files, and counts each.
+over() {
+    local tool=$1 file
+    shift
+    for file in "$@"; do
+        if $tool "$file"; then
+            passed=$((passed + 1))
+        else
+            failed=$((failed + 1))
+            echo "FAILED: $tool $file"
+        fi
+    done
+    echo "ok: $tool, of $# files"
+}
+
+if command -v shellcheck >/dev/null; then
+    over 'shellcheck --severity=warning' "${shell[@]}"
+else
+    echo 'left out: shellcheck is not installed'
+fi
+if command -v ruff >/dev/null; then
+    over 'ruff check --quiet' "${python[@]}"
+elif /usr/bin/python3 -m pyflakes --version >/dev/null 2>&1; then
+    over '/usr/bin/python3 -m pyflakes' "${python[@]}"
+else
+    echo 'left out: neither ruff nor pyflakes is installed'
+fi
+echo "$passed passed, $failed failed"
+[ "$failed" = 0 ]
