@@ -1,33 +1,36 @@
 -- What holds of an access: it is a step of the model, whose verdict is the view's.
-use Rattle.std.proofs.Common.{◌≡◌, ◌≢◌, ◌∙◌, inl, inr, ℕ, ◌/◌, ◌%◌, ◌^◌, List, Result, Ok, Err, true, refl, ap, sym, subst}
-use Rattle.std.proofs.lemmas.Bool.{eq-eqb, ne_eqb, le-ltb, lt-ltb, false_from_ne_true}
+use Rattle.std.proofs.Common.{◌≡◌, ◌≢◌, ◌∙◌, inl, inr, ℕ, ◌+◌, ◌-◌, ◌/◌, ◌%◌, ◌^◌, ◌<◌, ◌≤◌, nat_le, nat_lt, if◌then◌else◌, List, Result, Ok, Err, true, refl, ap, sym, subst}
+use Rattle.std.proofs.lemmas.Bool.{and_parts, eq-eqb, leb-true, ltb-true, ne_eqb, le-ltb, lt-ltb, false_from_ne_true}
 use Rattle.pmp_encoding.specs.declared.perm.Perm.{Perm}
 use Rattle.pmp_encoding.specs.declared.region.Entry.{Entry}
+use Rattle.pmp_encoding.specs.Registers.{byte_of}
 use Rattle.pmp_encoding.proofs.Pairs.{one_list}
 use Rattle.pmp_match.specs.declared.access.Access.{Access}
 use Rattle.pmp_match.specs.declared.access.Kind.{Kind}
 use Rattle.pmp_match.specs.declared.access.Kind.TheVariants.{Fetch, Load, Store}
 use Rattle.pmp_match.specs.declared.access.Mode.TheVariants.{Machine}
 use Rattle.pmp_match.specs.declared.cause.Cause.{Cause}
+use Rattle.pmp_match.specs.Accesses.{Reaches}
 use Rattle.pmp_match.specs.Judgement.{Judges, off_its_size, outside, denied, allowed}
 use Rattle.pmp_match.specs.Kinds.{holds}
 use Rattle.pmp_match.specs.Meaning.{Means}
 use Rattle.enclave_table.specs.Enclaves.{Live}
 use Rattle.enclave_table.specs.Tables.{IsTable}
 use Rattle.enclave_table.specs.Views.{current_view}
+use Rattle.monitor_core.proofs.Cases.{both}
 use Rattle.hart_trace.specs.declared.event.Event.{Event}
 use Rattle.hart_trace.specs.declared.event.Event.TheVariants as events
 use Rattle.hart_trace.specs.declared.reply.Reply.{Reply}
 use Rattle.hart_trace.specs.declared.reply.Reply.TheVariants as replies
 use Rattle.hart_sim.specs.Changes.{storing}
-use Rattle.hart_sim.specs.Memory.{bytes_at, number_of_bytes}
-use Rattle.hart_sim.specs.Privacy as privacy
+use Rattle.hart_sim.specs.Memory.{bytes_at, in_range, number_of_bytes}
+use Rattle.hart_sim.specs.Privacy.{StoresTo}
 use Rattle.hart_sim.specs.Promises.{Promises}
 use Rattle.hart_sim.specs.States.{MachineState, awoken}
 use Rattle.hart_sim.specs.Steps.{Accesses, Step, TakesEffect, verdict}
 use Rattle.trap_server.specs.Firmware.{HasFewest}
 use Rattle.board.specs.Board.{Board, DoesAccess, memory_after, put_by}
-use Rattle.board.specs.Headline.{KeepsAccess, StoresTo}
+use Rattle.board.specs.Headline.{IsMonitorByte, IsOwnStore, KeepsAccess}
 
 -- what a list says that means a view, the view says
 verdict_is : (view : ℕ → Perm) (entries : List Entry) (a : Access) (said : Result (Unit {0}) Cause) → Means entries view → a.mode ≢ Machine → Judges entries a said → verdict view a ≡ said
@@ -105,6 +108,24 @@ said_fault : (said : Result (Unit {0}) Cause) (s : MachineState) (a : Access) (c
 said_fault (Err why) s a cause is = (why, refl)
 said_fault (Ok done) s a cause is = absurd (no_fault a.kind s a cause is)
 
+-- an access changes no byte that it does not reach, and a fault none
+within : (first count n : ℕ) → in_range first count n ≡ true → (first ≤ n) × (n < first + count)
+within first count n is = let p = and_parts (nat_le first n) (nat_lt n (first + count)) is in (leb-true first n p.0, ltb-true n (first + count) p.1)
+
+put_stays : (kind : Kind) (memory : ℕ → ℕ) (a : Access) (value byte : ℕ) → (Reaches a byte → ⊥) → put_by kind memory a value byte ≡ memory byte
+put_stays Fetch memory a value byte past = refl
+put_stays Load memory a value byte past = refl
+put_stays Store memory a value byte past = both (in_range a.address a.size byte)
+    (λ yes. absurd (past (within a.address a.size byte yes)))
+    (λ no. ap (λ b. if b then byte_of value (byte - a.address) else memory byte) no)
+
+no_ok : (cause : Cause) → ◌≡◌ {A = Result (Unit {0}) Cause} (Ok tt) (Err cause) → ⊥
+no_ok cause is = cc
+
+closed_stays : (said : Result (Unit {0}) Cause) (memory : ℕ → ℕ) (a : Access) (value byte : ℕ) → (Reaches a byte → (cause : Cause) × (said ≡ Err cause)) → memory_after said memory a value byte ≡ memory byte
+closed_stays (Err cause) memory a value byte closed = refl
+closed_stays (Ok done) memory a value byte closed = put_stays a.kind memory a value byte (λ reaches. let fault = closed reaches in no_ok fault.0 fault.1)
+
 -- what every step of the model promises
 abbrev pub StepsPromise : Type 0
 StepsPromise = (old : MachineState) (hart : ℕ) (event : Event) (reply : Reply) (new : MachineState) → IsTable old.table → Step old hart event reply new → Promises old hart event reply new
@@ -118,7 +139,7 @@ promised law old hart a value said right is =
     (subst (λ v. Accesses v s a value (reply_of said s a) (state_after said s a value)) is (accesses said s a value))
 
 own_store : (old : Board) (hart : ℕ) (a : Access) (value : ℕ) (said : Result (Unit {0}) Cause) (reply : Reply) (id byte : ℕ) → said ≡ verdict (current_view old.monitor.table (old.monitor.worlds hart)) a
-    → privacy.StoresTo (as_machine old) hart (events.Access a value) reply id byte → StoresTo old hart a said id byte
+    → StoresTo (as_machine old) hart (events.Access a value) reply id byte → IsOwnStore old hart a said id byte
 own_store old hart a value said reply id byte is x = record { store = x.0; allowed = is ∙ x.3; own = x.2; reaches = (x.4, x.5) }
 
 pub access_kept : (law : StepsPromise) (old : Board) (hart : ℕ) (a : Access) (value : ℕ) (said : Result (Unit {0}) Cause) (new : Board) → IsTable old.monitor.table
@@ -129,14 +150,15 @@ access_kept law old hart a value said new right fewest x =
     let is : said ≡ verdict view a = sym (verdict_is view fewest.entries a said fewest.fewest.means x.below (subst (λ es. Judges es a said) same x.judged)) in
     let s = awoken (as_machine old) hart in
     let p = promised law old hart a value said right is in
+    let closed : (byte : ℕ) → IsMonitorByte old byte → Reaches a byte → (cause : Cause) × (said ≡ Err cause) = λ byte own reaches.
+    let fault = p.monitor a value byte refl own reaches.0 reaches.1 in
+    said_fault said s a fault.0 fault.1 in
     record {
       by_view = is;
       denied = λ id byte e own reaches other.
           let fault = p.denied a value id byte e refl own.0 own.1 reaches.0 reaches.1 other in
           said_fault said s a fault.0 fault.1;
-      monitor = λ byte own reaches.
-          let fault = p.monitor a value byte refl own reaches.0 reaches.1 in
-          said_fault said s a fault.0 fault.1;
+      closed = closed;
       private = λ id byte e own.
           let live : Live (state_after said s a value).table id e = subst (λ t. Live t id e) (sym (table_after said s a value)) own.0 in
           let bytes : new.memory byte ≡ (state_after said s a value).bytes byte = ap (λ (b : Board). b.memory byte) x.state ∙ sym (ap (λ m. m byte) (bytes_after said s a value)) in
@@ -144,4 +166,5 @@ access_kept law old hart a value said new right fewest x =
             | inl stays ↦ inl (bytes ∙ stays)
             | inr stores ↦ inr (own_store old hart a value said (reply_of said s a) id byte is stores)
           ];
+      monitor = λ byte own. ap (λ (b : Board). b.memory byte) x.state ∙ closed_stays said old.memory a value byte (closed byte own);
     }

@@ -1,6 +1,6 @@
 -- What holds of memory over a trap.
 use Rattle.std.proofs.Common.{◌≡◌, ◌∙◌, inl, inr, ℕ, ◌+◌, ◌/◌, ◌≤◌, ◌^◌, ◌||◌, true, false, if◌then◌else◌, List, Option, Some, None, IfSome, ap, sym, subst, arith}
-use Rattle.std.proofs.lemmas.Bool.{false_from_ne_true}
+use Rattle.std.proofs.lemmas.Bool.{both_ways, false_from_ne_true}
 use Rattle.pmp_encoding.specs.declared.pages.PageRange.{PageRange}
 use Rattle.pmp_encoding.specs.Views.{in_range}
 use Rattle.measurement.specs.Digests.{layout_of}
@@ -8,6 +8,7 @@ use Rattle.measurement.specs.Measured.{digest_of}
 use Rattle.measurement.specs.Requests.{is_part, is_private, is_shared}
 use Rattle.measurement.specs.declared.request.Create.{Create}
 use Rattle.sbi_decode.specs.Calls.{call_of}
+use Rattle.platforms.specs.Ranges.{has_page}
 use Rattle.enclave_table.specs.Enclaves.{EnclaveTable, Live, enclave_at}
 use Rattle.enclave_table.specs.Tables.{IsTable}
 use Rattle.enclave_table.specs.declared.enclave.Enclave.{Enclave}
@@ -58,6 +59,14 @@ private_stays (Some range) s new memory id byte e f right d live own now =
     let z : None ≡ Some f = sym gone.2 ∙ subst (λ n. enclave_at new.table.enclaves n ≡ Some f) (sym same) now in cc) in
     ap (λ b. if b then 0 else memory byte) outside
 
+-- pages that are made zero are none of the monitor's
+monitor_stays : (cleared : Option PageRange) (s new : MonitorState) (memory : ℕ → ℕ) (byte : ℕ) → IfSome cleared (AreDestroyed s new) → has_page s.table.layout.monitor (byte / 4096) ≡ true → cleared_by cleared memory byte ≡ memory byte
+monitor_stays None s new memory byte d own = ap (λ b. if b then 0 else memory byte) (none_in (byte / 4096))
+monitor_stays (Some range) s new memory byte d own =
+    let outside : in_range range.first range.count (byte / 4096) ≡ false = false_from_ne_true (in_range range.first range.count (byte / 4096)) (λ yes.
+    both_ways (has_page s.table.layout.monitor (byte / 4096)) (d.0.not_monitor (byte / 4096) yes) own) in
+    ap (λ b. if b then 0 else memory byte) outside
+
 -- the digest of a creation that was asked for is that of memory
 digest_is : (asked : Option Create) (s : MonitorState) (hart : ℕ) (question read digest : List ℕ) (memory : ℕ → ℕ) (parts : Create) → AsksFor asked s hart question read digest → ReadsMemory memory read → Measures asked s.table (s.worlds hart) parts
     → ((one : Create) → Measures asked s.table (s.worlds hart) one → one ≡ parts) → digest ≡ measured_in memory parts
@@ -90,9 +99,9 @@ new_digest Stop s trap given read question answered new memory id e right reads 
     absurd (made_irq (s.worlds hart) t hart x.mid id e none now x.step)
 
 pub trap_kept :
-    (old : Board) (trap : Trap) (read question answered : List ℕ) (new : Board) → IsTable old.monitor.table → DoesTrap old trap read question answered new → KeepsTrap old.monitor old.hosts trap read question answered new.monitor new.hosts
+    (old : Board) (trap : Trap) (frame read question answered : List ℕ) (new : Board) → IsTable old.monitor.table → DoesTrap old trap frame read question answered new → KeepsTrap old.monitor old.hosts trap read question answered new.monitor new.hosts
     → KeepsMemory old new
-trap_kept old trap read question answered new right x k =
+trap_kept old trap frame read question answered new right x k =
     let inside : IfSome k.cleared (λ range. range.first + range.count ≤ 2 ^ 44) = in_space k.cleared k.zeroes in
     let words = named new.monitor k.given trap.hart k.answer k.cleared k.woken answered k.says inside in
     let memory : (byte : ℕ) → new.memory byte ≡ cleared_by k.cleared old.memory byte = λ byte.
@@ -100,7 +109,8 @@ trap_kept old trap read question answered new right x k =
     ∙ ap (λ count. zeroed old.memory (pages_of k.cleared).first count byte) words.1 in
     record {
       private = λ id byte e f own now. memory byte ∙ private_stays k.cleared old.monitor new.monitor old.memory id byte e f right k.zeroes own.0 own.1 now.0;
-      gone = λ id gone byte. memory byte ∙ ap (λ cleared. cleared_by cleared old.memory byte) (k.destroys id gone);
+      monitor = λ byte own. memory byte ∙ monitor_stays k.cleared old.monitor new.monitor old.memory byte k.zeroes own;
+      zeroes = λ id gone byte. memory byte ∙ ap (λ cleared. cleared_by cleared old.memory byte) (k.destroys id gone);
       stays = λ none byte. memory byte ∙ all_stay k.cleared old.monitor new.monitor old.memory byte k.zeroes none;
       digest = λ id e none live. new_digest trap.event old.monitor trap x.served.given read question answered new.monitor old.memory id e right x.pages none live x.served.step;
     }

@@ -37,10 +37,11 @@ HasEntries board hart entries = MeansList
     (loaded_pairs (board.loaded hart) 0 (limit_number board.monitor.table.layout.limit)) entries
 
 -- what happens on a board: an access, with the value that a store puts and what the entries say of
--- it; or a trap, with the bytes of its pages, the question for them and the answer
+-- it; or a trap, with the bytes of its frame, those of its pages, the question for them and the
+-- answer
 pub data BoardEvent : Type 0 where
   access : (hart : ℕ) (a : Access) (value : ℕ) (said : Result (Unit {0}) Cause) → BoardEvent
-  trapped : (trap : Trap) (read question answered : List ℕ) → BoardEvent
+  trapped : (trap : Trap) (frame read question answered : List ℕ) → BoardEvent
 
 -- memory after an access that is allowed: a store puts its bytes, and no other changes any
 abbrev pub put_by : Kind → (ℕ → ℕ) → Access → ℕ → ℕ → ℕ
@@ -74,9 +75,8 @@ ReadsMemory memory read =
 -- a trap is served, and meanwhile no world runs. Its frame has any registers. The pages that were
 -- read are memory's; those that the answer names, in its words 6 and 7, are made zero; and each
 -- hart that it names or wakes loads its entries before any world goes on
-pub record DoesTrap (old : Board) (trap : Trap) (read question answered : List ℕ) (new : Board) :
-    Type 0 where
-  pub frame : List ℕ
+pub record DoesTrap (old : Board) (trap : Trap) (frame read question answered : List ℕ)
+    (new : Board) : Type 0 where
   pub size : length frame ≡ 352
   pub is_trap : IsTrapFrame frame old.monitor.table.layout.harts trap
   pub served : ServesTrap old.monitor old.hosts trap read question answered new.monitor new.hosts
@@ -87,10 +87,10 @@ pub record DoesTrap (old : Board) (trap : Trap) (read question answered : List �
       ≡ (if is_loaded answered hart then answered else old.loaded hart)
 
 -- an event happens on a board
-abbrev pub Happens : BoardEvent → Board → Board → Type 0
-Happens (access hart a value said) old new = DoesAccess old hart a value said new
-Happens (trapped trap read question answered) old new =
-    DoesTrap old trap read question answered new
+abbrev pub HappensOn : BoardEvent → Board → Board → Type 0
+HappensOn (access hart a value said) old new = DoesAccess old hart a value said new
+HappensOn (trapped trap frame read question answered) old new =
+    DoesTrap old trap frame read question answered new
 
 -- a board after boot: the opening state, any memory, and on each hart the entries of the first
 -- answer
@@ -107,5 +107,5 @@ pub data BoardRun (layout : PlatformLayout) (opened : List ℕ) : List BoardEven
     → Type 0 where
   booted : (memory : ℕ → ℕ) → BoardRun layout opened [] (booted_board layout opened memory)
   happened : {events : List BoardEvent} {old new : Board} → BoardRun layout opened events old
-      → (event : BoardEvent) → Happens event old new
+      → (event : BoardEvent) → HappensOn event old new
       → BoardRun layout opened (events ++ event ∷ []) new
