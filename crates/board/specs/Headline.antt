@@ -107,10 +107,11 @@ pub record IsServed (layout : PlatformLayout) (opened read written : List ℕ) (
       board.hosts
   pub loads : (hart : ℕ) → board.loaded hart ≡ loaded_last opened served hart
 
--- after any events: the traps among them are a run of the loop, by what was read and written. The table is sound, and the
--- platform is the one that was booted. Each hart is in the host's world or in that of an enclave
--- that is Running, and each of these runs on just one; no hart is to be woken. The entries that
--- each hart has loaded mean the view of its world, by the fewest that do. And what each event kept
+-- after any events: the traps among them are a run of the loop, by what was read and written. The
+-- table is sound, and the platform is the one that was booted. Each hart is in the host's world or
+-- in that of an enclave that is Running, and each of these runs on just one; none is to be woken.
+-- The entries that each hart has loaded mean the view of its world, by the fewest that do. And what
+-- each event kept
 pub record BoardHeadline (layout : PlatformLayout) (opened : List ℕ) (events : List BoardEvent)
     (board : Board) (run : BoardRun layout opened events board) : Type 0 where
   pub served : IsServed layout opened (read_on run) (written_on run) board
