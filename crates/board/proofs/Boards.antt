@@ -1,0 +1,60 @@
+-- What holds after every list of events on a board, by induction over them.
+use Rattle.std.proofs.Common.{◌∙◌, ℕ, ◌<◌, if◌then◌else◌, List, [], ◌∷◌, ◌++◌, Result, refl, ap, sym, subst}
+use Rattle.pmp_match.specs.declared.access.Access.{Access}
+use Rattle.pmp_match.specs.declared.cause.Cause.{Cause}
+use Rattle.platforms.specs.Platform.{IsLayout, PlatformLayout}
+use Rattle.enclave_table.specs.Views.{current_view}
+use Rattle.trap_server.specs.declared.trap.Trap.{Trap}
+use Rattle.trap_server.specs.Boot.{IsFirstAnswer}
+use Rattle.trap_server.specs.Firmware.{FirmwareHeadline, HasFewest, KeepsAll, is_loaded}
+use Rattle.trap_server.specs.Runs.{next_trap, no_trap}
+use Rattle.board.specs.Board.{Board, BoardEvent, BoardRun, DoesAccess, DoesTrap, HappensOn, access, trapped, booted, booted_board, happened}
+use Rattle.board.specs.Headline.{BoardHeadline, EachKeeps, IsServed, read_on, written_on}
+use Rattle.board.proofs.Accessed.{StepsPromise, access_kept}
+use Rattle.board.proofs.Trapped.{trap_kept}
+
+module _ (law : KeepsAll) (steps : StepsPromise) (layout : PlatformLayout) (opened : List ℕ) (rules : IsLayout layout) (answer : IsFirstAnswer layout opened) where
+  -- what the firmware's theorem says of the traps of a run
+  firmware : (read written : List ℕ) (board : Board) (x : IsServed layout opened read written board) → FirmwareHeadline layout opened read written board.monitor board.hosts x.served
+  firmware read written board x = law layout opened read written board.monitor board.hosts x.served rules answer
+
+  -- the headline of a board whose traps were served
+  headline : (events : List BoardEvent) (board : Board) (run : BoardRun layout opened events board) → IsServed layout opened (read_on run) (written_on run) board → EachKeeps run → BoardHeadline layout opened events board run
+  headline events board run served each =
+      let f = firmware (read_on run) (written_on run) board served in
+      record {
+        served = served;
+        table = f.table;
+        platform = f.platform;
+        worlds = f.worlds;
+        awake = f.awake;
+        banks = λ hart low. subst (λ bytes. HasFewest bytes layout.limit (current_view board.monitor.table (board.monitor.worlds hart))) (sym (served.loads hart)) (f.banks hart low);
+        each = each;
+      }
+
+  -- an access is no trap
+  still_served : (read written : List ℕ) (old : Board) (hart : ℕ) (a : Access) (value : ℕ) (said : Result (Unit {0}) Cause) (new : Board) → IsServed layout opened read written old → DoesAccess old hart a value said new → IsServed layout opened read written new
+  still_served read written old hart a value said new before x = subst (IsServed layout opened read written) (sym x.state) (record { served = before.served; loads = before.loads })
+
+  -- a trap more
+  abbrev next_served :
+      (came gone : List ℕ) (old : Board) (trap : Trap) (frame read question answered : List ℕ) (new : Board) → IsServed layout opened came gone old → DoesTrap old trap frame read question answered new → IsServed layout opened (came ++ (frame ++ read)) (gone ++ (question ++ answered)) new
+  next_served came gone old trap frame read question answered new before x = record {
+    served = next_trap before.served trap frame read question answered new.monitor new.hosts x.size x.is_trap x.served;
+    loads = λ hart. x.loads hart ∙ ap (λ bytes. if is_loaded answered hart then answered else bytes) (before.loads hart);
+  }
+
+  by_event : (events : List BoardEvent) (old new : Board) (run : BoardRun layout opened events old) (event : BoardEvent) (happens : HappensOn event old new) → BoardHeadline layout opened events old run
+      → BoardHeadline layout opened (events ++ event ∷ []) new (happened run event happens)
+  by_event events old new run (access hart a value said) x before =
+      let under : hart < layout.harts = subst (λ l. hart < l.harts) before.platform x.known in
+      let fewest = subst (λ l. HasFewest (old.loaded hart) l.limit (current_view old.monitor.table (old.monitor.worlds hart))) (sym before.platform) (before.banks hart under) in
+      headline (events ++ access hart a value said ∷ []) new (happened run (access hart a value said) x) (still_served (read_on run) (written_on run) old hart a value said new before.served x) (before.each, access_kept steps old hart a value said new before.table fewest x)
+  by_event events old new run (trapped trap frame read question answered) x before =
+      let next = next_served (read_on run) (written_on run) old trap frame read question answered new before.served x in
+      let k = (firmware (read_on run ++ (frame ++ read)) (written_on run ++ (question ++ answered)) new next).each.1 in
+      headline (events ++ trapped trap frame read question answered ∷ []) new (happened run (trapped trap frame read question answered) x) next (before.each, trap_kept old trap frame read question answered new before.table x k)
+
+  pub board_kept : (events : List BoardEvent) (board : Board) (run : BoardRun layout opened events board) → BoardHeadline layout opened events board run
+  board_kept _ _ (booted memory) = headline [] (booted_board layout opened memory) (booted memory) (record { served = no_trap; loads = λ hart. refl }) tt
+  board_kept _ _ (happened {events = events} {old = old} {new = new} run event happens) = by_event events old new run event happens (board_kept events old run)

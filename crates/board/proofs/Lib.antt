@@ -1,0 +1,5 @@
+mod Named
+mod Made
+mod Accessed
+mod Trapped
+mod Boards

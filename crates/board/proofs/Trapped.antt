@@ -1,0 +1,120 @@
+-- What holds of memory over a trap.
+use Rattle.std.proofs.Common.{◌≡◌, ◌∙◌, inl, inr, ℕ, ◌+◌, ◌/◌, ◌≤◌, ◌^◌, ◌||◌, true, false, if◌then◌else◌, List, Option, Some, None, IfSome, ap, sym, subst, arith}
+use Rattle.std.proofs.lemmas.Bool.{both_ways, false_from_ne_true}
+use Rattle.pmp_encoding.specs.declared.pages.PageRange.{PageRange}
+use Rattle.pmp_encoding.specs.Views.{in_range}
+use Rattle.measurement.specs.Digests.{layout_of}
+use Rattle.measurement.specs.Measured.{digest_of}
+use Rattle.measurement.specs.Requests.{is_part, is_private, is_shared}
+use Rattle.measurement.specs.declared.request.Create.{Create}
+use Rattle.sbi_decode.specs.Calls.{call_of}
+use Rattle.platforms.specs.Ranges.{has_page}
+use Rattle.enclave_table.specs.Enclaves.{EnclaveTable, Live, enclave_at}
+use Rattle.enclave_table.specs.Tables.{IsTable}
+use Rattle.enclave_table.specs.declared.enclave.Enclave.{Enclave}
+use Rattle.monitor_core.specs.Changes.{past_call, with_running}
+use Rattle.monitor_core.specs.Measured.{Measures, asked_in}
+use Rattle.monitor_core.specs.States.{MonitorState}
+use Rattle.monitor_core.specs.Switches.{IsGone}
+use Rattle.hart_sim.specs.Memory.{measured_in, zeroed}
+use Rattle.trap_server.specs.declared.trap.TrapEvent.{TrapEvent}
+use Rattle.trap_server.specs.declared.trap.TrapEvent.TheVariants.{Call, Stop}
+use Rattle.trap_server.specs.declared.trap.Trap.{Trap}
+use Rattle.trap_server.specs.declared.words.ControlWords.{ControlWords}
+use Rattle.trap_server.specs.Answers.{pages_of}
+use Rattle.trap_server.specs.Firmware.{AreDestroyed, KeepsTrap}
+use Rattle.trap_server.specs.Service.{AsksFor, ServesAs}
+use Rattle.trap_server.specs.Words.{word_at}
+use Rattle.board.specs.Board.{Board, DoesTrap, ReadsMemory}
+use Rattle.board.specs.Headline.{KeepsMemory}
+use Rattle.board.proofs.Made.{Absent, made_call, made_irq}
+use Rattle.board.proofs.Named.{named}
+
+-- no page is one of none
+none_in : (page : ℕ) → in_range 0 0 page ≡ false
+none_in page = false_from_ne_true (in_range 0 0 page) (λ yes. absurd (grind (arith, yes)))
+
+-- a page that is private is a part
+as_part : (parts : Create) (page : ℕ) → is_private parts page ≡ true → is_part parts page ≡ true
+as_part parts page is = ap (λ b. b || is_shared parts page) is
+
+-- memory with the pages of a range zero, where there is one
+abbrev pub cleared_by : Option PageRange → (ℕ → ℕ) → ℕ → ℕ
+cleared_by cleared memory = zeroed memory (pages_of cleared).first (pages_of cleared).count
+
+-- where no enclave is gone no pages are made zero
+all_stay : (cleared : Option PageRange) (s new : MonitorState) (memory : ℕ → ℕ) (byte : ℕ) → IfSome cleared (AreDestroyed s new) → ((id : ℕ) → IsGone s new id → ⊥) → cleared_by cleared memory byte ≡ memory byte
+all_stay None s new memory byte d none = ap (λ b. if b then 0 else memory byte) (none_in (byte / 4096))
+all_stay (Some range) s new memory byte d none = absurd (none d.1.0 d.1.1)
+
+-- pages that are made zero are private to no enclave that is live before and after
+private_stays : (cleared : Option PageRange) (s new : MonitorState) (memory : ℕ → ℕ) (id byte : ℕ) (e f : Enclave) → IsTable s.table → IfSome cleared (AreDestroyed s new) → Live s.table id e → is_private e.parts (byte / 4096) ≡ true → Live new.table id f
+    → cleared_by cleared memory byte ≡ memory byte
+private_stays None s new memory id byte e f right d live own now = ap (λ b. if b then 0 else memory byte) (none_in (byte / 4096))
+private_stays (Some range) s new memory id byte e f right d live own now =
+    let gone = d.1.1 in
+    let outside : in_range range.first range.count (byte / 4096) ≡ false = false_from_ne_true (in_range range.first range.count (byte / 4096)) (λ yes.
+    let theirs : is_private gone.0.parts (byte / 4096) ≡ true = ap (λ (r : PageRange). in_range r.first r.count (byte / 4096)) (sym d.1.2) ∙ yes in
+    let same : d.1.0 ≡ id = right.alone d.1.0 id gone.0 e (byte / 4096) gone.1 live (as_part gone.0.parts (byte / 4096) theirs) (as_part e.parts (byte / 4096) own) in
+    let z : None ≡ Some f = sym gone.2 ∙ subst (λ n. enclave_at new.table.enclaves n ≡ Some f) (sym same) now in cc) in
+    ap (λ b. if b then 0 else memory byte) outside
+
+-- pages that are made zero are none of the monitor's
+monitor_stays : (cleared : Option PageRange) (s new : MonitorState) (memory : ℕ → ℕ) (byte : ℕ) → IfSome cleared (AreDestroyed s new) → has_page s.table.layout.monitor (byte / 4096) ≡ true → cleared_by cleared memory byte ≡ memory byte
+monitor_stays None s new memory byte d own = ap (λ b. if b then 0 else memory byte) (none_in (byte / 4096))
+monitor_stays (Some range) s new memory byte d own =
+    let outside : in_range range.first range.count (byte / 4096) ≡ false = false_from_ne_true (in_range range.first range.count (byte / 4096)) (λ yes.
+    both_ways (has_page s.table.layout.monitor (byte / 4096)) (d.0.not_monitor (byte / 4096) yes) own) in
+    ap (λ b. if b then 0 else memory byte) outside
+
+-- the digest of a creation that was asked for is that of memory
+digest_is : (asked : Option Create) (s : MonitorState) (hart : ℕ) (question read digest : List ℕ) (memory : ℕ → ℕ) (parts : Create) → AsksFor asked s hart question read digest → ReadsMemory memory read → Measures asked s.table (s.worlds hart) parts
+    → ((one : Create) → Measures asked s.table (s.worlds hart) one → one ≡ parts) → digest ≡ measured_in memory parts
+digest_is asked s hart question read digest memory parts (inl none) reads m only = absurd (none.2 parts m)
+digest_is asked s hart question read digest memory parts (inr some) reads m only =
+    let one = some.0 in
+    let are = reads (one.base / 4096) (one.text_pages + one.data_pages) some.3 some.4 in
+    some.5 ∙ ap (digest_of (layout_of one)) are ∙ ap (measured_in memory) (only one some.1)
+
+-- the parts that are measured are those that were asked for
+only_parts : (asked : Option Create) (table : EnclaveTable) (s : MonitorState) (hart : ℕ) (parts one : Create) → Measures asked s.table (s.worlds hart) parts → Measures asked s.table (s.worlds hart) one → one ≡ parts
+only_parts None table s hart parts one m n = absurd m
+only_parts (Some asked) table s hart parts one m n = n.0 ∙ sym m.0
+
+new_digest :
+    (event : TrapEvent) (s : MonitorState) (trap : Trap) (given : ControlWords) (read question answered : List ℕ) (new : MonitorState) (memory : ℕ → ℕ) (id : ℕ) (e : Enclave) → IsTable s.table → ReadsMemory memory read → Absent s.table id → Live new.table id e
+    → ServesAs event s trap given read question answered new → e.digest ≡ measured_in memory e.parts
+new_digest Call s trap given read question answered new memory id e right reads none live x =
+    let hart = trap.hart in
+    let file = past_call trap.registers in
+    let t = with_running s hart file in
+    let now : Live x.mid.table id e = subst (λ (y : MonitorState). Live y.table id e) x.woken live in
+    let made = made_call (call_of file) (λ parts. x.digest) t hart x.answer x.cleared x.mid id e right none now x.step in
+    let asked = asked_in (call_of trap.registers) in
+    made.1 ∙ digest_is asked s hart question read x.digest memory e.parts x.asks reads made.0 (λ one m. only_parts asked s.table s hart e.parts one made.0 m)
+new_digest Stop s trap given read question answered new memory id e right reads none live x =
+    let hart = trap.hart in
+    let t = with_running s hart trap.registers in
+    let now : Live x.mid.table id e = subst (λ (y : MonitorState). Live y.table id e) x.woken live in
+    absurd (made_irq (s.worlds hart) t hart x.mid id e none now x.step)
+
+pub trap_kept :
+    (old : Board) (trap : Trap) (frame read question answered : List ℕ) (new : Board) → IsTable old.monitor.table → DoesTrap old trap frame read question answered new → KeepsTrap old.monitor old.hosts trap read question answered new.monitor new.hosts
+    → KeepsMemory old new
+trap_kept old trap frame read question answered new right x k =
+    let inside : IfSome k.cleared (λ range. range.first + range.count ≤ 2 ^ 44) = in_space k.cleared k.zeroes in
+    let words = named new.monitor k.given trap.hart k.answer k.cleared k.woken answered k.says inside in
+    let memory : (byte : ℕ) → new.memory byte ≡ cleared_by k.cleared old.memory byte = λ byte.
+    x.cleared byte ∙ ap (λ first. zeroed old.memory first (word_at answered 7) byte) words.0
+    ∙ ap (λ count. zeroed old.memory (pages_of k.cleared).first count byte) words.1 in
+    record {
+      private = λ id byte e f own now. memory byte ∙ private_stays k.cleared old.monitor new.monitor old.memory id byte e f right k.zeroes own.0 own.1 now.0;
+      monitor = λ byte own. memory byte ∙ monitor_stays k.cleared old.monitor new.monitor old.memory byte k.zeroes own;
+      zeroes = λ id gone byte. memory byte ∙ ap (λ cleared. cleared_by cleared old.memory byte) (k.destroys id gone);
+      stays = λ none byte. memory byte ∙ all_stay k.cleared old.monitor new.monitor old.memory byte k.zeroes none;
+      digest = λ id e none live. new_digest trap.event old.monitor trap x.served.given read question answered new.monitor old.memory id e right x.pages none live x.served.step;
+    }
+  where
+    in_space : (cleared : Option PageRange) → IfSome cleared (AreDestroyed old.monitor new.monitor) → IfSome cleared (λ range. range.first + range.count ≤ 2 ^ 44)
+    in_space None d = tt
+    in_space (Some range) d = d.0.inside

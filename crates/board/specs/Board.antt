@@ -1,0 +1,111 @@
+-- A board: harts that load what the monitor answers, memory, and worlds that run between its traps.
+use Rattle.std.specs.Prelude.{◌≡◌, ◌≢◌, ℕ, ◌*◌, ◌<◌, if◌then◌else◌, List, [], ◌++◌, ◌∷◌, length}
+use Rattle.std.specs.Prelude.{Result, Ok, Err}
+use Rattle.pmp_encoding.specs.declared.region.Entry.{Entry}
+use Rattle.pmp_encoding.specs.Limits.{limit_number}
+use Rattle.pmp_encoding.specs.Lists.{MeansList}
+use Rattle.pmp_match.specs.declared.access.Access.{Access}
+use Rattle.pmp_match.specs.declared.access.Kind.{Kind}
+use Rattle.pmp_match.specs.declared.access.Kind.TheVariants.{Fetch, Load, Store}
+use Rattle.pmp_match.specs.declared.access.Mode.TheVariants.{Machine}
+use Rattle.pmp_match.specs.declared.cause.Cause.{Cause}
+use Rattle.pmp_match.specs.Judgement.{Judges}
+use Rattle.measurement.specs.Digests.{pages_from}
+use Rattle.platforms.specs.Platform.{PlatformLayout}
+use Rattle.monitor_core.specs.States.{MonitorState, opening_monitor}
+use Rattle.hart_sim.specs.Memory.{bytes_at, stored, zeroed}
+use Rattle.trap_server.specs.declared.trap.Trap.{Trap}
+use Rattle.trap_server.specs.declared.words.ControlWords.{ControlWords}
+use Rattle.trap_server.specs.Firmware.{is_loaded, loaded_pairs}
+use Rattle.trap_server.specs.PageDigest.{ArePages}
+use Rattle.trap_server.specs.Runs.{first_words}
+use Rattle.trap_server.specs.Service.{ServesTrap}
+use Rattle.trap_server.specs.Traps.{IsTrapFrame}
+use Rattle.trap_server.specs.Words.{word_at}
+
+-- the state of the monitor, the control words that its loop keeps, the byte at each address, and
+-- for each hart the bytes of the answer whose entries it loaded last
+pub record Board : Type 0 where
+  pub monitor : MonitorState
+  pub hosts : ℕ → ControlWords
+  pub memory : ℕ → ℕ
+  pub loaded : ℕ → List ℕ
+
+-- the PMP registers of a hart have this list
+abbrev pub HasEntries : Board → ℕ → List Entry → Type 0
+HasEntries board hart entries = MeansList
+    (loaded_pairs (board.loaded hart) 0 (limit_number board.monitor.table.layout.limit)) entries
+
+-- what happens on a board: an access, with the value that a store puts and what the entries say of
+-- it; or a trap, with the bytes of its frame, those of its pages, the question for them and the
+-- answer
+pub data BoardEvent : Type 0 where
+  access : (hart : ℕ) (a : Access) (value : ℕ) (said : Result (Unit {0}) Cause) → BoardEvent
+  trapped : (trap : Trap) (frame read question answered : List ℕ) → BoardEvent
+
+-- memory after an access that is allowed: a store puts its bytes, and no other changes any
+abbrev pub put_by : Kind → (ℕ → ℕ) → Access → ℕ → ℕ → ℕ
+put_by Fetch memory a value = memory
+put_by Load memory a value = memory
+put_by Store memory a value = stored memory a.address a.size value
+
+-- memory after an access, by what the entries say of it: a fault changes nothing
+abbrev pub memory_after : Result (Unit {0}) Cause → (ℕ → ℕ) → Access → ℕ → ℕ → ℕ
+memory_after (Err cause) memory a value = memory
+memory_after (Ok done) memory a value = put_by a.kind memory a value
+
+-- a world below machine mode makes an access, of any kind, address and value, and the entries of
+-- its hart say of it what they say. What the world does with its registers is anything: no board
+-- knows of them until the next trap
+pub record DoesAccess (old : Board) (hart : ℕ) (a : Access) (value : ℕ)
+    (said : Result (Unit {0}) Cause) (new : Board) : Type 0 where
+  pub known : hart < old.monitor.table.layout.harts
+  pub below : a.mode ≢ Machine
+  pub entries : List Entry
+  pub loaded : HasEntries old hart entries
+  pub judged : Judges entries a said
+  pub state : new ≡ record old { memory = memory_after said old.memory a value }
+
+-- the frames of pages that were read have the bytes of memory, whichever pages they are
+abbrev pub ReadsMemory : (ℕ → ℕ) → List ℕ → Type 0
+ReadsMemory memory read =
+    (first count : ℕ) (pages : List (List ℕ)) → ArePages first count read pages
+    → pages ≡ pages_from (λ page. bytes_at memory (page * 4096) 4096) first count
+
+-- a trap is served, and meanwhile no world runs. Its frame has any registers. The pages that were
+-- read are memory's; those that the answer names, in its words 6 and 7, are made zero; and each
+-- hart that it names or wakes loads its entries before any world goes on
+pub record DoesTrap (old : Board) (trap : Trap) (frame read question answered : List ℕ)
+    (new : Board) : Type 0 where
+  pub size : length frame ≡ 352
+  pub is_trap : IsTrapFrame frame old.monitor.table.layout.harts trap
+  pub served : ServesTrap old.monitor old.hosts trap read question answered new.monitor new.hosts
+  pub pages : ReadsMemory old.memory read
+  pub cleared : (byte : ℕ) → new.memory byte
+      ≡ zeroed old.memory (word_at answered 6) (word_at answered 7) byte
+  pub loads : (hart : ℕ) → new.loaded hart
+      ≡ (if is_loaded answered hart then answered else old.loaded hart)
+
+-- an event happens on a board
+abbrev pub HappensOn : BoardEvent → Board → Board → Type 0
+HappensOn (access hart a value said) old new = DoesAccess old hart a value said new
+HappensOn (trapped trap frame read question answered) old new =
+    DoesTrap old trap frame read question answered new
+
+-- a board after boot: the opening state, any memory, and on each hart the entries of the first
+-- answer
+abbrev pub booted_board : PlatformLayout → List ℕ → (ℕ → ℕ) → Board
+booted_board layout opened memory = record {
+  monitor = opening_monitor layout;
+  hosts = first_words;
+  memory = memory;
+  loaded = λ hart. opened;
+}
+
+-- events that happen one after another on a board, after boot
+pub data BoardRun (layout : PlatformLayout) (opened : List ℕ) : List BoardEvent → Board
+    → Type 0 where
+  booted : (memory : ℕ → ℕ) → BoardRun layout opened [] (booted_board layout opened memory)
+  happened : {events : List BoardEvent} {old new : Board} → BoardRun layout opened events old
+      → (event : BoardEvent) → HappensOn event old new
+      → BoardRun layout opened (events ++ event ∷ []) new

@@ -1,0 +1,131 @@
+-- What holds of a board after boot and any list of events.
+use Rattle.std.specs.Prelude.{◌≡◌, ◌≢◌, ◌⊎◌, ℕ, ◌/◌, ◌<◌, true, if◌then◌else◌, List, [], ◌++◌}
+use Rattle.std.specs.Prelude.{None, Result, Ok, Err, ⊤}
+use Rattle.pmp_match.specs.declared.access.Access.{Access}
+use Rattle.pmp_match.specs.Accesses.{Reaches}
+use Rattle.pmp_match.specs.declared.access.Kind.TheVariants.{Store}
+use Rattle.pmp_match.specs.declared.cause.Cause.{Cause}
+use Rattle.sbi_decode.specs.declared.world.World.TheVariants.{Enclave as InEnclave}
+use Rattle.measurement.specs.Requests.{is_private}
+use Rattle.platforms.specs.Platform.{IsLayout, PlatformLayout}
+use Rattle.platforms.specs.Ranges.{has_page}
+use Rattle.enclave_table.specs.Enclaves.{Live, enclave_at}
+use Rattle.enclave_table.specs.Tables.{IsTable}
+use Rattle.enclave_table.specs.Views.{current_view}
+use Rattle.enclave_table.specs.declared.enclave.Enclave.{Enclave}
+use Rattle.monitor_core.specs.States.{opening_monitor}
+use Rattle.monitor_core.specs.Switches.{IsGone}
+use Rattle.monitor_core.specs.Worlds.{ArePlaced}
+use Rattle.hart_sim.specs.Memory.{measured_in}
+use Rattle.hart_sim.specs.Steps.{verdict}
+use Rattle.trap_server.specs.Answered.{AreAwake}
+use Rattle.trap_server.specs.Boot.{IsFirstAnswer}
+use Rattle.trap_server.specs.Firmware.{HasFewest, loaded_last}
+use Rattle.trap_server.specs.Runs.{ServesTraps, first_words}
+use Rattle.board.specs.Board.{Board, BoardEvent, BoardRun, access, trapped, booted}
+use Rattle.board.specs.Board.{happened}
+
+-- a byte of a page that is private to an enclave
+abbrev pub IsPrivateByte : Board → ℕ → Enclave → ℕ → Type 0
+IsPrivateByte board id e byte = Live board.monitor.table id e
+    × (is_private e.parts (byte / 4096) ≡ true)
+
+-- a byte of a page of the monitor's
+abbrev pub IsMonitorByte : Board → ℕ → Type 0
+IsMonitorByte board byte = has_page board.monitor.table.layout.monitor (byte / 4096) ≡ true
+
+-- the access is a store that was allowed, by that enclave, and reaches the byte
+pub record IsOwnStore (board : Board) (hart : ℕ) (a : Access) (said : Result (Unit {0}) Cause)
+    (id byte : ℕ) : Type 0 where
+  pub store : a.kind ≡ Store
+  pub allowed : said ≡ Ok tt
+  pub own : board.monitor.worlds hart ≡ InEnclave id
+  pub reaches : Reaches a byte
+
+-- what holds of each access: the entries of its hart say what the view of its world says. An access
+-- that reaches a page which is private to an enclave, by any other world, is a fault, and so is any
+-- that reaches a page of the monitor. A byte of such a private page stays, but for the enclave's
+-- own stores, and a byte of the monitor's pages stays
+pub record KeepsAccess (old : Board) (hart : ℕ) (a : Access) (said : Result (Unit {0}) Cause)
+    (new : Board) : Type 0 where
+  pub by_view : said ≡ verdict (current_view old.monitor.table (old.monitor.worlds hart)) a
+  pub denied : (id byte : ℕ) (e : Enclave) → IsPrivateByte old id e byte → Reaches a byte
+      → old.monitor.worlds hart ≢ InEnclave id → (cause : Cause) × (said ≡ Err cause)
+  pub closed : (byte : ℕ) → IsMonitorByte old byte → Reaches a byte
+      → (cause : Cause) × (said ≡ Err cause)
+  pub private : (id byte : ℕ) (e : Enclave) → IsPrivateByte old id e byte
+      → (new.memory byte ≡ old.memory byte) ⊎ IsOwnStore old hart a said id byte
+  pub monitor : (byte : ℕ) → IsMonitorByte old byte → new.memory byte ≡ old.memory byte
+
+-- what holds of each trap. A byte of a page that is private to an enclave before it and after it
+-- stays, and so does a byte of the monitor's pages. Where an enclave is no more, each byte of its
+-- private pages is zero, and every other byte stays; where none is gone, every byte stays. An
+-- enclave that is new has the digest of its private pages as they are in memory at that moment
+pub record KeepsMemory (old new : Board) : Type 0 where
+  pub private : (id byte : ℕ) (e f : Enclave) → IsPrivateByte old id e byte
+      → IsPrivateByte new id f byte → new.memory byte ≡ old.memory byte
+  pub monitor : (byte : ℕ) → IsMonitorByte old byte → new.memory byte ≡ old.memory byte
+  pub zeroes : (id : ℕ) (gone : IsGone old.monitor new.monitor id) (byte : ℕ)
+      → new.memory byte ≡ (if is_private gone.0.parts (byte / 4096) then 0 else old.memory byte)
+  pub stays : ((id : ℕ) → IsGone old.monitor new.monitor id → ⊥) → (byte : ℕ)
+      → new.memory byte ≡ old.memory byte
+  pub digest : (id : ℕ) (e : Enclave) → enclave_at old.monitor.table.enclaves id ≡ None
+      → Live new.monitor.table id e → e.digest ≡ measured_in old.memory e.parts
+
+-- what holds of an event
+abbrev pub Keeps : BoardEvent → Board → Board → Type 0
+Keeps (access hart a value said) old new = KeepsAccess old hart a said new
+Keeps (trapped trap frame read question answered) old new = KeepsMemory old new
+
+-- so it is for each event of a run
+abbrev pub EachKeeps : {layout : PlatformLayout} {opened : List ℕ} {events : List BoardEvent}
+    {board : Board} → BoardRun layout opened events board → Type 0
+EachKeeps (booted memory) = ⊤
+EachKeeps (happened {old = old} {new = new} run event happens) = EachKeeps run × Keeps event old new
+
+-- what was read in the traps of a run: their frames, and their pages
+abbrev pub read_on : {layout : PlatformLayout} {opened : List ℕ} {events : List BoardEvent}
+    {board : Board} → BoardRun layout opened events board → List ℕ
+read_on (booted memory) = []
+read_on (happened run (access hart a value said) does) = read_on run
+read_on (happened run (trapped trap frame read question answered) does) =
+    read_on run ++ (frame ++ read)
+
+-- what was written in them: the questions for pages, and the answers
+abbrev pub written_on : {layout : PlatformLayout} {opened : List ℕ} {events : List BoardEvent}
+    {board : Board} → BoardRun layout opened events board → List ℕ
+written_on (booted memory) = []
+written_on (happened run (access hart a value said) does) = written_on run
+written_on (happened run (trapped trap frame read question answered) does) =
+    written_on run ++ (question ++ answered)
+
+-- the traps are a run of the loop, which read and wrote these bytes, and each hart has loaded what
+-- its answers say
+pub record IsServed (layout : PlatformLayout) (opened read written : List ℕ) (board : Board) :
+    Type 0 where
+  pub served : ServesTraps (opening_monitor layout) first_words read written board.monitor
+      board.hosts
+  pub loads : (hart : ℕ) → board.loaded hart ≡ loaded_last opened served hart
+
+-- after any events: the traps among them are a run of the loop, by what was read and written. The
+-- table is sound, and the platform is the one that was booted. Each hart is in the host's world or
+-- in that of an enclave that is Running, and each of these runs on just one; none is to be woken.
+-- The entries that each hart has loaded mean the view of its world, by the fewest that do. And what
+-- each event kept
+pub record BoardHeadline (layout : PlatformLayout) (opened : List ℕ) (events : List BoardEvent)
+    (board : Board) (run : BoardRun layout opened events board) : Type 0 where
+  pub served : IsServed layout opened (read_on run) (written_on run) board
+  pub table : IsTable board.monitor.table
+  pub platform : board.monitor.table.layout ≡ layout
+  pub worlds : ArePlaced board.monitor
+  pub awake : AreAwake board.monitor
+  pub banks : (hart : ℕ) → hart < layout.harts
+      → HasFewest (board.loaded hart) layout.limit
+      (current_view board.monitor.table (board.monitor.worlds hart))
+  pub each : EachKeeps run
+
+-- so it is on every platform that keeps its rules, one to four harts, from any memory
+abbrev pub KeepsBoards : Type 0
+KeepsBoards = (layout : PlatformLayout) (opened : List ℕ) (events : List BoardEvent) (board : Board)
+    (run : BoardRun layout opened events board) → IsLayout layout → IsFirstAnswer layout opened
+    → BoardHeadline layout opened events board run

@@ -1,0 +1,19 @@
+//! The law of a board that the firmware runs on.
+
+ghost use Rattle.board.specs.Headline.{KeepsBoards};
+
+use hart_sim::step_law;
+use trap_server::firmware_law;
+
+/// After any events on a board, from boot on with any memory: the traps among them are a run of the loop, so
+/// `firmware_law` holds of them. The entries that each hart has loaded mean the view of its world, by the fewest that
+/// do. Each access was allowed exactly as that view allows it. Private pages were read by nobody but their enclave,
+/// and their bytes changed by its own stores alone; nobody reached the monitor's pages. The private pages of an
+/// enclave that was destroyed were zero after that trap, and no other byte changed in any. Each enclave has the
+/// digest of its private pages as they were in memory when it was created.
+pub fn board_law()
+    ensures { KeepsBoards }
+{
+    firmware_law();
+    step_law();
+}
