@@ -19,6 +19,8 @@ _Static_assert(sizeof(struct world) == 36 * 8, "trap.S counts on it");
 void run_world(struct world *world);
 uint64_t instructions(void);
 extern volatile uint32_t halted[MOST_HARTS];
+/* The harts that a hart interrupts once it has let go of the monitor, hart h in bit h. */
+extern volatile uint32_t to_raise[MOST_HARTS];
 
 /* pmp.S: the words of configuration and the addresses are loaded, then sfence.vma. */
 struct bank {
@@ -30,6 +32,9 @@ void load_bank(const struct bank *bank);
 extern struct world worlds[MOST_HARTS];
 extern struct bank banks[MOST_HARTS];
 extern uint64_t world_number[MOST_HARTS];
+/* Whether a hart's world, its entries or pages are others than when it last left machine mode, or the host asked for a fence.
+   Then it loads its entries, and executes sfence.vma and fence.i, before it goes on. */
+extern uint8_t is_stale[MOST_HARTS];
 _Noreturn void serve(void);
 
 /* traps.c: runs the hart's world until the monitor has to know of a trap, and says which it is: TAG_CALL or TAG_STOP. */
@@ -67,10 +72,13 @@ void start_others(void);
 void park(void);
 void unpark(unsigned hart);
 
-/* timer.c */
+/* timer.c: machine mode's timer, and the host's, which is stimecmp where the hart has it. */
 void timer_off(void);
 void timer_at(uint64_t time);
 uint64_t timer_now(void);
+void host_timer_begin(int has_stimecmp);
+void host_timer_at(uint64_t time);
+void host_timer_came(void);
 
 /* sbi.c: answers a call of the host that is none of the monitor's, where it is one. */
 int board_call(struct world *world);
@@ -86,8 +94,11 @@ void *memcpy(void *to, const void *from, size_t n);
 void *memmove(void *to, const void *from, size_t n);
 void *memset(void *to, int value, size_t n);
 
-/* The platform that the build was made for, as a frame. */
+/* The platform as a frame: that of the build until find_board has looked what of it is there. */
 extern const struct platform_frame *platform;
+
+/* board.c: of the platform the harts and the memory that the board's device tree has, and the tree as the host gets it. */
+void find_board(uint64_t tree);
 
 #define READ(csr)                                                                                                      \
     ({                                                                                                                 \

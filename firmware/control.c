@@ -51,10 +51,14 @@
 #define HOSTS_EXCEPTIONS 0xf0b5fful
 #endif
 
+/* Cycles, time and instructions. The host's programs read them until it closes them: Linux's read the time. */
+#define COUNTERS 7ul
+
 /* What a hart begins with: its first world is the host, in supervisor mode. */
 static const struct control_words at_start = {
     .status = WIDTH_64,
     .mie = MONITORS_INTERRUPTS,
+    .scounteren = COUNTERS,
     .medeleg = HOSTS_EXCEPTIONS,
     .mideleg = HOSTS_INTERRUPTS,
     .mode = MPP_SUPERVISOR,
@@ -106,6 +110,9 @@ void control_write(const struct control_words *words)
     worlds[hart].mode = words->mode;
 }
 
+/* Of menvcfg: a hart that has stimecmp says so in its device tree (Sstc), and the host writes it. User mode never does. */
+#define STCE (1ul << 63)
+
 #define SIE (1ul << 1)
 #define SPIE (1ul << 5)
 #define SPP (1ul << 8)
@@ -134,9 +141,9 @@ void control_at_start(void)
     find_registers(this_hart());
     WRITE(mstatus, at_start.status);
     control_write(&at_start);
-    WRITE(mcounteren, 7);
+    WRITE(mcounteren, COUNTERS);
     if (IS_THERE(0x30a)) /* menvcfg */
-        WRITE(0x30a, 0);
+        WRITE(0x30a, STCE);
     CLEAR(mip, SOFTWARE_OF_SUPERVISOR | TIMER_OF_SUPERVISOR);
-    timer_off();
+    host_timer_begin(IS_THERE(0x14d)); /* stimecmp */
 }

@@ -43,7 +43,7 @@ void interrupt_supervisor(unsigned hart)
         return;
     }
     is_interrupted[hart] = 1;
-    software_interrupt[hart] = 1;
+    to_raise[this_hart()] |= 1u << hart;
 }
 
 /* A stop has had its effect: the hart stood still. It has the monitor now, so that no other asks it for anything. */
@@ -51,6 +51,7 @@ void take_requests(void)
 {
     unsigned self = this_hart();
     software_interrupt[self] = 0;
+    __asm__ volatile("fence" ::: "memory"); /* a later wish of another hart comes after this */
     if (is_interrupted[self] && hart_state[self] == STARTED)
         SET(mip, SOFTWARE_OF_SUPERVISOR);
     is_interrupted[self] = 0;

@@ -1,6 +1,7 @@
 /*
  * void load_bank(const struct bank *): the addresses first, then the configuration, so that no entry is in force with
  * another's address; in machine mode none of them binds meanwhile, since none is locked. ENTRIES is how many the hart has.
+ * Translations that may hold the old permissions are dropped, those of a guest too where the hart has guests.
  */
     .text
     .globl  load_bank
@@ -30,4 +31,8 @@ load_bank:
     .endr
 #endif
     sfence.vma
-    ret
+    csrr    t0, misa
+    andi    t0, t0, 1 << 7      # H
+    beqz    t0, 1f
+    .insn   r 0x73, 0, 0x31, x0, x0, x0 # hfence.gvma
+1:  ret

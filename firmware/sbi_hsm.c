@@ -41,6 +41,7 @@ static struct sbiret hart_start(uint64_t hart, uint64_t start_addr, uint64_t opa
     worlds[hart].pc = start_addr;
     worlds[hart].x[10] = hart;
     worlds[hart].x[11] = opaque;
+    is_stale[hart] = 1;
     hart_state[hart] = START_PENDING;
     unpark((unsigned)hart);
     return (struct sbiret){SBI_SUCCESS, 0};

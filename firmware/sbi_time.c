@@ -5,7 +5,6 @@ struct sbiret sbi_time(uint64_t function, const uint64_t *a)
 {
     if (function != 0) /* sbi_set_timer */
         return (struct sbiret){SBI_ERR_NOT_SUPPORTED, 0};
-    timer_at(a[0]);
-    CLEAR(mip, TIMER_OF_SUPERVISOR);
+    host_timer_at(a[0]);
     return (struct sbiret){SBI_SUCCESS, 0};
 }

@@ -10,6 +10,8 @@ int64_t pmpmon_serve(void);
 struct world worlds[MOST_HARTS];
 struct bank banks[MOST_HARTS];
 uint64_t world_number[MOST_HARTS];
+uint8_t is_stale[MOST_HARTS] = {1, 1, 1, 1};
+_Static_assert(MOST_HARTS == 4, "a hart begins with entries and fences");
 
 static enum { PLATFORM, TRAP, PAGES } next = PLATFORM;
 static uint64_t next_page, pages_left;
@@ -82,18 +84,44 @@ int64_t read(uint64_t descriptor, void *to, uint64_t n)
     return -1;
 }
 
-static int64_t written_answer(const struct answer_frame *answer)
+static int differ(const uint64_t *a, const uint64_t *b, unsigned words)
 {
-    uint64_t hart = answer->hart, last = answer->zero_first + answer->zero_count;
-    struct world *world = &worlds[hart];
-    for (uint64_t page = answer->zero_first; page < last; page++)
+    for (unsigned i = 0; i < words; i++)
+        if (a[i] != b[i])
+            return 1;
+    return 0;
+}
+
+/* The entries of a hart are those of an answer, and are loaded before it goes on where they were others. */
+static void keep_bank(unsigned hart, const struct answer_frame *answer)
+{
+    struct bank *bank = &banks[hart];
+    if (!differ(bank->cfg, answer->cfg, ENTRIES / 8) && !differ(bank->addr, answer->addr, ENTRIES))
+        return;
+    memcpy(bank->cfg, answer->cfg, sizeof answer->cfg);
+    memcpy(bank->addr, answer->addr, sizeof answer->addr);
+    is_stale[hart] = 1;
+}
+
+/* Pages that are made zero may have been code: each hart fences before it goes on. */
+static void make_zero(uint64_t first, uint64_t count)
+{
+    for (uint64_t page = first; page < first + count; page++)
         if (is_worlds(page))
             memset((void *)(page * PAGE), 0, PAGE);
+    if (count)
+        memset(is_stale, 1, sizeof is_stale);
+}
+
+static int64_t written_answer(const struct answer_frame *answer)
+{
+    uint64_t hart = answer->hart;
+    struct world *world = &worlds[hart];
+    make_zero(answer->zero_first, answer->zero_count);
     for (unsigned other = 0; other < hart_count(); other++)
-        if (other == hart || (answer->wake >> other & 1)) {
-            memcpy(banks[other].cfg, answer->cfg, sizeof answer->cfg);
-            memcpy(banks[other].addr, answer->addr, sizeof answer->addr);
-        }
+        if (other == hart || (answer->wake >> other & 1))
+            keep_bank(other, answer);
+    is_stale[hart] |= world_number[hart] != answer->world;
     world->pc = answer->pc;
     memcpy(world->x + 1, answer->x, sizeof answer->x);
     control_write(&answer->control);

@@ -1,4 +1,7 @@
-/* The timer of each hart (the CLINT of QEMU's virt). */
+/*
+ * The timer of each hart (the CLINT of QEMU's virt), and the host's. A hart that has stimecmp (Sstc) has a timer of supervisor
+ * mode, which the host sets itself or by SBI. Otherwise machine mode's timer is used for it.
+ */
 #include "board.h"
 
 static volatile uint64_t *const time_now = (volatile uint64_t *)0x200bff8;
@@ -17,4 +20,32 @@ void timer_at(uint64_t time)
 void timer_off(void)
 {
     timer_at(~0ul);
+}
+
+static uint8_t has_stimecmp[MOST_HARTS];
+
+void host_timer_begin(int has)
+{
+    has_stimecmp[this_hart()] = (uint8_t)has;
+    timer_off();
+    host_timer_at(~0ul);
+}
+
+void host_timer_at(uint64_t time)
+{
+    if (has_stimecmp[this_hart()]) {
+        WRITE(0x14d, time); /* stimecmp */
+        return;
+    }
+    timer_at(time);
+    CLEAR(mip, TIMER_OF_SUPERVISOR);
+}
+
+/* Machine mode's timer came: the host finds its own when it goes on. An interrupt that is older than the timer is dropped. */
+void host_timer_came(void)
+{
+    if (timer_now() < compare[this_hart()])
+        return;
+    timer_off();
+    SET(mip, TIMER_OF_SUPERVISOR);
 }

@@ -37,24 +37,48 @@ run_world:
     sd      sp, (t0)
     mv      s0, a0
     csrr    t1, mhartid
+    la      t0, is_stale        # where it is not, entries and translations are those that the world was stopped with
+    add     t0, t0, t1
+    lbu     t2, (t0)
+    beqz    t2, 1f
+    sb      zero, (t0)
     li      t2, BANK
     mul     t1, t1, t2
     la      a0, banks
     add     a0, a0, t1
     call    load_bank
+    fence.i                     # pages may have other bytes than when this hart last ran a world
+1:
 /* From here on nothing of the monitor's is used but this hart's own: another hart may go on with it. */
+    csrr    t1, mhartid
+    slli    t1, t1, 2
+    la      t0, to_raise
+    add     t0, t0, t1
+    lw      t1, (t0)
+    sw      zero, (t0)
+    fence                       # the release below orders memory alone, and not what was said to the CLINT
     la      t0, lock
     amoswap.w.rl zero, zero, (t0)
-    fence.i                     # pages may have other bytes than when this hart last ran a world
+/* Software interrupts for other harts of the host: each of them comes for the lock, so this hart lets go of it first. */
+    li      t0, CLINT
+    li      t3, 1
+2:  andi    t2, t1, 1
+    beqz    t2, 3f
+    sw      t3, (t0)
+3:  addi    t0, t0, 4
+    srli    t1, t1, 1
+    bnez    t1, 2b
     la      t0, trap
     csrw    mtvec, t0
     csrw    mscratch, s0
     ld      t0, 32 * 8(s0)
     csrw    mepc, t0
-    li      t1, MODE_BITS
-    csrc    mstatus, t1
+    li      t1, ~(MODE_BITS)
+    csrr    t2, mstatus
+    and     t2, t2, t1
     ld      t0, 33 * 8(s0)
-    csrs    mstatus, t0
+    or      t2, t2, t0
+    csrw    mstatus, t2         # at once: a mode that changes meanwhile costs QEMU its translations
     mv      x31, s0
     all     ld, x31
     ld      x31, 8 * 31(x31)
@@ -151,6 +175,8 @@ lock:
     .balign 8
 monitor_sp:
     .skip   8
-    .globl  halted
+    .globl  halted, to_raise
 halted:
+    .skip   16
+to_raise:
     .skip   16

@@ -3,7 +3,6 @@
  * enclave. The board has the host's other calls, its timer and the stop of a hart.
  */
 #include "board.h"
-#include "device_tree.h"
 #include "pmpmon_calls.h"
 
 #define CREATE 0
@@ -37,24 +36,19 @@ static void leave_monitor(void)
         hart_state[this_hart()] = STARTED;
 }
 
-static int is_call(const struct world *world)
+/* A call of an enclave, or of the host's supervisor mode: a program of the host calls its own kernel. */
+static int is_call(const struct world *world, unsigned hart)
 {
-    return world->cause == CAUSE_CALL_OF_USER || world->cause == CAUSE_CALL_OF_SUPERVISOR;
+    return world->cause == (world_number[hart] ? CAUSE_CALL_OF_USER : CAUSE_CALL_OF_SUPERVISOR);
 }
 
-/* A call that may change the host's view is served while no other hart runs a world. */
-static uint64_t call_of_monitor(const struct world *world)
+/* A call that may change the host's view is served while no other hart runs a world. An enclave's is refused, and stops none. */
+static uint64_t call_of_monitor(const struct world *world, unsigned hart)
 {
-    if (world->x[17] == PMPMON_EXTENSION && (world->x[16] == CREATE || world->x[16] == DESTROY))
+    int is_owning = world->x[16] == CREATE || world->x[16] == DESTROY;
+    if (!world_number[hart] && world->x[17] == PMPMON_EXTENSION && is_owning)
         stop_harts(ALL_HARTS);
     return TAG_CALL;
-}
-
-/* The host will find its own interrupt when it goes on. */
-static void timer_came(void)
-{
-    timer_off();
-    SET(mip, TIMER_OF_SUPERVISOR);
 }
 
 /* Whether a trap is none of the monitor's, and what it asked for is done. */
@@ -62,11 +56,14 @@ static int is_of_board(struct world *world, unsigned hart)
 {
     if (world->cause == CAUSE_SOFTWARE)
         return 1;
-    if (world_number[hart] || world->cause == CAUSE_TIMER)
+    if (world->cause == CAUSE_TIMER)
+        host_timer_came();
+    if (world_number[hart])
         return 0;
-    if (is_call(world))
+    if (is_call(world, hart))
         return board_call(world);
-    control_to_handler(world);
+    if (world->cause != CAUSE_TIMER)
+        control_to_handler(world);
     return 1;
 }
 
@@ -79,13 +76,11 @@ uint64_t next_trap(void)
         hart = this_hart();
         world = &worlds[hart];
     } while (is_of_board(world, hart));
-    if (world->cause == CAUSE_TIMER)
-        timer_came();
     if (world_number[hart]) {
         stop_cause[hart] = world->cause;
         stop_value[hart] = world->value;
     }
-    return is_call(world) ? call_of_monitor(world) : TAG_STOP;
+    return is_call(world, hart) ? call_of_monitor(world, hart) : TAG_STOP;
 }
 
 void answered(const struct answer_frame *answer)
@@ -111,37 +106,10 @@ _Noreturn void ended(const struct end_frame *end)
     power_off(1);
 }
 
-/* How many bytes from `at` on are memory of the host, one after another. */
-static uint64_t host_memory_at(uint64_t at)
-{
-    uint64_t monitor = platform->monitor_base;
-    for (uint64_t i = 0; i < platform->ram_count; i++) {
-        uint64_t base = platform->ram[i].base, end = base + platform->ram[i].size;
-        if (at - base >= platform->ram[i].size)
-            continue;
-        if (at - monitor < platform->monitor_size)
-            return 0;
-        return (at < monitor && monitor < end ? monitor : end) - at;
-    }
-    return 0;
-}
-
-/* An operating system keeps off the monitor's range: the tree says so. It may grow into the memory after it. */
-static void reserve_monitor(uint64_t tree)
-{
-    const char *why = reserve_in_tree((uint8_t *)tree, host_memory_at(tree), platform->monitor_base, platform->monitor_size);
-    if (!why)
-        return;
-    put("monitor: the device tree ");
-    put(why);
-    put("\n");
-    power_off(1);
-}
-
 _Noreturn void boot(uint64_t hart, uint64_t tree)
 {
     (void)hart;
     device_tree = tree;
-    reserve_monitor(tree);
+    find_board(tree);
     serve();
 }

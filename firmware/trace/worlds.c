@@ -85,6 +85,7 @@ static void execute(struct world *world, uint64_t place, uint64_t mode)
 {
     world->pc = place;
     world->mode = mode;
+    is_stale[this_hart()] = 1; /* what it executes was written just now */
     run_world(world);
 }
 

@@ -28,14 +28,14 @@ REGISTERS |= {0x24D: "vstimecmp", 0x280: "vsatp", 0x600: "hstatus", 0x602: "hede
 REGISTERS |= {0x606: "hcounteren", 0x607: "hgeie", 0x60A: "henvcfg", 0x643: "htval", 0x644: "hip", 0x645: "hvip", 0x64A: "htinst", 0x680: "hgatp", 0x6A8: "hcontext"}
 # What is left behind alone in hostile.c, and what comes of it.
 ALONE = ("UXL 1", "UXL 2", "UXL 3", "a guest's interrupt", "a table of pages", "an interrupt that is not let in")
-# What the host of firmware/host prints.
+# What the host of firmware/host prints. Its hart has a timer of supervisor mode (Sstc), whose interrupt is 5.
 HOST = """host: a word of the monitor: fault 5
 host: create: 0 1
 host: its code: fault 5
 host: its data: fault 5
 host: run, and it stops itself: 1 0
 host: resume, and the timer stops it: 1 0
-host: the cause, below 2^63: 7
+host: the cause, below 2^63: 5
 host: the timer came: 1
 host: resume, and it exits: 0 42
 host: resume what has exited: -111 0
@@ -49,6 +49,8 @@ host: the address is the monitor's: 1
 host: destroy: 0 0
 host: a call that there is not: -2 0
 """
+# Without one, machine mode's comes.
+HOST_WITHOUT_SSTC = HOST.replace("2^63: 5", "2^63: 7")
 LIFE = """ecall 0x08454E43 0 0x80200000 1 1 0x80500000 1 0
 ecall 0x08454E43 0 0x80204000 2 0 0 0 0
 ecall 0x08454E43 2 1
@@ -107,13 +109,14 @@ def lives(on_hart, program, folder, told):
 
 
 def header_is_read(told):
-    """Whether include/pmpmon_calls.h is strict C, and C++ where its compiler is there."""
+    """Whether the headers of calls and of enclaves are strict C, and C++ where its compiler is there."""
     compilers = [(GCC, "c99", "c"), (GCC, "c17", "c"), (GCC.replace("gcc", "g++"), "c++11", "c++")]
     for compiler, standard, language in compilers:
         if shutil.which(compiler):
             words = [compiler, *FLAGS[:3], "-ffreestanding", f"-std={standard}", "-Wall", "-Wextra", "-Wpedantic", "-Werror", f"-I{TOP}/include", "-c", "-o", os.devnull, "-x", language, "-"]
-            done = subprocess.run(words, input='#include "pmpmon_calls.h"\n', capture_output=True, text=True)
-            told(f"include/pmpmon_calls.h is read as {standard}", done.returncode == 0, done.stderr)
+            for header in ("pmpmon_calls.h", "pmpmon_enclave.h"):
+                done = subprocess.run(words, input=f'#include "{header}"\n', capture_output=True, text=True)
+                told(f"include/{header} is read as {standard}", done.returncode == 0, done.stderr)
 
 
 def examples(on_hart, program, told):
@@ -174,14 +177,16 @@ def booted(image, payload, harts, *more, seconds=240):
         return "the board did not end"
 
 
-def built(platform, out, flags=""):
-    subprocess.run([FIRMWARE / "build", platform, out], check=True, env={**os.environ, "CFLAGS": flags})
+def built(platform, out, flags="", pool=""):
+    subprocess.run([FIRMWARE / "build", platform, out], check=True, env={**os.environ, "CFLAGS": flags, "POOL": pool})
 
 
 def worlds(folder, told):
     """The host of firmware/host; two harts that race, with the stop of the others and without; and hosts of this folder."""
     said = booted(FIRMWARE / "out/pmpmon-virt.elf", FIRMWARE / "out/host.elf", 1)
     told("a host in C makes, runs, interrupts and destroys an enclave", said == HOST, said if said != HOST else "")
+    said = booted(FIRMWARE / "out/pmpmon-virt.elf", FIRMWARE / "out/host.elf", 1, "-cpu", "rv64,sstc=off")
+    told("the same on a hart without Sstc", said == HOST_WITHOUT_SSTC, said if said != HOST_WITHOUT_SSTC else "")
     built(FIRMWARE / "platform.toml", folder / "undelegated", "-DLEAVE_DELEGATION")
     said = booted(folder / "undelegated/pmpmon-virt.elf", FIRMWARE / "out/host.elf", 1)
     told("the same where its exceptions come to machine mode first", said == HOST, said if said != HOST else "")
@@ -189,6 +194,7 @@ def worlds(folder, told):
     if wrong.exists():
         said = booted(FIRMWARE / "out/pmpmon-virt.elf", FIRMWARE / "out/host.elf", 1, "-dtb", str(wrong))
         told("a board whose device tree can't be read stops, and says so", said == "monitor: the device tree cannot be read\n", said)
+    boards(folder, told)
     two = folder / "two.toml"
     two.write_text("harts = 2\n" + (FIRMWARE / "platform.toml").read_text().replace("harts = 1\n", ""))
     race = host(folder / "race.elf", "race.S")
@@ -200,6 +206,26 @@ def worlds(folder, told):
     told("two harts enter two enclaves, and each host has its own words", said == "both harts were in an enclave: 1\nwrong 0\n", said)
     sbi(folder / "with/pmpmon-virt.elf", folder, told)
     hostile(folder, told)
+
+
+def boards(folder, told):
+    """One image on boards of other harts and memory, of which the host gets what is there; and boards that lack what it wants."""
+    payload = FIRMWARE / "out/host.elf"
+    built(TOP / "examples/linux/platform.toml", folder / "any")
+    built(TOP / "examples/linux/platform.toml", folder / "pool", pool="0x83000000,0x1000000")
+    for harts, memory in ((1, "128"), (2, "1G"), (3, "3G"), (5, "200")):
+        said = booted(folder / "pool/pmpmon-virt.elf", payload, harts, "-m", memory)
+        told(f"one image on a board of {harts} harts and {memory} of memory", said == HOST, said if said != HOST else "")
+    said = booted(folder / "any/pmpmon-virt.elf", payload, 1, "-m", "64")
+    right = "\nhost: create: -105 0\n" in said and said.endswith("\nhost: a call that there is not: -2 0\n")
+    told("memory of the platform that is not there is no memory", right, "" if right else said)
+    said = booted(folder / "pool/pmpmon-virt.elf", payload, 1, "-m", "32")
+    right = said == "monitor: the board has no memory for the pool of enclaves, 0x0000000083000000\n"
+    told("a board without memory for the pool stops, and says so", right, "" if right else said)
+    for pool in ("0x83000800,0x1000", "0x83000000", "0x83000000,0", "all,0x1000"):
+        done = subprocess.run([FIRMWARE / "build"], env={**os.environ, "POOL": pool}, capture_output=True, text=True)
+        right = done.returncode == 2 and done.stderr.startswith("firmware: POOL is ")
+        told(f"POOL={pool} is refused", right, "" if right else done.stderr)
 
 
 def hostile(folder, told):

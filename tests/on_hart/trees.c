@@ -1,7 +1,9 @@
 /*
  * Tries firmware/device_tree.c on Linux, where a sanitizer sees each byte that it reads or writes.
  *
- *   trees one IN ROOM BASE SIZE OUT    the tree of IN with the range, or why not; OUT has its bytes
+ *   trees one IN ROOM BASE SIZE OUT    the tree of IN with the monitor's range, or why not; OUT has its bytes
+ *   trees pool IN ROOM BASE SIZE OUT   the same with the range of a pool, and then with room for more
+ *   trees board IN                     the harts, as bits, and the memory that a tree has, or why they are not read
  *   trees random IN ROOM COUNT         so many times with some bytes changed: how many were taken, and how many refused trees were changed
  */
 #include "device_tree.h"
@@ -27,11 +29,14 @@ static uint8_t *copy(const uint8_t *from, size_t size, size_t room)
     return to;
 }
 
-static int one(const uint8_t *tree, size_t size, char **words)
+static int one(const uint8_t *tree, size_t size, char **words, int is_pool)
 {
     size_t room = strtoul(words[0], 0, 0);
     uint8_t *at = copy(tree, size, room);
-    const char *why = reserve_in_tree(at, room, strtoul(words[1], 0, 0), strtoul(words[2], 0, 0));
+    struct reserved range = {is_pool ? "enclaves" : "monitor", is_pool ? "pmpmon,pool" : 0, strtoul(words[1], 0, 0), strtoul(words[2], 0, 0)};
+    const char *why = reserve_in_tree(at, room, &range);
+    if (is_pool && !why)
+        give_room_in_tree(at, room);
     FILE *out = fopen(words[3], "wb");
     fwrite(at, 1, room, out);
     fclose(out);
@@ -40,8 +45,25 @@ static int one(const uint8_t *tree, size_t size, char **words)
     return 0;
 }
 
+static int board(const uint8_t *tree, size_t size)
+{
+    struct board_in_tree found;
+    uint8_t *at = copy(tree, size, size);
+    const char *why = read_board(at, size, &found);
+    free(at);
+    if (why)
+        return puts(why) < 0;
+    printf("harts %lx", found.harts);
+    for (uint32_t i = 0; i < found.ram_count; i++)
+        printf(", %lx %lx", found.ram[i].base, found.ram[i].size);
+    printf("\n");
+    return 0;
+}
+
 static int many(const uint8_t *tree, size_t size, char **words)
 {
+    static const struct reserved range = {"monitor", 0, 0x80000000, 0x80000};
+    struct board_in_tree found;
     size_t room = strtoul(words[0], 0, 0), taken = 0, changed = 0;
     for (size_t count = strtoul(words[1], 0, 0); count; count--) {
         uint8_t *at = copy(tree, size, room), *before;
@@ -49,7 +71,8 @@ static int many(const uint8_t *tree, size_t size, char **words)
         for (uint32_t n = 1 + chance(4); n; n--)
             at[chance(chance(4) ? (uint32_t)size : 40)] ^= (uint8_t)(1u << chance(8));
         before = copy(at, room, room);
-        if (!reserve_in_tree(at, room, 0x80000000, 0x80000))
+        read_board(at, room, &found);
+        if (!reserve_in_tree(at, room, &range))
             taken++;
         else
             changed += memcmp(at, before, room) != 0;
@@ -63,10 +86,14 @@ static int many(const uint8_t *tree, size_t size, char **words)
 int main(int argc, char **argv)
 {
     static uint8_t tree[MOST];
-    FILE *in = argc > 4 ? fopen(argv[2], "rb") : 0;
+    FILE *in = argc > 2 ? fopen(argv[2], "rb") : 0;
     if (!in)
         return 2;
     size_t size = fread(tree, 1, MOST, in);
     fclose(in);
-    return strcmp(argv[1], "one") ? many(tree, size, argv + 3) : one(tree, size, argv + 3);
+    if (!strcmp(argv[1], "board"))
+        return board(tree, size);
+    if (!strcmp(argv[1], "random"))
+        return many(tree, size, argv + 3);
+    return one(tree, size, argv + 3, !strcmp(argv[1], "pool"));
 }

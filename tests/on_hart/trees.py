@@ -58,6 +58,8 @@ def trees(folder, told):
             right = said == "taken" and listed(folder / "out.dtb") == listed(compiled(folder, "want", want))
             told(f"a device tree with {name}, {slack} bytes free: the range is in it, and nothing else is changed", right, "" if right else said)
     refusals(folder, told, answer)
+    pools(folder, told, program)
+    boards(folder, told, program)
     tree = compiled(folder, "in", next(pairs())[1])
     for room in (tree.stat().st_size, tree.stat().st_size + 400):
         done = subprocess.run([program, "random", tree, str(room), str(RANDOM)], capture_output=True, text=True)
@@ -88,3 +90,35 @@ def refusals(folder, told, answer):
     told("a device tree with three cells is refused", answer(three, 4096) == "cannot be read")
     one = compiled(folder, "one", WITHOUT.format(more="", **ONE))
     told("a range that its cells can't tell is refused", answer(one, 4096, 1 << 32) == "cannot be read")
+
+
+def pools(folder, told, program):
+    """The range of a pool says what it is, and after the last range the tree has room for a boot loader, where there is some."""
+    tree = compiled(folder, "in", WITHOUT.format(more="", **TWO))
+    node = 'enclaves@83000000 { compatible = "pmpmon,pool"; reg = <0 0x83000000 0 0x1000000>; no-map; };'
+    want = compiled(folder, "want", WITHOUT.format(more=PARENT.format(nodes=node, **TWO), **TWO))
+    for room, slack in ((tree.stat().st_size + 400, 0), (tree.stat().st_size + 5000, 4096)):
+        subprocess.run([program, "pool", tree, str(room), str(0x83000000), str(0x1000000), folder / "out.dtb"], check=True, capture_output=True)
+        size = struct.unpack_from(">I", (folder / "out.dtb").read_bytes(), 4)[0]
+        right = listed(folder / "out.dtb") == listed(want) and tree.stat().st_size + 400 > size - slack > tree.stat().st_size
+        told(f"a pool in a tree with room of {room}: it is in it, and {slack} bytes are free after it", right, "" if right else str(size))
+
+
+def boards(folder, told, program):
+    """Harts and memory of trees: in several nodes, in nodes with other cells, and beside nodes of other names."""
+    cpus = "cpus { #address-cells = <%d>; #size-cells = <0>; %s };"
+    harts = "cpu@%x { device_type = \"cpu\"; reg = <%s>; interrupt-controller { reg = <9>; }; };"
+    four = cpus % (1, " ".join(harts % (i, i) for i in range(4)) + " cpu-map { cpu@5 { reg = <5>; }; };")
+    two = cpus % (2, harts % (0, "0 0") + harts % (2, "0 2") + harts % (70, "0 70") + harts % (3, "1 3"))
+    more = "memory@100000000 { reg = <1 0 0 0x40000000 2 0 0 0x1000>; }; memory-controller@1 { reg = <0 1 0 1>; };"
+    rows = [("four harts", WITHOUT.format(more=four, **TWO), "harts f, 80000000 8000000")]
+    rows += [("harts of two cells, one that is not counted", WITHOUT.format(more=two, **TWO), "harts 5, 80000000 8000000")]
+    rows += [("cells of one word", WITHOUT.format(more=four, **ONE), "harts f, 80000000 8000000")]
+    rows += [("memory in three ranges", WITHOUT.format(more=four + more, **TWO), "harts f, 80000000 8000000, 100000000 40000000, 200000000 1000")]
+    rows += [("no harts", WITHOUT.format(more="", **TWO), "harts 0, 80000000 8000000")]
+    rows += [("memory that ends past the last address", WITHOUT.format(more="memory@1 { reg = <0xffffffff 0xfffff000 0 0x2000>; };", **TWO), "harts 0, 80000000 8000000")]
+    rows += [("three cells", WITHOUT.format(more="", **{**TWO, "cells": "#address-cells = <3>; #size-cells = <2>;"}), "cannot be read")]
+    for name, text, want in rows:
+        said = subprocess.run([program, "board", compiled(folder, "board", text)], capture_output=True, text=True)
+        right = said.stdout == want + "\n"
+        told(f"the board of a tree with {name}", right, "" if right else said.stdout + said.stderr[-300:])
