@@ -9,8 +9,8 @@ use trap_server::firmware_law;
 /// `firmware_law` holds of them. The entries that each hart has loaded mean the view of its world, by the fewest that
 /// do. Each access was allowed exactly as that view allows it. Private pages were read by nobody but their enclave,
 /// and their bytes changed by its own stores alone; nobody reached the monitor's pages. The private pages of an
-/// enclave that was destroyed were zero after that trap, and no other byte changed in any. Each enclave has the
-/// digest of its private pages as they were in memory when it was created.
+/// enclave that was destroyed were zero after that trap, and no other byte changed in any. An enclave that was
+/// created has the digest of its private pages as they were in memory, and as they are until it is entered.
 pub fn board_law()
     ensures { KeepsBoards }
 {
