@@ -4,12 +4,14 @@ use Rattle.pmp_match.specs.declared.access.Access.{Access}
 use Rattle.pmp_match.specs.declared.cause.Cause.{Cause}
 use Rattle.platforms.specs.Platform.{IsLayout, PlatformLayout}
 use Rattle.enclave_table.specs.Views.{current_view}
+use Rattle.monitor_core.proofs.Currents.{none_live}
 use Rattle.trap_server.specs.declared.trap.Trap.{Trap}
 use Rattle.trap_server.specs.Boot.{IsFirstAnswer}
 use Rattle.trap_server.specs.Firmware.{FirmwareHeadline, HasFewest, KeepsAll, is_loaded}
 use Rattle.trap_server.specs.Runs.{next_trap, no_trap}
 use Rattle.board.specs.Board.{Board, BoardEvent, BoardRun, DoesAccess, DoesTrap, HappensOn, access, trapped, booted, booted_board, happened}
-use Rattle.board.specs.Headline.{BoardHeadline, EachKeeps, IsServed, read_on, written_on}
+use Rattle.board.specs.Headline.{AreMeasured, BoardHeadline, EachKeeps, IsServed, read_on, written_on}
+use Rattle.board.proofs.Fresh.{measured_access, measured_trap}
 use Rattle.board.proofs.Accessed.{StepsPromise, access_kept}
 use Rattle.board.proofs.Trapped.{trap_kept}
 
@@ -19,8 +21,8 @@ module _ (law : KeepsAll) (steps : StepsPromise) (layout : PlatformLayout) (open
   firmware read written board x = law layout opened read written board.monitor board.hosts x.served rules answer
 
   -- the headline of a board whose traps were served
-  headline : (events : List BoardEvent) (board : Board) (run : BoardRun layout opened events board) → IsServed layout opened (read_on run) (written_on run) board → EachKeeps run → BoardHeadline layout opened events board run
-  headline events board run served each =
+  headline : (events : List BoardEvent) (board : Board) (run : BoardRun layout opened events board) → IsServed layout opened (read_on run) (written_on run) board → AreMeasured board → EachKeeps run → BoardHeadline layout opened events board run
+  headline events board run served measured each =
       let f = firmware (read_on run) (written_on run) board served in
       record {
         served = served;
@@ -29,6 +31,7 @@ module _ (law : KeepsAll) (steps : StepsPromise) (layout : PlatformLayout) (open
         worlds = f.worlds;
         awake = f.awake;
         banks = λ hart low. subst (λ bytes. HasFewest bytes layout.limit (current_view board.monitor.table (board.monitor.worlds hart))) (sym (served.loads hart)) (f.banks hart low);
+        measured = measured;
         each = each;
       }
 
@@ -49,12 +52,16 @@ module _ (law : KeepsAll) (steps : StepsPromise) (layout : PlatformLayout) (open
   by_event events old new run (access hart a value said) x before =
       let under : hart < layout.harts = subst (λ l. hart < l.harts) before.platform x.known in
       let fewest = subst (λ l. HasFewest (old.loaded hart) l.limit (current_view old.monitor.table (old.monitor.worlds hart))) (sym before.platform) (before.banks hart under) in
-      headline (events ++ access hart a value said ∷ []) new (happened run (access hart a value said) x) (still_served (read_on run) (written_on run) old hart a value said new before.served x) (before.each, access_kept steps old hart a value said new before.table fewest x)
+      let kept = access_kept steps old hart a value said new before.table fewest x in
+      headline (events ++ access hart a value said ∷ []) new (happened run (access hart a value said) x) (still_served (read_on run) (written_on run) old hart a value said new before.served x)
+      (measured_access old hart a said new before.worlds x.known (ap (λ (b : Board). b.monitor) x.state) kept before.measured) (before.each, kept)
   by_event events old new run (trapped trap frame read question answered) x before =
       let next = next_served (read_on run) (written_on run) old trap frame read question answered new before.served x in
       let k = (firmware (read_on run ++ (frame ++ read)) (written_on run ++ (question ++ answered)) new next).each.1 in
-      headline (events ++ trapped trap frame read question answered ∷ []) new (happened run (trapped trap frame read question answered) x) next (before.each, trap_kept old trap frame read question answered new before.table x k)
+      let kept = trap_kept old trap frame read question answered new before.table x k in
+      headline (events ++ trapped trap frame read question answered ∷ []) new (happened run (trapped trap frame read question answered) x) next
+      (measured_trap old trap frame read question answered new before.table x kept before.measured) (before.each, kept)
 
   pub board_kept : (events : List BoardEvent) (board : Board) (run : BoardRun layout opened events board) → BoardHeadline layout opened events board run
-  board_kept _ _ (booted memory) = headline [] (booted_board layout opened memory) (booted memory) (record { served = no_trap; loads = λ hart. refl }) tt
+  board_kept _ _ (booted memory) = headline [] (booted_board layout opened memory) (booted memory) (record { served = no_trap; loads = λ hart. refl }) (λ id e live fresh. absurd (none_live layout id e live)) tt
   board_kept _ _ (happened {events = events} {old = old} {new = new} run event happens) = by_event events old new run event happens (board_kept events old run)

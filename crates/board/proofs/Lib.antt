@@ -2,4 +2,5 @@ mod Named
 mod Made
 mod Accessed
 mod Trapped
+mod Fresh
 mod Boards

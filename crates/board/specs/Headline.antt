@@ -13,6 +13,7 @@ use Rattle.enclave_table.specs.Enclaves.{Live, enclave_at}
 use Rattle.enclave_table.specs.Tables.{IsTable}
 use Rattle.enclave_table.specs.Views.{current_view}
 use Rattle.enclave_table.specs.declared.enclave.Enclave.{Enclave}
+use Rattle.enclave_table.specs.declared.enclave.Stage.TheVariants.{Fresh}
 use Rattle.monitor_core.specs.States.{opening_monitor}
 use Rattle.monitor_core.specs.Switches.{IsGone}
 use Rattle.monitor_core.specs.Worlds.{ArePlaced}
@@ -107,11 +108,17 @@ pub record IsServed (layout : PlatformLayout) (opened read written : List ℕ) (
       board.hosts
   pub loads : (hart : ℕ) → board.loaded hart ≡ loaded_last opened served hart
 
+-- an enclave that was not entered yet has the digest of its private pages as they are in memory.
+-- So it has when it is entered
+abbrev pub AreMeasured : Board → Type 0
+AreMeasured board = (id : ℕ) (e : Enclave) → Live board.monitor.table id e → e.state ≡ Fresh
+    → e.digest ≡ measured_in board.memory e.parts
+
 -- after any events: the traps among them are a run of the loop, by what was read and written. The
 -- table is sound, and the platform is the one that was booted. Each hart is in the host's world or
 -- in that of an enclave that is Running, and each of these runs on just one; none is to be woken.
--- The entries that each hart has loaded mean the view of its world, by the fewest that do. And what
--- each event kept
+-- The entries that each hart has loaded mean the view of its world, by the fewest that do. What was
+-- measured of an enclave is what it will first run. And what each event kept
 pub record BoardHeadline (layout : PlatformLayout) (opened : List ℕ) (events : List BoardEvent)
     (board : Board) (run : BoardRun layout opened events board) : Type 0 where
   pub served : IsServed layout opened (read_on run) (written_on run) board
@@ -122,10 +129,5 @@ pub record BoardHeadline (layout : PlatformLayout) (opened : List ℕ) (events :
   pub banks : (hart : ℕ) → hart < layout.harts
       → HasFewest (board.loaded hart) layout.limit
       (current_view board.monitor.table (board.monitor.worlds hart))
+  pub measured : AreMeasured board
   pub each : EachKeeps run
-
--- so it is on every platform that keeps its rules, one to four harts, from any memory
-abbrev pub KeepsBoards : Type 0
-KeepsBoards = (layout : PlatformLayout) (opened : List ℕ) (events : List BoardEvent) (board : Board)
-    (run : BoardRun layout opened events board) → IsLayout layout → IsFirstAnswer layout opened
-    → BoardHeadline layout opened events board run

@@ -1,18 +1,25 @@
 //! The law of a board that the firmware runs on.
 
-ghost use Rattle.board.specs.Headline.{KeepsBoards};
+ghost use Rattle.std.specs.Prelude.{ℕ, List};
+ghost use Rattle.platforms.specs.Platform.{IsLayout, PlatformLayout};
+ghost use Rattle.trap_server.specs.Boot.{IsFirstAnswer};
+ghost use Rattle.board.specs.Board.{Board, BoardEvent, BoardRun};
+ghost use Rattle.board.specs.Headline.{BoardHeadline};
 
 use hart_sim::step_law;
 use trap_server::firmware_law;
 
-/// After any events on a board, from boot on with any memory: the traps among them are a run of the loop, so
+/// After any events on a board, from boot on with any memory and on every platform that keeps its rules: the traps among them are a run of the loop, so
 /// `firmware_law` holds of them. The entries that each hart has loaded mean the view of its world, by the fewest that
 /// do. Each access was allowed exactly as that view allows it. Private pages were read by nobody but their enclave,
 /// and their bytes changed by its own stores alone; nobody reached the monitor's pages. The private pages of an
-/// enclave that was destroyed were zero after that trap, and no other byte changed in any. Each enclave has the
-/// digest of its private pages as they were in memory when it was created.
+/// enclave that was destroyed were zero after that trap, and no other byte changed in any. An enclave that was
+/// created has the digest of its private pages as they were in memory, and as they are until it is entered.
 pub fn board_law()
-    ensures { KeepsBoards }
+    ensures { (layout : PlatformLayout) (opened : List ℕ) (events : List BoardEvent) (board : Board)
+        (run : BoardRun layout opened events board)
+        → IsLayout layout → IsFirstAnswer layout opened
+        → BoardHeadline layout opened events board run }
 {
     firmware_law();
     step_law();
