@@ -16,8 +16,8 @@ use trap_server::firmware_law;
 /// enclave that was destroyed were zero after that trap, and no other byte changed in any. An enclave that was
 /// created has the digest of its private pages as they were in memory, and as they are until it is entered.
 pub fn board_law()
-    ensures { (layout : PlatformLayout) (opened : List ℕ) (events : List BoardEvent) (board : Board)
-        (run : BoardRun layout opened events board)
+    ensures { (layout : PlatformLayout) (opened : List ℕ) (events : List BoardEvent)
+        (board : Board) (run : BoardRun layout opened events board)
         → IsLayout layout → IsFirstAnswer layout opened
         → BoardHeadline layout opened events board run }
 {
