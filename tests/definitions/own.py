@@ -1,5 +1,5 @@
 #!/usr/bin/env python3
-"""Tries the reader of definitions (tests/definitions/run) on small texts: what it finds in the whole repository rests on it.
+"""Tries the reader of definitions (tests/definitions/run.py) on small texts: what it finds in the whole repository rests on it.
 
   tests/definitions/own.py
 
@@ -15,7 +15,7 @@ sys.dont_write_bytecode = True
 sys.path.insert(0, str(HERE.parent))
 from counting import Count  # noqa: E402
 
-LOADER = importlib.machinery.SourceFileLoader("definitions", str(HERE / "run"))
+LOADER = importlib.machinery.SourceFileLoader("definitions", str(HERE / "run.py"))
 READ = importlib.util.module_from_spec(importlib.util.spec_from_loader("definitions", LOADER))
 LOADER.exec_module(READ)
 

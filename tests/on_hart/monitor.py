@@ -1,4 +1,4 @@
-"""The proved monitor on a hart of QEMU: what tests/on_hart/run tries of firmware/."""
+"""The proved monitor on a hart of QEMU: what tests/on_hart/run.py tries of firmware/."""
 import importlib.machinery
 import importlib.util
 import os

@@ -1,4 +1,4 @@
-"""Device trees with the monitor's range: what tests/on_hart/run tries of firmware/device_tree.c, on Linux."""
+"""Device trees with the monitor's range: what tests/on_hart/run.py tries of firmware/device_tree.c, on Linux."""
 import shutil
 import struct
 import subprocess

@@ -1,7 +1,7 @@
 #!/usr/bin/env python3
 """Wrong inputs that a new user writes, each with what the program says of it.
 
-  tests/inputs/run PROGRAM
+  tests/inputs/run.py PROGRAM
 
 A row is what stands in a file, and the lines on standard error behind which the program ends. Each row is tried three times: with
 `--hints always` all lines come, with `--hints never` the first alone, and `lint` prints the others, without their `hint: `, with the

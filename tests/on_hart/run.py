@@ -1,7 +1,7 @@
 #!/usr/bin/env python3
 """Has C plan, judge and check, in a program for Linux and on a hart of QEMU's `virt` board; and has the proved monitor run there.
 
-  tests/on_hart/run PROGRAM [PART]
+  tests/on_hart/run.py PROGRAM [PART]
 
 PART is `library` or `monitor`, which build apart and can run side by side; otherwise both are tried, one after the other.
 
@@ -58,9 +58,9 @@ passed = failed = 0
 
 
 def on_qemu_module():
-    """tests/on_qemu/run, whose maps and accesses are used here."""
+    """tests/on_qemu/run.py, whose maps and accesses are used here."""
     sys.dont_write_bytecode = True
-    loader = importlib.machinery.SourceFileLoader("on_qemu", str(TOP / "tests/on_qemu/run"))
+    loader = importlib.machinery.SourceFileLoader("on_qemu", str(TOP / "tests/on_qemu/run.py"))
     module = importlib.util.module_from_spec(importlib.util.spec_from_loader("on_qemu", loader))
     loader.exec_module(module)
     return module

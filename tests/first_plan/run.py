@@ -1,7 +1,7 @@
 #!/usr/bin/env python3
 """The planner alone against the program: what a first start answers to `plan MAP` is what the program answers.
 
-  tests/first_plan/run PROGRAM
+  tests/first_plan/run.py PROGRAM
 
 It builds crates/map_planner where it is older than a source (tools/build --planner). Each map of examples/, 200 random ones and
 wrong ones are planned by both. Where a map fits sixteen entries, output and status have to be the same. Where the planner has no

@@ -2,7 +2,7 @@
 """Reads what `plan --format c|asm|json` prints as others would read it, and compares the registers with what `plan` prints
 as text.
 
-  tests/formats/run PROGRAM
+  tests/formats/run.py PROGRAM
 
 For each map of examples/ and each limit: C is compiled, strictly, and the compiled program tells its arrays; its function
 is compiled for RV64, and writes each register once, in order; with a name it differs in its names alone. Assembly is

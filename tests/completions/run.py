@@ -1,7 +1,7 @@
 #!/usr/bin/env python3
 """Tries the man page and the completions that tools/manual writes: what each shell offers is what the program's help names.
 
-  tests/completions/run PROGRAM
+  tests/completions/run.py PROGRAM
 
 bash is asked by its completion function, zsh at a terminal, as a user would by the tab key, and fish by its own
 `complete -C`; the man page is looked over by mandoc, and has the usual sections, each status and each error of a call. What is

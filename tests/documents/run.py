@@ -1,7 +1,7 @@
 #!/usr/bin/env python3
 """Compares documents with what they are about.
 
-  tests/documents/run          fails where
+  tests/documents/run.py          fails where
                                  - docs/ARCHITECTURE.md's tables and graph of crates are not those of crates.txt, or a row
                                    is not the first sentence of its crate's doc,
                                  - a crate stands in crates.txt above one that it stands on,
@@ -21,7 +21,7 @@
                                  - a document names a file of this repository that is not there,
                                  - a choice of docs/DECISIONS.md has the number of another,
                                  - a wrong body of tests/documents/edits.txt has no edit of its name any more
-  tests/documents/run --write  writes the tables and the graph anew
+  tests/documents/run.py --write  writes the tables and the graph anew
 
 The last line that is printed is 'N passed, M failed'.
 """
@@ -280,7 +280,7 @@ def main():
     places = {name: between(text, name) for name in parts}
     kinds = {
         "the tables and the graph of crates": [
-            *((f"docs/ARCHITECTURE.md: {name} (tests/documents/run --write)", bool(places[name]) and text[slice(*places[name])] == wanted) for name, wanted in parts.items()),
+            *((f"docs/ARCHITECTURE.md: {name} (tests/documents/run.py --write)", bool(places[name]) and text[slice(*places[name])] == wanted) for name, wanted in parts.items()),
             *((f"crates/{it}: its doc says what it is for", bool(purpose(it))) for it in graph),
             *is_lowest_first(graph),
         ],

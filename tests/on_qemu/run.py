@@ -2,7 +2,7 @@
 """Loads the registers that the program prints into a hart of QEMU's `virt` board, of RV64 and of RV32, does accesses in
 supervisor and user mode, and compares what comes of each with what `judge` answers.
 
-  tests/on_qemu/run PROGRAM
+  tests/on_qemu/run.py PROGRAM
 
 For each map of examples/ whose list fits sixteen entries, and for some made at random, a firmware is made of what
 `plan --format asm` and `plan --format c` print, start.S, load.c and firmware.c, and booted. It calls the routine of the

@@ -3,7 +3,7 @@
 beside which a file says what `show` prints; shows registers, and reads them and boot logs of OpenSBI, beside which a map says
 what `map` prints. Where QEMU and its firmware are installed, the log of its `virt` board is read anew.
 
-  tests/examples/run PROGRAM
+  tests/examples/run.py PROGRAM
 
 A comment of a trace names the command, as `./pmpmon judge examples/A.map examples/B.trace` or with `--registers` and
 a listing, or the platform, as `examples/A.toml`. Behind an event stands its answer. Each trace is run once more with one of its answers changed, which

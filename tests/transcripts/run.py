@@ -1,7 +1,7 @@
 #!/usr/bin/env python3
 r"""Runs the program as the transcripts of this folder say, and compares what it answers.
 
-  tests/transcripts/run PROGRAM [NAME..]      those of NAME.txt alone; all where none is named
+  tests/transcripts/run.py PROGRAM [NAME..]      those of NAME.txt alone; all where none is named
 
 A transcript is lines:
 

@@ -1,7 +1,7 @@
 #!/usr/bin/env python3
 """The first start of `./pmpmon`, and `./pmpmon --unproved`, over a stand-in for `rt` that proves nothing and takes a second.
 
-  tests/first_start/run
+  tests/first_start/run.py
 
 What stands on standard output, on standard error and as the status at each kind of start: the first, one that the planner alone
 answers, one that is stopped, one whose proof fails, one that reads a pipe, the second. The last line that is printed is

@@ -1,7 +1,7 @@
 #!/usr/bin/env python3
 """Runs `rt ci` at the top of the repository, hands on what it prints, and writes what each crate took.
 
-  tests/gate/run TABLE       the table goes to the file TABLE, at the end or where the run is stopped
+  tests/gate/run.py TABLE       the table goes to the file TABLE, at the end or where the run is stopped
 
 Once a second it looks which checks run below `rt`: a crate's own proof, that of its tests, that which its edits begin with, or
 that of one of its edits, and how much processor time each has had. What a check did in its last second is lost. Behind the

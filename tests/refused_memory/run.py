@@ -1,7 +1,7 @@
 #!/usr/bin/env python3
 """Makes each allocation, read and write of the program fail in turn, and compares.
 
-  tests/refused_memory/run PROGRAM
+  tests/refused_memory/run.py PROGRAM
 
 Each command below is run once with all it needs, and then for K = 1, 2, .. until a run meets no refusal, with the K-th
   allocation refused: it prints what the ample run prints, or it stops with 'out of memory' and status 4 after a beginning of

@@ -2,7 +2,7 @@
 # The files of the program: standard input under its word, files that are not there, devices that are full, certificates
 # and their places; and what the program says of itself.
 #
-#   tests/files/run PROGRAM [--write]
+#   tests/files/run.sh PROGRAM [--write]
 #
 # Each command that takes `-` answers as it does with the file's name. A trace that comes by a pipe is answered line by line
 # while the pipe stays open. An input that is not there or can't be read is 'cannot read' and status 3 for each command:

@@ -1,7 +1,7 @@
 #!/usr/bin/env bash
 # Makes the release twice, compares the bytes, and uses what is in it as one who has nothing else.
 #
-#   tests/release/run
+#   tests/release/run.sh
 #
 # The last line that is printed is 'N passed, M failed'.
 set -u

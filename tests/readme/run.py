@@ -1,7 +1,7 @@
 #!/usr/bin/env python3
 """Runs the commands that README.md and docs/GUIDE.md show, and compares what they print with what stands below them.
 
-  tests/readme/run PROGRAM
+  tests/readme/run.py PROGRAM
 
 A command is a line of a block that begins with `$ `; what it prints is below it, up to the next command or the block's end,
 a line `...` for any lines. One on a hart is left out where there is none. Those of a document see the files that the ones before them made, and the examples. The last line

@@ -1,10 +1,10 @@
 #!/usr/bin/env python3
 """Compares docs/DEFINITIONS.md with the sources.
 
-  tests/definitions/run          fails where the page lacks a definition that a reader has to trust, names one that
+  tests/definitions/run.py          fails where the page lacks a definition that a reader has to trust, names one that
                                  is not there or stands in another file, has no words for one, or where its list of the others
                                  is not current
-  tests/definitions/run --write  names each definition behind the file that it is in now, adds the missing rows in the words of
+  tests/definitions/run.py --write  names each definition behind the file that it is in now, adds the missing rows in the words of
                                  the comments, and writes the list of the others
 
 A reader has to trust what the clauses of public functions cite, what public types show of themselves (the facts
@@ -338,9 +338,9 @@ def main():
     failures += [f"{c}/specs/{f}: {n} is not there" for c, f, n in named if (c, f, n) not in there]
     failures += [f"{c}/specs/{f}: {n} is used by no public clause" for c, f, n in named if (c, f, n) in there and (c, f, n) not in wanted]
     failures += [f"docs/DEFINITIONS.md: its definition has no comment: {line}" for line in page.split("\n") if UNSAID in line]
-    failures += [f"docs/DEFINITIONS.md: its comment says other than this row (tests/definitions/run --write): {line}" for line in stale(page, specs)]
+    failures += [f"docs/DEFINITIONS.md: its comment says other than this row (tests/definitions/run.py --write): {line}" for line in stale(page, specs)]
     current = page.split(f"## {APART}")[-1].strip() == others(specs, found)
-    failures += [] if current else ["the list of the others is not current (tests/definitions/run --write)"]
+    failures += [] if current else ["the list of the others is not current (tests/definitions/run.py --write)"]
     for text in failures:
         print("FAILED:", text)
     if not failures:

@@ -1,7 +1,7 @@
 #!/usr/bin/env python3
 """Boots Debian's U-Boot above the monitor's firmware, types at its prompt, and compares with the session of docs/GUIDE.md.
 
-  tests/on_uboot/run
+  tests/on_uboot/run.py
 
 U-Boot is a host that nobody here wrote. Each line after `=> ` in the section "An enclave from a prompt in ten minutes" is typed, and
 what comes back has to be what stands below it; `...` stands for any lines. The two lines that U-Boot's `go` prints around

@@ -1,12 +1,12 @@
 #!/usr/bin/env python3
 """Compares docs/HEADLINE.md and its parts with the sources: the theorems, and every definition of this repository that they rest on.
 
-  tests/headline/run            fails where a page is not what the sources say
-  tests/headline/run --write    writes the pages
+  tests/headline/run.py            fails where a page is not what the sources say
+  tests/headline/run.py --write    writes the pages
 
 The first page has the theorems and a table of the parts, each of which is a page in docs/headline (PARTS). A part has the contracts of
 its functions, and then the definitions and types that they cite and no part before it has, lowest crate first. Definitions are found
-as tests/definitions/run finds them.
+as tests/definitions/run.py finds them.
 What a machine or a monitor shows of itself (SHOWN) is known by the clauses of the functions that look at it; a machine's stand in
 the first part. So its body, and the fields that it reads, are no part of the page. Every other definition is shown whole.
 It also fails where a part, or `boot`, `step` and `run` together, has more names or lines than MOST allows, and where one name
@@ -47,7 +47,7 @@ LATER = {1: {"Run", "Happens", "IsBooted", "Promises", "IsLayout"}, 2: {"Step"},
 WIDTH = 120
 OPENING = """# The headline, and all that it rests on
 
-This page and those of its parts are made from the sources by `tests/headline/run --write`, and the gate compares them. Each contract is
+This page and those of its parts are made from the sources by `tests/headline/run.py --write`, and the gate compares them. Each contract is
 proved. To believe one, read the definitions that it cites, and no proof: each part has all that is not in a part before it.
 `docs/WORDS.md` says how to read them. Words that are not defined here are the kit's: numbers, lists, `Option`, equality, SHA-256.
 
@@ -93,8 +93,8 @@ TOGETHER = [(MACHINE, "boot"), (MACHINE, "step"), ("hart_sim/src/trace_run.rt", 
 
 
 def definitions():
-    """The script tests/definitions/run, as a module."""
-    loader = importlib.machinery.SourceFileLoader("definitions", str(TOP / "tests" / "definitions" / "run"))
+    """The script tests/definitions/run.py, as a module."""
+    loader = importlib.machinery.SourceFileLoader("definitions", str(TOP / "tests" / "definitions" / "run.py"))
     made = importlib.util.module_from_spec(importlib.util.spec_from_loader("definitions", loader))
     sys.dont_write_bytecode = True
     loader.exec_module(made)
@@ -339,7 +339,7 @@ def main():
             file.write_text(text)
         return 0
     same = there == set(wanted) and all(file.is_file() and file.read_text() == text for file, text in wanted.items())
-    print("ok: docs/HEADLINE.md and its parts are what the sources say" if same else "FAILED: docs/HEADLINE.md and its parts are not what the sources say (tests/headline/run --write)")
+    print("ok: docs/HEADLINE.md and its parts are what the sources say" if same else "FAILED: docs/HEADLINE.md and its parts are not what the sources say (tests/headline/run.py --write)")
     grown = [f"part {it}: {counts[it]} names and lines, at most {most}" for it, most in MOST.items() if any(map(int.__gt__, counts[it], most))]
     print("\n".join(f"FAILED: {it}" for it in grown) or f"ok: no part has grown: {counts}")
     print(f"FAILED: two things on the page have one name: {', '.join(twice)}" if twice else "ok: each name on the page stands for one thing")

@@ -1,7 +1,7 @@
 #!/usr/bin/env python3
 """The tables of maps as pictures and as JSON, against the same tables as text.
 
-  tests/pictures/run PROGRAM [--write]
+  tests/pictures/run.py PROGRAM [--write]
 
 Of each map of examples/: the picture is well-formed XML, has a band for each row of the text, with its class, addresses and
 entry, and a gap for each other stretch, none of which lies over another; the JSON object has the same rows, and its stretches
