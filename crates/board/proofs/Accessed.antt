@@ -1,5 +1,6 @@
 -- What holds of an access: it is a step of the model, whose verdict is the view's.
-use Rattle.std.proofs.Common.{◌≡◌, ◌≢◌, ◌∙◌, inl, inr, ℕ, ◌+◌, ◌-◌, ◌/◌, ◌%◌, ◌^◌, ◌<◌, ◌≤◌, nat_le, nat_lt, if◌then◌else◌, List, Result, Ok, Err, true, refl, ap, sym, subst}
+use Rattle.std.proofs.Common.{◌≡◌, ◌≢◌, ◌∙◌, inl, inr, ℕ, ◌+◌, ◌-◌, ◌/◌, ◌%◌, ◌^◌, ◌<◌, ◌≤◌, nat_le, nat_lt, if◌then◌else◌, List, Result, Ok, Err, true, refl}
+use Rattle.std.proofs.Common.{ap, sym, subst}
 use Rattle.std.proofs.lemmas.Bool.{and_parts, eq-eqb, leb-true, ltb-true, ne_eqb, le-ltb, lt-ltb, false_from_ne_true}
 use Rattle.pmp_encoding.specs.declared.perm.Perm.{Perm}
 use Rattle.pmp_encoding.specs.declared.region.Entry.{Entry}
@@ -33,11 +34,17 @@ use Rattle.board.specs.Board.{Board, DoesAccess, memory_after, put_by}
 use Rattle.board.specs.Headline.{IsMonitorByte, IsOwnStore, KeepsAccess}
 
 -- what a list says that means a view, the view says
-verdict_is : (view : ℕ → Perm) (entries : List Entry) (a : Access) (said : Result (Unit {0}) Cause) → Means entries view → a.mode ≢ Machine → Judges entries a said → verdict view a ≡ said
+verdict_is : (view : ℕ → Perm) (entries : List Entry) (a : Access) (said : Result (Unit {0}) Cause) → Means entries view → a.mode ≢ Machine
+    → Judges entries a said → verdict view a ≡ said
 verdict_is view entries a _ means mode (off_its_size off) = rw (ne_eqb (a.address % a.size) 0 off)
 verdict_is view entries a _ means mode (outside on out) = rw (eq-eqb (a.address % a.size) 0 on, le-ltb a.address (2 ^ 56) out)
 verdict_is view entries a _ means mode (denied on inside refused) =
-    rw (eq-eqb (a.address % a.size) 0 on, lt-ltb a.address (2 ^ 56) inside, false_from_ne_true (holds (view (a.address / 4096)) a.kind) (λ yes. refused ((means a on inside mode).1 yes)))
+    rw (
+      eq-eqb (a.address % a.size) 0 on,
+      lt-ltb a.address (2 ^ 56) inside,
+      false_from_ne_true (holds (view (a.address / 4096)) a.kind)
+          (λ yes. refused ((means a on inside mode).1 yes)),
+    )
 verdict_is view entries a _ means mode (allowed on inside granted) =
     rw (eq-eqb (a.address % a.size) 0 on, lt-ltb a.address (2 ^ 56) inside, (means a on inside mode).0 granted)
 
@@ -76,7 +83,8 @@ takes Fetch s a value = (refl, refl)
 takes Load s a value = (refl, refl)
 takes Store s a value = inl (refl, refl)
 
-accesses : (said : Result (Unit {0}) Cause) (s : MachineState) (a : Access) (value : ℕ) → Accesses said s a value (reply_of said s a) (state_after said s a value)
+accesses : (said : Result (Unit {0}) Cause) (s : MachineState) (a : Access) (value : ℕ)
+    → Accesses said s a value (reply_of said s a) (state_after said s a value)
 accesses (Err cause) s a value = (refl, refl)
 accesses (Ok done) s a value = takes a.kind s a value
 
@@ -85,7 +93,8 @@ put_bytes Fetch s a value = refl
 put_bytes Load s a value = refl
 put_bytes Store s a value = refl
 
-bytes_after : (said : Result (Unit {0}) Cause) (s : MachineState) (a : Access) (value : ℕ) → (state_after said s a value).bytes ≡ memory_after said s.bytes a value
+bytes_after : (said : Result (Unit {0}) Cause) (s : MachineState) (a : Access) (value : ℕ)
+    → (state_after said s a value).bytes ≡ memory_after said s.bytes a value
 bytes_after (Err cause) s a value = refl
 bytes_after (Ok done) s a value = put_bytes a.kind s a value
 
@@ -104,7 +113,8 @@ no_fault Fetch s a cause is = let z : replies.Done ≡ replies.Fault cause = is 
 no_fault Load s a cause is = let z : replies.Loaded (number_of_bytes (bytes_at s.bytes a.address a.size)) ≡ replies.Fault cause = is in cc
 no_fault Store s a cause is = let z : replies.Done ≡ replies.Fault cause = is in cc
 
-said_fault : (said : Result (Unit {0}) Cause) (s : MachineState) (a : Access) (cause : Cause) → reply_of said s a ≡ replies.Fault cause → (why : Cause) × (said ≡ Err why)
+said_fault : (said : Result (Unit {0}) Cause) (s : MachineState) (a : Access) (cause : Cause) → reply_of said s a ≡ replies.Fault cause
+    → (why : Cause) × (said ≡ Err why)
 said_fault (Err why) s a cause is = (why, refl)
 said_fault (Ok done) s a cause is = absurd (no_fault a.kind s a cause is)
 
@@ -122,28 +132,35 @@ put_stays Store memory a value byte past = both (in_range a.address a.size byte)
 no_ok : (cause : Cause) → ◌≡◌ {A = Result (Unit {0}) Cause} (Ok tt) (Err cause) → ⊥
 no_ok cause is = cc
 
-closed_stays : (said : Result (Unit {0}) Cause) (memory : ℕ → ℕ) (a : Access) (value byte : ℕ) → (Reaches a byte → (cause : Cause) × (said ≡ Err cause)) → memory_after said memory a value byte ≡ memory byte
+closed_stays : (said : Result (Unit {0}) Cause) (memory : ℕ → ℕ) (a : Access) (value byte : ℕ) → (Reaches a byte → (cause : Cause) × (said ≡ Err cause))
+    → memory_after said memory a value byte ≡ memory byte
 closed_stays (Err cause) memory a value byte closed = refl
 closed_stays (Ok done) memory a value byte closed = put_stays a.kind memory a value byte (λ reaches. let fault = closed reaches in no_ok fault.0 fault.1)
 
 -- what every step of the model promises
 abbrev pub StepsPromise : Type 0
-StepsPromise = (old : MachineState) (hart : ℕ) (event : Event) (reply : Reply) (new : MachineState) → IsTable old.table → Step old hart event reply new → Promises old hart event reply new
+StepsPromise = (old : MachineState) (hart : ℕ) (event : Event) (reply : Reply) (new : MachineState) → IsTable old.table → Step old hart event reply new
+    → Promises old hart event reply new
 
 -- what is promised of the step that an access is
-promised : (law : StepsPromise) (old : Board) (hart : ℕ) (a : Access) (value : ℕ) (said : Result (Unit {0}) Cause) → IsTable old.monitor.table → said ≡ verdict (current_view old.monitor.table (old.monitor.worlds hart)) a
-    → Promises (as_machine old) hart (events.Access a value) (reply_of said (awoken (as_machine old) hart) a) (state_after said (awoken (as_machine old) hart) a value)
+promised : (law : StepsPromise) (old : Board) (hart : ℕ) (a : Access) (value : ℕ) (said : Result (Unit {0}) Cause) → IsTable old.monitor.table
+    → said ≡ verdict (current_view old.monitor.table (old.monitor.worlds hart)) a
+    → Promises (as_machine old) hart (events.Access a value) (reply_of said (awoken (as_machine old) hart) a)
+    (state_after said (awoken (as_machine old) hart) a value)
 promised law old hart a value said right is =
     let s = awoken (as_machine old) hart in
     law (as_machine old) hart (events.Access a value) (reply_of said s a) (state_after said s a value) right
     (subst (λ v. Accesses v s a value (reply_of said s a) (state_after said s a value)) is (accesses said s a value))
 
-own_store : (old : Board) (hart : ℕ) (a : Access) (value : ℕ) (said : Result (Unit {0}) Cause) (reply : Reply) (id byte : ℕ) → said ≡ verdict (current_view old.monitor.table (old.monitor.worlds hart)) a
+own_store : (old : Board) (hart : ℕ) (a : Access) (value : ℕ) (said : Result (Unit {0}) Cause) (reply : Reply) (id byte : ℕ)
+    → said ≡ verdict (current_view old.monitor.table (old.monitor.worlds hart)) a
     → StoresTo (as_machine old) hart (events.Access a value) reply id byte → IsOwnStore old hart a said id byte
 own_store old hart a value said reply id byte is x = record { store = x.0; allowed = is ∙ x.3; own = x.2; reaches = (x.4, x.5) }
 
-pub access_kept : (law : StepsPromise) (old : Board) (hart : ℕ) (a : Access) (value : ℕ) (said : Result (Unit {0}) Cause) (new : Board) → IsTable old.monitor.table
-    → HasFewest (old.loaded hart) old.monitor.table.layout.limit (current_view old.monitor.table (old.monitor.worlds hart)) → DoesAccess old hart a value said new → KeepsAccess old hart a said new
+pub access_kept : (law : StepsPromise) (old : Board) (hart : ℕ) (a : Access) (value : ℕ) (said : Result (Unit {0}) Cause) (new : Board)
+    → IsTable old.monitor.table
+    → HasFewest (old.loaded hart) old.monitor.table.layout.limit (current_view old.monitor.table (old.monitor.worlds hart))
+    → DoesAccess old hart a value said new → KeepsAccess old hart a said new
 access_kept law old hart a value said new right fewest x =
     let view = current_view old.monitor.table (old.monitor.worlds hart) in
     let same : x.entries ≡ fewest.entries = one_list _ x.entries fewest.entries x.loaded fewest.list in
@@ -161,7 +178,8 @@ access_kept law old hart a value said new right fewest x =
       closed = closed;
       private = λ id byte e own.
           let live : Live (state_after said s a value).table id e = subst (λ t. Live t id e) (sym (table_after said s a value)) own.0 in
-          let bytes : new.memory byte ≡ (state_after said s a value).bytes byte = ap (λ (b : Board). b.memory byte) x.state ∙ sym (ap (λ m. m byte) (bytes_after said s a value)) in
+          let bytes : new.memory byte ≡ (state_after said s a value).bytes byte = ap (λ (b : Board). b.memory byte) x.state
+          ∙ sym (ap (λ m. m byte) (bytes_after said s a value)) in
           elim (p.private id byte e e own.0 live own.1 own.1) [
             | inl stays ↦ inl (bytes ∙ stays)
             | inr stores ↦ inr (own_store old hart a value said (reply_of said s a) id byte is stores)

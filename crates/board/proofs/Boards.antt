@@ -7,21 +7,33 @@ use Rattle.enclave_table.specs.Views.{current_view}
 use Rattle.monitor_core.proofs.Currents.{none_live}
 use Rattle.trap_server.specs.declared.trap.Trap.{Trap}
 use Rattle.trap_server.specs.Boot.{IsFirstAnswer}
-use Rattle.trap_server.specs.Firmware.{FirmwareHeadline, HasFewest, KeepsAll, is_loaded}
-use Rattle.trap_server.specs.Runs.{next_trap, no_trap}
+use Rattle.trap_server.specs.Firmware.{FirmwareHeadline, HasFewest, is_loaded}
+use Rattle.trap_server.specs.Runs.{ServesTraps, first_words, next_trap, no_trap}
+use Rattle.trap_server.specs.declared.words.ControlWords.{ControlWords}
+use Rattle.monitor_core.specs.States.{MonitorState, opening_monitor}
 use Rattle.board.specs.Board.{Board, BoardEvent, BoardRun, DoesAccess, DoesTrap, HappensOn, access, trapped, booted, booted_board, happened}
 use Rattle.board.specs.Headline.{AreMeasured, BoardHeadline, EachKeeps, IsServed, read_on, written_on}
 use Rattle.board.proofs.Fresh.{measured_access, measured_trap}
 use Rattle.board.proofs.Accessed.{StepsPromise, access_kept}
 use Rattle.board.proofs.Trapped.{trap_kept}
 
-module _ (law : KeepsAll) (steps : StepsPromise) (layout : PlatformLayout) (opened : List ℕ) (rules : IsLayout layout) (answer : IsFirstAnswer layout opened) where
+-- what the firmware's theorem says
+abbrev FirmwareHolds : Type 0
+FirmwareHolds =
+    (layout : PlatformLayout) (opened read written : List ℕ) (s : MonitorState) (kept : ℕ → ControlWords)
+    (served : ServesTraps (opening_monitor layout) first_words read written s kept)
+    → IsLayout layout → IsFirstAnswer layout opened → FirmwareHeadline layout opened read written s kept served
+
+module _ (law : FirmwareHolds) (steps : StepsPromise) (layout : PlatformLayout) (opened : List ℕ) (rules : IsLayout layout)
+    (answer : IsFirstAnswer layout opened) where
   -- what the firmware's theorem says of the traps of a run
-  firmware : (read written : List ℕ) (board : Board) (x : IsServed layout opened read written board) → FirmwareHeadline layout opened read written board.monitor board.hosts x.served
+  firmware : (read written : List ℕ) (board : Board) (x : IsServed layout opened read written board)
+      → FirmwareHeadline layout opened read written board.monitor board.hosts x.served
   firmware read written board x = law layout opened read written board.monitor board.hosts x.served rules answer
 
   -- the headline of a board whose traps were served
-  headline : (events : List BoardEvent) (board : Board) (run : BoardRun layout opened events board) → IsServed layout opened (read_on run) (written_on run) board → AreMeasured board → EachKeeps run → BoardHeadline layout opened events board run
+  headline : (events : List BoardEvent) (board : Board) (run : BoardRun layout opened events board)
+      → IsServed layout opened (read_on run) (written_on run) board → AreMeasured board → EachKeeps run → BoardHeadline layout opened events board run
   headline events board run served measured each =
       let f = firmware (read_on run) (written_on run) board served in
       record {
@@ -30,30 +42,37 @@ module _ (law : KeepsAll) (steps : StepsPromise) (layout : PlatformLayout) (open
         platform = f.platform;
         worlds = f.worlds;
         awake = f.awake;
-        banks = λ hart low. subst (λ bytes. HasFewest bytes layout.limit (current_view board.monitor.table (board.monitor.worlds hart))) (sym (served.loads hart)) (f.banks hart low);
+        banks = λ hart low. subst (λ bytes. HasFewest bytes layout.limit (current_view board.monitor.table (board.monitor.worlds hart)))
+            (sym (served.loads hart)) (f.banks hart low);
         measured = measured;
         each = each;
       }
 
   -- an access is no trap
-  still_served : (read written : List ℕ) (old : Board) (hart : ℕ) (a : Access) (value : ℕ) (said : Result (Unit {0}) Cause) (new : Board) → IsServed layout opened read written old → DoesAccess old hart a value said new → IsServed layout opened read written new
-  still_served read written old hart a value said new before x = subst (IsServed layout opened read written) (sym x.state) (record { served = before.served; loads = before.loads })
+  still_served : (read written : List ℕ) (old : Board) (hart : ℕ) (a : Access) (value : ℕ) (said : Result (Unit {0}) Cause) (new : Board)
+      → IsServed layout opened read written old → DoesAccess old hart a value said new → IsServed layout opened read written new
+  still_served read written old hart a value said new before x = subst (IsServed layout opened read written) (sym x.state)
+      (record { served = before.served; loads = before.loads })
 
   -- a trap more
   abbrev next_served :
-      (came gone : List ℕ) (old : Board) (trap : Trap) (frame read question answered : List ℕ) (new : Board) → IsServed layout opened came gone old → DoesTrap old trap frame read question answered new → IsServed layout opened (came ++ (frame ++ read)) (gone ++ (question ++ answered)) new
+      (came gone : List ℕ) (old : Board) (trap : Trap) (frame read question answered : List ℕ) (new : Board) → IsServed layout opened came gone old
+      → DoesTrap old trap frame read question answered new → IsServed layout opened (came ++ (frame ++ read)) (gone ++ (question ++ answered)) new
   next_served came gone old trap frame read question answered new before x = record {
     served = next_trap before.served trap frame read question answered new.monitor new.hosts x.size x.is_trap x.served;
     loads = λ hart. x.loads hart ∙ ap (λ bytes. if is_loaded answered hart then answered else bytes) (before.loads hart);
   }
 
-  by_event : (events : List BoardEvent) (old new : Board) (run : BoardRun layout opened events old) (event : BoardEvent) (happens : HappensOn event old new) → BoardHeadline layout opened events old run
+  by_event : (events : List BoardEvent) (old new : Board) (run : BoardRun layout opened events old) (event : BoardEvent) (happens : HappensOn event old new)
+      → BoardHeadline layout opened events old run
       → BoardHeadline layout opened (events ++ event ∷ []) new (happened run event happens)
   by_event events old new run (access hart a value said) x before =
       let under : hart < layout.harts = subst (λ l. hart < l.harts) before.platform x.known in
-      let fewest = subst (λ l. HasFewest (old.loaded hart) l.limit (current_view old.monitor.table (old.monitor.worlds hart))) (sym before.platform) (before.banks hart under) in
+      let fewest = subst (λ l. HasFewest (old.loaded hart) l.limit (current_view old.monitor.table (old.monitor.worlds hart))) (sym before.platform)
+      (before.banks hart under) in
       let kept = access_kept steps old hart a value said new before.table fewest x in
-      headline (events ++ access hart a value said ∷ []) new (happened run (access hart a value said) x) (still_served (read_on run) (written_on run) old hart a value said new before.served x)
+      headline (events ++ access hart a value said ∷ []) new (happened run (access hart a value said) x)
+      (still_served (read_on run) (written_on run) old hart a value said new before.served x)
       (measured_access old hart a said new before.worlds x.known (ap (λ (b : Board). b.monitor) x.state) kept before.measured) (before.each, kept)
   by_event events old new run (trapped trap frame read question answered) x before =
       let next = next_served (read_on run) (written_on run) old trap frame read question answered new before.served x in
@@ -63,5 +82,6 @@ module _ (law : KeepsAll) (steps : StepsPromise) (layout : PlatformLayout) (open
       (measured_trap old trap frame read question answered new before.table x kept before.measured) (before.each, kept)
 
   pub board_kept : (events : List BoardEvent) (board : Board) (run : BoardRun layout opened events board) → BoardHeadline layout opened events board run
-  board_kept _ _ (booted memory) = headline [] (booted_board layout opened memory) (booted memory) (record { served = no_trap; loads = λ hart. refl }) (λ id e live fresh. absurd (none_live layout id e live)) tt
+  board_kept _ _ (booted memory) = headline [] (booted_board layout opened memory) (booted memory) (record { served = no_trap; loads = λ hart. refl })
+      (λ id e live fresh. absurd (none_live layout id e live)) tt
   board_kept _ _ (happened {events = events} {old = old} {new = new} run event happens) = by_event events old new run event happens (board_kept events old run)

@@ -1,5 +1,6 @@
 -- An enclave that was not entered yet has the digest of its private pages as they are.
-use Rattle.std.proofs.Common.{◌≡◌, ◌≢◌, ◌⊎◌, ◌∙◌, inl, inr, ℕ, zero, suc, ◌+◌, ◌-◌, ◌*◌, ◌/◌, ◌<◌, ◌≤◌, ◌==◌, ◌++◌, ◌∷◌, [], true, nat_le, nat_lt, List, length, Option, Some, None, Result, refl, ap, sym, subst, arith}
+use Rattle.std.proofs.Common.{◌≡◌, ◌≢◌, ◌⊎◌, ◌∙◌, inl, inr, ℕ, zero, suc, ◌+◌, ◌-◌, ◌*◌, ◌/◌, ◌<◌, ◌≤◌, ◌==◌, ◌++◌, ◌∷◌, [], true, nat_le, nat_lt, List, length}
+use Rattle.std.proofs.Common.{Option, Some, None, Result, refl, ap, sym, subst, arith}
 use Rattle.std.proofs.lemmas.Bool.{and_from, both_ways, eq-eqb, eqb-true, le-leb, lt-ltb}
 use Rattle.std.proofs.lemmas.Option.{same_Some}
 use Rattle.pmp_encoding.specs.declared.pages.PageRange.{PageRange}
@@ -39,17 +40,23 @@ use Rattle.board.specs.Headline.{AreMeasured, KeepsAccess, KeepsMemory}
 use Rattle.board.proofs.Made.{Absent}
 
 -- where one place of a table is written, an enclave stands there, or where it stood
-placed : (table new : EnclaveTable) (k id : ℕ) (slot : Option Enclave) (e : Enclave) → new ≡ with_enclave table k slot → 1 ≤ k → k - 1 < length table.enclaves → Live new id e → ((id ≡ k) × (slot ≡ Some e)) ⊎ Live table id e
+placed : (table new : EnclaveTable) (k id : ℕ) (slot : Option Enclave) (e : Enclave) → new ≡ with_enclave table k slot → 1 ≤ k → k - 1 < length table.enclaves
+    → Live new id e → ((id ≡ k) × (slot ≡ Some e)) ⊎ Live table id e
 placed table new k id slot e is above inside live = both (id == k)
     (λ yes.
     let same : id ≡ k = eqb-true id k yes in
-    inl (same, sym (set_same table.enclaves k slot above inside) ∙ ap (enclave_at (with_enclave table k slot).enclaves) (sym same) ∙ ap (λ t. enclave_at t.enclaves id) (sym is) ∙ live))
+    inl (
+      same,
+      sym (set_same table.enclaves k slot above inside) ∙ ap (enclave_at (with_enclave table k slot).enclaves) (sym same)
+          ∙ ap (λ t. enclave_at t.enclaves id) (sym is) ∙ live,
+    ))
     (λ no.
     let other : id ≢ k = λ same. both_ways (id == k) no (eq-eqb id k same) in
     inr (sym (set_other table.enclaves k id slot above other) ∙ ap (λ t. enclave_at t.enclaves id) (sym is) ∙ live))
 
 -- one that is Fresh after another was turned was there before
-turned : (table new : EnclaveTable) (k id : ℕ) (state : Stage) (e : Enclave) → Turns table k state new → state ≢ Fresh → Live new id e → e.state ≡ Fresh → Live table id e
+turned : (table new : EnclaveTable) (k id : ℕ) (state : Stage) (e : Enclave) → Turns table k state new → state ≢ Fresh → Live new id e → e.state ≡ Fresh
+    → Live table id e
 turned table new k id state e t differs live fresh =
     let was = t.0 in
     elim (placed table new k id (Some (record was { state = state })) e t.2 (live_above table.enclaves k was t.1) (live_inside table.enclaves k was t.1) live) [
@@ -71,10 +78,12 @@ exited_differs is = cc
 
 -- one that is Fresh after a call was there before, or is new
 fresh_call :
-    (call : Option Call) (digests : Create → List ℕ) (s : MonitorState) (hart : ℕ) (answer : Answer) (pages : Option PageRange) (new : MonitorState) (id : ℕ) (e : Enclave) → IsTable s.table → Live new.table id e → e.state ≡ Fresh
+    (call : Option Call) (digests : Create → List ℕ) (s : MonitorState) (hart : ℕ) (answer : Answer) (pages : Option PageRange) (new : MonitorState) (id : ℕ)
+    (e : Enclave) → IsTable s.table → Live new.table id e → e.state ≡ Fresh
     → DoesCall call digests s hart answer pages new → Live s.table id e ⊎ Absent s.table id
 fresh_call None digests s hart answer pages new id e right live fresh x = inl (same_table s.table new.table id e (ap (λ y. y.table) x.state) live)
-fresh_call (Some (calls.Create base text_pages data_pages shared_base shared_count entry_offset)) digests s hart answer pages new id e right live fresh (inl x) =
+fresh_call (Some (calls.Create base text_pages data_pages shared_base shared_count entry_offset)) digests s hart answer pages new id e right live fresh
+    (inl x) =
     let free = x.2.next.free in
     let high = free.1 in
     let inside : x.0 - 1 < length s.table.enclaves = omega (arith, free.0, high, right.places) in
@@ -82,35 +91,47 @@ fresh_call (Some (calls.Create base text_pages data_pages shared_base shared_cou
       | inl here ↦ inr (ap (enclave_at s.table.enclaves) here.0 ∙ free.2)
       | inr there ↦ inl there
     ]
-fresh_call (Some (calls.Create base text_pages data_pages shared_base shared_count entry_offset)) digests s hart answer pages new id e right live fresh (inr x) = inl (same_table s.table new.table id e (ap (λ y. y.table) x.2.state) live)
+fresh_call (Some (calls.Create base text_pages data_pages shared_base shared_count entry_offset)) digests s hart answer pages new id e right live fresh
+    (inr x) = inl (same_table s.table new.table id e (ap (λ y. y.table) x.2.state) live)
 fresh_call (Some (calls.Destroy k)) digests s hart answer pages new id e right live fresh (inl x) =
     let g = x.2.passes.1.0 in
-    elim (placed s.table new.table k id None e (ap (λ y. y.table) x.3.state ∙ x.2.removed) (live_above s.table.enclaves k g.0 g.1) (live_inside s.table.enclaves k g.0 g.1) live) [
+    elim (placed s.table new.table k id None e (ap (λ y. y.table) x.3.state ∙ x.2.removed) (live_above s.table.enclaves k g.0 g.1)
+    (live_inside s.table.enclaves k g.0 g.1) live) [
       | inl here ↦ absurd (let z : None ≡ Some e = here.1 in cc)
       | inr there ↦ inl there
     ]
-fresh_call (Some (calls.Destroy k)) digests s hart answer pages new id e right live fresh (inr x) = inl (same_table s.table new.table id e (ap (λ y. y.table) x.2.state) live)
+fresh_call (Some (calls.Destroy k)) digests s hart answer pages new id e right live fresh (inr x) = inl
+    (same_table s.table new.table id e (ap (λ y. y.table) x.2.state) live)
 fresh_call (Some (calls.Run k)) digests s hart answer pages new id e right live fresh (inl x) =
     inl (turned s.table x.1 k id Running e x.3.turned running_differs (subst (λ t. Live t id e) (ap (λ y. y.table) x.4.state) live) fresh)
-fresh_call (Some (calls.Run k)) digests s hart answer pages new id e right live fresh (inr x) = inl (same_table s.table new.table id e (ap (λ y. y.table) x.2.state) live)
+fresh_call (Some (calls.Run k)) digests s hart answer pages new id e right live fresh (inr x) = inl
+    (same_table s.table new.table id e (ap (λ y. y.table) x.2.state) live)
 fresh_call (Some calls.Stop) digests s hart answer pages new id e right live fresh (inl x) =
     inl (turned s.table x.1 x.0 id Stopped e x.2.turned stopped_differs (subst (λ t. Live t id e) (ap (λ y. y.table) x.3.state) live) fresh)
-fresh_call (Some calls.Stop) digests s hart answer pages new id e right live fresh (inr x) = inl (same_table s.table new.table id e (ap (λ y. y.table) x.2.state) live)
+fresh_call (Some calls.Stop) digests s hart answer pages new id e right live fresh (inr x) = inl
+    (same_table s.table new.table id e (ap (λ y. y.table) x.2.state) live)
 fresh_call (Some (calls.Resume k)) digests s hart answer pages new id e right live fresh (inl x) =
     inl (turned s.table x.1 k id Running e x.3.turned running_differs (subst (λ t. Live t id e) (ap (λ y. y.table) x.4.state) live) fresh)
-fresh_call (Some (calls.Resume k)) digests s hart answer pages new id e right live fresh (inr x) = inl (same_table s.table new.table id e (ap (λ y. y.table) x.2.state) live)
+fresh_call (Some (calls.Resume k)) digests s hart answer pages new id e right live fresh (inr x) = inl
+    (same_table s.table new.table id e (ap (λ y. y.table) x.2.state) live)
 fresh_call (Some (calls.Exit value)) digests s hart answer pages new id e right live fresh (inl x) =
     inl (turned s.table x.1 x.0 id Exited e x.2.turned exited_differs (subst (λ t. Live t id e) (ap (λ y. y.table) x.3.state) live) fresh)
-fresh_call (Some (calls.Exit value)) digests s hart answer pages new id e right live fresh (inr x) = inl (same_table s.table new.table id e (ap (λ y. y.table) x.2.state) live)
-fresh_call (Some (calls.Measure k n)) digests s hart answer pages new id e right live fresh (inl x) = inl (same_table s.table new.table id e (ap (λ y. y.table) x.2.state) live)
-fresh_call (Some (calls.Measure k n)) digests s hart answer pages new id e right live fresh (inr x) = inl (same_table s.table new.table id e (ap (λ y. y.table) x.2.state) live)
+fresh_call (Some (calls.Exit value)) digests s hart answer pages new id e right live fresh (inr x) = inl
+    (same_table s.table new.table id e (ap (λ y. y.table) x.2.state) live)
+fresh_call (Some (calls.Measure k n)) digests s hart answer pages new id e right live fresh (inl x) = inl
+    (same_table s.table new.table id e (ap (λ y. y.table) x.2.state) live)
+fresh_call (Some (calls.Measure k n)) digests s hart answer pages new id e right live fresh (inr x) = inl
+    (same_table s.table new.table id e (ap (λ y. y.table) x.2.state) live)
 
-fresh_irq : (world : World) (s : MonitorState) (hart : ℕ) (new : MonitorState) (id : ℕ) (e : Enclave) → Live new.table id e → e.state ≡ Fresh → Interrupts world s hart new → Live s.table id e
+fresh_irq : (world : World) (s : MonitorState) (hart : ℕ) (new : MonitorState) (id : ℕ) (e : Enclave) → Live new.table id e → e.state ≡ Fresh
+    → Interrupts world s hart new → Live s.table id e
 fresh_irq Host s hart new id e live fresh x = same_table s.table new.table id e (ap (λ y. y.table) x) live
-fresh_irq (InEnclave k) s hart new id e live fresh x = turned s.table x.0 k id Stopped e x.1.turned stopped_differs (subst (λ t. Live t id e) (ap (λ y. y.table) x.2) live) fresh
+fresh_irq (InEnclave k) s hart new id e live fresh x = turned s.table x.0 k id Stopped e x.1.turned stopped_differs
+    (subst (λ t. Live t id e) (ap (λ y. y.table) x.2) live) fresh
 
 fresh_served :
-    (event : TrapEvent) (s : MonitorState) (trap : Trap) (given : ControlWords) (read question answered : List ℕ) (new : MonitorState) (id : ℕ) (e : Enclave) → IsTable s.table → Live new.table id e → e.state ≡ Fresh
+    (event : TrapEvent) (s : MonitorState) (trap : Trap) (given : ControlWords) (read question answered : List ℕ) (new : MonitorState) (id : ℕ) (e : Enclave)
+    → IsTable s.table → Live new.table id e → e.state ≡ Fresh
     → ServesAs event s trap given read question answered new → Live s.table id e ⊎ Absent s.table id
 fresh_served traps.Call s trap given read question answered new id e right live fresh x =
     let file = past_call trap.registers in
@@ -122,7 +143,8 @@ fresh_served traps.Stop s trap given read question answered new id e right live 
 
 -- where an enclave is new none is gone
 kept_call :
-    (call : Option Call) (digests : Create → List ℕ) (s : MonitorState) (hart : ℕ) (answer : Answer) (pages : Option PageRange) (new : MonitorState) (id : ℕ) (e : Enclave) → Absent s.table id → Live new.table id e → DoesCall call digests s hart answer pages new
+    (call : Option Call) (digests : Create → List ℕ) (s : MonitorState) (hart : ℕ) (answer : Answer) (pages : Option PageRange) (new : MonitorState) (id : ℕ)
+    (e : Enclave) → Absent s.table id → Live new.table id e → DoesCall call digests s hart answer pages new
     → (other : ℕ) (g : Enclave) → Live s.table other g → Absent new.table other → ⊥
 kept_call call digests s hart answer pages new id e none live x other g was gone =
     let wiped = lost_call call digests s hart answer pages new other g was gone x in
@@ -130,14 +152,16 @@ kept_call call digests s hart answer pages new id e none live x other g was gone
       | inl nothing ↦ let z : None ≡ Some (private_of g) = sym nothing ∙ wiped in absurd cc
       | inr some ↦
           let c = some.2 in
-          elim (placed s.table new.table c.id id None e c.table (live_above s.table.enclaves c.id c.enclave c.live) (live_inside s.table.enclaves c.id c.enclave c.live) live) [
+          elim (placed s.table new.table c.id id None e c.table (live_above s.table.enclaves c.id c.enclave c.live)
+          (live_inside s.table.enclaves c.id c.enclave c.live) live) [
             | inl here ↦ let z : None ≡ Some e = here.1 in absurd cc
             | inr there ↦ let z : None ≡ Some e = sym none ∙ there in absurd cc
           ]
     ]
 
 none_gone :
-    (event : TrapEvent) (s : MonitorState) (trap : Trap) (given : ControlWords) (read question answered : List ℕ) (new : MonitorState) (id : ℕ) (e : Enclave) → Absent s.table id → Live new.table id e → ServesAs event s trap given read question answered new
+    (event : TrapEvent) (s : MonitorState) (trap : Trap) (given : ControlWords) (read question answered : List ℕ) (new : MonitorState) (id : ℕ) (e : Enclave)
+    → Absent s.table id → Live new.table id e → ServesAs event s trap given read question answered new
     → (other : ℕ) (g : Enclave) → Live s.table other g → Absent new.table other → ⊥
 none_gone traps.Call s trap given read question answered new id e none live x other g was gone =
     let file = past_call trap.registers in
@@ -149,7 +173,8 @@ none_gone traps.Stop s trap given read question answered new id e none live x ot
     lost_irq (s.worlds trap.hart) (with_running s trap.hart trap.registers) trap.hart x.mid other g was lost x.step
 
 -- the digest of the same bytes
-same_bytes : (memory other : ℕ → ℕ) (address count : ℕ) → ((byte : ℕ) → address ≤ byte → byte < address + count → memory byte ≡ other byte) → bytes_at memory address count ≡ bytes_at other address count
+same_bytes : (memory other : ℕ → ℕ) (address count : ℕ) → ((byte : ℕ) → address ≤ byte → byte < address + count → memory byte ≡ other byte)
+    → bytes_at memory address count ≡ bytes_at other address count
 unfolding bytes_at
 same_bytes memory other address zero same = refl
 same_bytes memory other address (suc count) same =
@@ -157,14 +182,16 @@ same_bytes memory other address (suc count) same =
     let rest = same_bytes memory other (address + 1) count (λ byte low high. same byte (omega (arith, low)) (omega (arith, high))) in
     ap (λ byte. byte ∷ bytes_at memory (address + 1) count) first ∙ ap (λ bytes. other address ∷ bytes) rest
 
-same_pages : (pages others : ℕ → List ℕ) (first count : ℕ) → ((page : ℕ) → first ≤ page → page < first + count → pages page ≡ others page) → pages_from pages first count ≡ pages_from others first count
+same_pages : (pages others : ℕ → List ℕ) (first count : ℕ) → ((page : ℕ) → first ≤ page → page < first + count → pages page ≡ others page)
+    → pages_from pages first count ≡ pages_from others first count
 same_pages pages others first zero same = refl
 same_pages pages others first (suc count) same =
     let last : pages (first + count) ≡ others (first + count) = same (first + count) (omega arith) (omega arith) in
     let front = same_pages pages others first count (λ page low high. same page low (omega (arith, high))) in
     ap (λ page. pages_from pages first count ++ (page ∷ [])) last ∙ ap (λ before. before ++ (others (first + count) ∷ [])) front
 
-same_measured : (memory other : ℕ → ℕ) (parts : Create) → ((byte : ℕ) → is_private parts (byte / 4096) ≡ true → memory byte ≡ other byte) → measured_in memory parts ≡ measured_in other parts
+same_measured : (memory other : ℕ → ℕ) (parts : Create) → ((byte : ℕ) → is_private parts (byte / 4096) ≡ true → memory byte ≡ other byte)
+    → measured_in memory parts ≡ measured_in other parts
 same_measured memory other parts same =
     let first = parts.base / 4096 in
     let count = parts.text_pages + parts.data_pages in
@@ -172,11 +199,13 @@ same_measured memory other parts same =
     (same_pages (λ page. bytes_at memory (page * 4096) 4096) (λ page. bytes_at other (page * 4096) 4096) first count
     (λ page low high. same_bytes memory other (page * 4096) 4096 (λ byte from until.
     let here : byte / 4096 ≡ page = omega (arith, from, until) in
-    let own : is_private parts page ≡ true = and_from (nat_le first page) (nat_lt page (first + count)) (le-leb first page low) (lt-ltb page (first + count) high) in
+    let own : is_private parts page ≡ true = and_from (nat_le first page) (nat_lt page (first + count)) (le-leb first page low)
+    (lt-ltb page (first + count) high) in
     same byte (ap (is_private parts) here ∙ own))))
 
 -- over an access: who stores is Running
-pub measured_access : (old : Board) (hart : ℕ) (a : Access) (said : Result (Unit {0}) Cause) (new : Board) → ArePlaced old.monitor → hart < old.monitor.table.layout.harts → new.monitor ≡ old.monitor → KeepsAccess old hart a said new → AreMeasured old → AreMeasured new
+pub measured_access : (old : Board) (hart : ℕ) (a : Access) (said : Result (Unit {0}) Cause) (new : Board) → ArePlaced old.monitor
+    → hart < old.monitor.table.layout.harts → new.monitor ≡ old.monitor → KeepsAccess old hart a said new → AreMeasured old → AreMeasured new
 measured_access old hart a said new placed known same k before = λ id e live fresh.
     let was : Live old.monitor.table id e = subst (λ (m : MonitorState). Live m.table id e) same live in
     before id e was fresh ∙ same_measured old.memory new.memory e.parts (λ byte own. elim (k.private id byte e (was, own)) [
@@ -188,9 +217,12 @@ measured_access old hart a said new placed known same k before = λ id e live fr
     ])
 
 -- over a trap
-pub measured_trap : (old : Board) (trap : Trap) (frame read question answered : List ℕ) (new : Board) → IsTable old.monitor.table → DoesTrap old trap frame read question answered new → KeepsMemory old new → AreMeasured old → AreMeasured new
+pub measured_trap : (old : Board) (trap : Trap) (frame read question answered : List ℕ) (new : Board) → IsTable old.monitor.table
+    → DoesTrap old trap frame read question answered new → KeepsMemory old new → AreMeasured old → AreMeasured new
 measured_trap old trap frame read question answered new right x k before = λ id e live fresh.
     elim (fresh_served trap.event old.monitor trap x.served.given read question answered new.monitor id e right live fresh x.served.step) [
       | inl was ↦ before id e was fresh ∙ same_measured old.memory new.memory e.parts (λ byte own. sym (k.private id byte e e (was, own) (live, own)))
-      | inr none ↦ k.digest id e none live ∙ same_measured old.memory new.memory e.parts (λ byte own. sym (k.stays (λ other gone. none_gone trap.event old.monitor trap x.served.given read question answered new.monitor id e none live x.served.step other gone.0 gone.1 gone.2) byte))
+      | inr none ↦ k.digest id e none live ∙ same_measured old.memory new.memory e.parts
+          (λ byte own. sym (k.stays (λ other gone. none_gone trap.event old.monitor trap x.served.given read question answered new.monitor id e none live
+          x.served.step other gone.0 gone.1 gone.2) byte))
     ]

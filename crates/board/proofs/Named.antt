@@ -17,19 +17,22 @@ abbrev pub Names : List ℕ → PageRange → Type 0
 Names bytes range = (word_at bytes 6 ≡ range.first) × (word_at bytes 7 ≡ range.count)
 
 -- the words at their places are those that were put there, where they have 64 bits
-in_bytes : (head : Head) (file : RegisterFile) (entries : List Entry) (control : ControlWords) → (pages_of head.zero).first < 2 ^ 64 → (pages_of head.zero).count < 2 ^ 64 → Names (answer_bytes head file entries control) (pages_of head.zero)
+in_bytes : (head : Head) (file : RegisterFile) (entries : List Entry) (control : ControlWords) → (pages_of head.zero).first < 2 ^ 64
+    → (pages_of head.zero).count < 2 ^ 64 → Names (answer_bytes head file entries control) (pages_of head.zero)
 in_bytes head file entries control first count =
     let bytes = answer_bytes head file entries control in
     (little_number-reads_back 8 (pages_of head.zero).first (drop 56 bytes) first, little_number-reads_back 8 (pages_of head.zero).count (drop 64 bytes) count)
 
 -- pages in the space
-small : (cleared : Option PageRange) → IfSome cleared (λ range. range.first + range.count ≤ 2 ^ 44) → ((pages_of cleared).first < 2 ^ 64) × ((pages_of cleared).count < 2 ^ 64)
+small : (cleared : Option PageRange) → IfSome cleared (λ range. range.first + range.count ≤ 2 ^ 44)
+    → ((pages_of cleared).first < 2 ^ 64) × ((pages_of cleared).count < 2 ^ 64)
 small None inside = (lit< tt, lit< tt)
 small (Some range) inside = (omega (arith, inside), omega (arith, inside))
 
 -- an answer names the pages that are to be made zero
 pub named :
-    (s : MonitorState) (given : ControlWords) (hart : ℕ) (answer : Answer) (cleared : Option PageRange) (woken : List Bool) (bytes : List ℕ) → IsAnswer s given hart answer cleared woken bytes
+    (s : MonitorState) (given : ControlWords) (hart : ℕ) (answer : Answer) (cleared : Option PageRange) (woken : List Bool) (bytes : List ℕ)
+    → IsAnswer s given hart answer cleared woken bytes
     → IfSome cleared (λ range. range.first + range.count ≤ 2 ^ 44) → Names bytes (pages_of cleared)
 named s given hart answer cleared woken bytes a inside =
     let low = small cleared inside in

@@ -1,5 +1,6 @@
 -- What holds of memory over a trap.
-use Rattle.std.proofs.Common.{◌≡◌, ◌∙◌, inl, inr, ℕ, ◌+◌, ◌/◌, ◌≤◌, ◌^◌, ◌||◌, true, false, if◌then◌else◌, List, Option, Some, None, IfSome, ap, sym, subst, arith}
+use Rattle.std.proofs.Common.{◌≡◌, ◌∙◌, inl, inr, ℕ, ◌+◌, ◌/◌, ◌≤◌, ◌^◌, ◌||◌, true, false, if◌then◌else◌, List, Option, Some, None, IfSome, ap, sym, subst}
+use Rattle.std.proofs.Common.{arith}
 use Rattle.std.proofs.lemmas.Bool.{both_ways, false_from_ne_true}
 use Rattle.pmp_encoding.specs.declared.pages.PageRange.{PageRange}
 use Rattle.pmp_encoding.specs.Views.{in_range}
@@ -43,24 +44,28 @@ abbrev pub cleared_by : Option PageRange → (ℕ → ℕ) → ℕ → ℕ
 cleared_by cleared memory = zeroed memory (pages_of cleared).first (pages_of cleared).count
 
 -- where no enclave is gone no pages are made zero
-all_stay : (cleared : Option PageRange) (s new : MonitorState) (memory : ℕ → ℕ) (byte : ℕ) → IfSome cleared (AreDestroyed s new) → ((id : ℕ) → IsGone s new id → ⊥) → cleared_by cleared memory byte ≡ memory byte
+all_stay : (cleared : Option PageRange) (s new : MonitorState) (memory : ℕ → ℕ) (byte : ℕ) → IfSome cleared (AreDestroyed s new)
+    → ((id : ℕ) → IsGone s new id → ⊥) → cleared_by cleared memory byte ≡ memory byte
 all_stay None s new memory byte d none = ap (λ b. if b then 0 else memory byte) (none_in (byte / 4096))
 all_stay (Some range) s new memory byte d none = absurd (none d.1.0 d.1.1)
 
 -- pages that are made zero are private to no enclave that is live before and after
-private_stays : (cleared : Option PageRange) (s new : MonitorState) (memory : ℕ → ℕ) (id byte : ℕ) (e f : Enclave) → IsTable s.table → IfSome cleared (AreDestroyed s new) → Live s.table id e → is_private e.parts (byte / 4096) ≡ true → Live new.table id f
+private_stays : (cleared : Option PageRange) (s new : MonitorState) (memory : ℕ → ℕ) (id byte : ℕ) (e f : Enclave) → IsTable s.table
+    → IfSome cleared (AreDestroyed s new) → Live s.table id e → is_private e.parts (byte / 4096) ≡ true → Live new.table id f
     → cleared_by cleared memory byte ≡ memory byte
 private_stays None s new memory id byte e f right d live own now = ap (λ b. if b then 0 else memory byte) (none_in (byte / 4096))
 private_stays (Some range) s new memory id byte e f right d live own now =
     let gone = d.1.1 in
     let outside : in_range range.first range.count (byte / 4096) ≡ false = false_from_ne_true (in_range range.first range.count (byte / 4096)) (λ yes.
     let theirs : is_private gone.0.parts (byte / 4096) ≡ true = ap (λ (r : PageRange). in_range r.first r.count (byte / 4096)) (sym d.1.2) ∙ yes in
-    let same : d.1.0 ≡ id = right.alone d.1.0 id gone.0 e (byte / 4096) gone.1 live (as_part gone.0.parts (byte / 4096) theirs) (as_part e.parts (byte / 4096) own) in
+    let same : d.1.0 ≡ id = right.alone d.1.0 id gone.0 e (byte / 4096) gone.1 live (as_part gone.0.parts (byte / 4096) theirs)
+    (as_part e.parts (byte / 4096) own) in
     let z : None ≡ Some f = sym gone.2 ∙ subst (λ n. enclave_at new.table.enclaves n ≡ Some f) (sym same) now in cc) in
     ap (λ b. if b then 0 else memory byte) outside
 
 -- pages that are made zero are none of the monitor's
-monitor_stays : (cleared : Option PageRange) (s new : MonitorState) (memory : ℕ → ℕ) (byte : ℕ) → IfSome cleared (AreDestroyed s new) → has_page s.table.layout.monitor (byte / 4096) ≡ true → cleared_by cleared memory byte ≡ memory byte
+monitor_stays : (cleared : Option PageRange) (s new : MonitorState) (memory : ℕ → ℕ) (byte : ℕ) → IfSome cleared (AreDestroyed s new)
+    → has_page s.table.layout.monitor (byte / 4096) ≡ true → cleared_by cleared memory byte ≡ memory byte
 monitor_stays None s new memory byte d own = ap (λ b. if b then 0 else memory byte) (none_in (byte / 4096))
 monitor_stays (Some range) s new memory byte d own =
     let outside : in_range range.first range.count (byte / 4096) ≡ false = false_from_ne_true (in_range range.first range.count (byte / 4096)) (λ yes.
@@ -68,7 +73,8 @@ monitor_stays (Some range) s new memory byte d own =
     ap (λ b. if b then 0 else memory byte) outside
 
 -- the digest of a creation that was asked for is that of memory
-digest_is : (asked : Option Create) (s : MonitorState) (hart : ℕ) (question read digest : List ℕ) (memory : ℕ → ℕ) (parts : Create) → AsksFor asked s hart question read digest → ReadsMemory memory read → Measures asked s.table (s.worlds hart) parts
+digest_is : (asked : Option Create) (s : MonitorState) (hart : ℕ) (question read digest : List ℕ) (memory : ℕ → ℕ) (parts : Create)
+    → AsksFor asked s hart question read digest → ReadsMemory memory read → Measures asked s.table (s.worlds hart) parts
     → ((one : Create) → Measures asked s.table (s.worlds hart) one → one ≡ parts) → digest ≡ measured_in memory parts
 digest_is asked s hart question read digest memory parts (inl none) reads m only = absurd (none.2 parts m)
 digest_is asked s hart question read digest memory parts (inr some) reads m only =
@@ -77,12 +83,14 @@ digest_is asked s hart question read digest memory parts (inr some) reads m only
     some.5 ∙ ap (digest_of (layout_of one)) are ∙ ap (measured_in memory) (only one some.1)
 
 -- the parts that are measured are those that were asked for
-only_parts : (asked : Option Create) (table : EnclaveTable) (s : MonitorState) (hart : ℕ) (parts one : Create) → Measures asked s.table (s.worlds hart) parts → Measures asked s.table (s.worlds hart) one → one ≡ parts
+only_parts : (asked : Option Create) (table : EnclaveTable) (s : MonitorState) (hart : ℕ) (parts one : Create) → Measures asked s.table (s.worlds hart) parts
+    → Measures asked s.table (s.worlds hart) one → one ≡ parts
 only_parts None table s hart parts one m n = absurd m
 only_parts (Some asked) table s hart parts one m n = n.0 ∙ sym m.0
 
 new_digest :
-    (event : TrapEvent) (s : MonitorState) (trap : Trap) (given : ControlWords) (read question answered : List ℕ) (new : MonitorState) (memory : ℕ → ℕ) (id : ℕ) (e : Enclave) → IsTable s.table → ReadsMemory memory read → Absent s.table id → Live new.table id e
+    (event : TrapEvent) (s : MonitorState) (trap : Trap) (given : ControlWords) (read question answered : List ℕ) (new : MonitorState) (memory : ℕ → ℕ) (id : ℕ)
+    (e : Enclave) → IsTable s.table → ReadsMemory memory read → Absent s.table id → Live new.table id e
     → ServesAs event s trap given read question answered new → e.digest ≡ measured_in memory e.parts
 new_digest Call s trap given read question answered new memory id e right reads none live x =
     let hart = trap.hart in
@@ -99,7 +107,8 @@ new_digest Stop s trap given read question answered new memory id e right reads 
     absurd (made_irq (s.worlds hart) t hart x.mid id e none now x.step)
 
 pub trap_kept :
-    (old : Board) (trap : Trap) (frame read question answered : List ℕ) (new : Board) → IsTable old.monitor.table → DoesTrap old trap frame read question answered new → KeepsTrap old.monitor old.hosts trap read question answered new.monitor new.hosts
+    (old : Board) (trap : Trap) (frame read question answered : List ℕ) (new : Board) → IsTable old.monitor.table
+    → DoesTrap old trap frame read question answered new → KeepsTrap old.monitor old.hosts trap read question answered new.monitor new.hosts
     → KeepsMemory old new
 trap_kept old trap frame read question answered new right x k =
     let inside : IfSome k.cleared (λ range. range.first + range.count ≤ 2 ^ 44) = in_space k.cleared k.zeroes in
@@ -112,9 +121,11 @@ trap_kept old trap frame read question answered new right x k =
       monitor = λ byte own. memory byte ∙ monitor_stays k.cleared old.monitor new.monitor old.memory byte k.zeroes own;
       zeroes = λ id gone byte. memory byte ∙ ap (λ cleared. cleared_by cleared old.memory byte) (k.destroys id gone);
       stays = λ none byte. memory byte ∙ all_stay k.cleared old.monitor new.monitor old.memory byte k.zeroes none;
-      digest = λ id e none live. new_digest trap.event old.monitor trap x.served.given read question answered new.monitor old.memory id e right x.pages none live x.served.step;
+      digest = λ id e none live. new_digest trap.event old.monitor trap x.served.given read question answered new.monitor old.memory id e right x.pages none
+          live x.served.step;
     }
   where
-    in_space : (cleared : Option PageRange) → IfSome cleared (AreDestroyed old.monitor new.monitor) → IfSome cleared (λ range. range.first + range.count ≤ 2 ^ 44)
+    in_space : (cleared : Option PageRange) → IfSome cleared (AreDestroyed old.monitor new.monitor)
+        → IfSome cleared (λ range. range.first + range.count ≤ 2 ^ 44)
     in_space None d = tt
     in_space (Some range) d = d.0.inside

@@ -7,7 +7,7 @@ use Rattle.pmp_match.specs.declared.access.Kind.TheVariants.{Store}
 use Rattle.pmp_match.specs.declared.cause.Cause.{Cause}
 use Rattle.sbi_decode.specs.declared.world.World.TheVariants.{Enclave as InEnclave}
 use Rattle.measurement.specs.Requests.{is_private}
-use Rattle.platforms.specs.Platform.{IsLayout, PlatformLayout}
+use Rattle.platforms.specs.Platform.{PlatformLayout}
 use Rattle.platforms.specs.Ranges.{has_page}
 use Rattle.enclave_table.specs.Enclaves.{Live, enclave_at}
 use Rattle.enclave_table.specs.Tables.{IsTable}
@@ -20,7 +20,6 @@ use Rattle.monitor_core.specs.Worlds.{ArePlaced}
 use Rattle.hart_sim.specs.Memory.{measured_in}
 use Rattle.hart_sim.specs.Steps.{verdict}
 use Rattle.trap_server.specs.Answered.{AreAwake}
-use Rattle.trap_server.specs.Boot.{IsFirstAnswer}
 use Rattle.trap_server.specs.Firmware.{HasFewest, loaded_last}
 use Rattle.trap_server.specs.Runs.{ServesTraps, first_words}
 use Rattle.board.specs.Board.{Board, BoardEvent, BoardRun, access, trapped, booted}
