@@ -80,7 +80,7 @@ void host_timer_begin(int has_stimecmp);
 void host_timer_at(uint64_t time);
 void host_timer_came(void);
 
-/* sbi.c: answers a call of the host that is none of the monitor's, where it is one. */
+/* sbi.c: answers a call of the host that is not the monitor's, if it knows it. */
 int board_call(struct world *world);
 extern uint64_t stop_cause[MOST_HARTS], stop_value[MOST_HARTS];
 

@@ -24,7 +24,7 @@ enum {
     HEADER_WORDS
 };
 #define VERSION 17
-/* What a boot loader adds to the tree in place, as U-Boot does, has room in so many bytes. */
+/* What a boot loader adds to the tree in place, as U-Boot does, has room in this many bytes. */
 #define SLACK 4096u
 /* Section 5.4.1: the tokens of the structure block. */
 enum { BEGIN_NODE = 1, END_NODE = 2, PROP = 3, NOP = 4, END = 9 };
@@ -67,7 +67,7 @@ static int is_inside(uint32_t first, uint32_t size, uint32_t end)
     return first <= end && size <= end - first;
 }
 
-/* The blocks stand in their order (section 5.1), each inside the tree. */
+/* The blocks are in their order (section 5.1), each inside the tree. */
 static int read_header(struct tree *tree, uint64_t room)
 {
     const uint8_t *at = tree->at;
@@ -255,7 +255,7 @@ static void put_in(struct tree *tree, uint32_t place, const struct piece *piece)
         store(at + 4 * WORD_SIZE, names_end);
 }
 
-/* Whether a number goes into so many cells, one or two. */
+/* Whether a number fits into that many cells, one or two. */
 static int fits(uint64_t number, uint32_t cells)
 {
     return cells == 2 || (cells == 1 && number >> 32 == 0);
@@ -344,7 +344,7 @@ static void read_reg(const struct tree *tree, uint32_t at, enum kind kind, const
         read_hart(tree, at + 8, length, board);
 }
 
-/* Walks all tokens up to the end of the root; whether it came there. The root's cells stand before its nodes (section 5.4.2). */
+/* Walks all tokens up to the end of the root; whether it came there. The root's cells come before its nodes (section 5.4.2). */
 static int find_harts_and_memory(const struct tree *tree, struct board_in_tree *board)
 {
     struct place root = {.address_cells = 2, .size_cells = 1};

@@ -62,7 +62,7 @@ static struct sbiret hart_get_status(uint64_t hart)
     return (struct sbiret){SBI_SUCCESS, hart_state[hart]};
 }
 
-/* No type of suspension is implemented; the reserved ones are told from those. */
+/* No type of suspension is implemented; the reserved ones have another error. */
 static struct sbiret hart_suspend(uint32_t type)
 {
     uint32_t of_its_half = type & ~NON_RETENTIVE;

@@ -51,7 +51,7 @@ static uint64_t call_of_monitor(const struct world *world, unsigned hart)
     return TAG_CALL;
 }
 
-/* Whether a trap is none of the monitor's, and what it asked for is done. */
+/* Whether a trap is not the monitor's, and what it asked for is done. */
 static int is_of_board(struct world *world, unsigned hart)
 {
     if (world->cause == CAUSE_SOFTWARE)

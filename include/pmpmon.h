@@ -16,7 +16,7 @@
  *
  * Loading the registers, in machine mode: write pmpaddr0, pmpaddr1, .. from addr[0], addr[1], .., then pmpcfg0 from
  * cfg[0], pmpcfg2 from cfg[1], and so on, then execute sfence.vma. A hart with 16 entries has addr[0] to addr[15], cfg[0]
- * and cfg[1]. Write all of them, since those past the list are zero, which turns what stood there off. Nothing here is
+ * and cfg[1]. Write all of them, since those past the list are zero, which turns off what was there. Nothing here is
  * locked, so machine mode keeps all access while they are written.
  *
  * Calls: each function keeps nothing between calls, and reads and writes what its pointers point to during the call alone.

@@ -1,5 +1,5 @@
 /*
- * In place of traps.c: the worlds do what a trace says, and each event has its line, as `pmpmon run` writes it.
+ * Instead of traps.c: the worlds do what a trace says, and each event has its line, as `pmpmon run` writes it.
  */
 #include "trace.h"
 #include "heap.h"

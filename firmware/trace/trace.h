@@ -1,4 +1,4 @@
-/* What a trace says, as ./pmpmon-on-hart puts it behind the image. */
+/* What a trace says, as ./pmpmon-on-hart puts it after the image. */
 #ifndef TRACE_H
 #define TRACE_H
 #include "board.h"
@@ -20,7 +20,7 @@ struct trace {
     struct event events[];
 };
 
-/* Both stand in the range of the monitor, after its image. */
+/* Both are in the range of the monitor, after its image. */
 #define PLATFORM_AT 0x80060000ul
 #define TRACE_AT 0x80061000ul
 

@@ -127,7 +127,7 @@ static int64_t load_or_store(const struct event *event, uint64_t *loaded)
     return (int64_t)world.cause;
 }
 
-/* A fetch: where there is memory that is not the monitor's a breakpoint stands there, and elsewhere what is there. */
+/* A fetch: in memory that is not the monitor's it meets a breakpoint, and elsewhere what is there. */
 static int64_t fetch(const struct event *event)
 {
     uint64_t address = event->address;

@@ -7,10 +7,10 @@ use crate::streams::{DIGITS_ROOM, Numbered, TEXT_ROOM};
 use std::alloc::{AllocError, Global};
 use std::marker::Model;
 
-/// How many bytes are held at most. A signal that ends the program can lose so many.
+/// How many bytes are held at most. A signal that ends the program can lose that many.
 pub const HELD: usize = 32768;
 
-/// How many bytes behind a number [`HeldBytes::push_numbered`] copies. Nearly all answers have fewer.
+/// How many bytes after a number [`HeldBytes::push_numbered`] copies. Nearly all answers have fewer.
 pub const COPIED: usize = 48;
 
 /// How many bytes it may write: those, a number's last digit, and the others.
@@ -34,7 +34,7 @@ impl Model for HeldBytes {
 }
 
 impl HeldBytes {
-    /// No bytes. It stands apart, so that no caller has the array among its locals.
+    /// No bytes. It is not inlined, so that no caller has the array among its locals.
     #[inline(never)]
     pub fn new(alloc: Global) -> Result<HeldBytes, AllocError>
         ensures { IfOk result (λ held. held ≡ []) }
@@ -128,7 +128,7 @@ impl HeldBytes {
         self.push_front(text.text, text.text_len);
     }
 
-    /// Lets go of the first bytes. Those behind them move to the front.
+    /// Lets go of the first bytes. Those after them move to the front.
     pub fn drop_front(&mut self, count: usize)
         requires { count ≤ length self.old }
         ensures { self.new ≡ drop count self.old }

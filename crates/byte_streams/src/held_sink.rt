@@ -106,7 +106,7 @@ impl<T: Write> HeldSink<T> {
         Ok(n)
     }
 
-    /// Takes bytes for which there may be no room. It stands apart, for nearly all have room.
+    /// Takes bytes for which there may be no room. It is not inlined, as nearly all have room.
     #[cold]
     #[inline(never)]
     fn write_past(&mut self, buf: &[u8]) -> Result<usize, DeviceFault>

@@ -6,7 +6,7 @@
 //! it is made; nothing else here takes any.
 //!
 //! For the layer above: [`write_whole`] writes all of its bytes, or a beginning of them where the sink failed or took none.
-//! [`write_numbered`] does so for a short text behind a number, which a [`HeldSink`] takes without a call.
+//! [`write_numbered`] does so for a short text after a number, which a [`HeldSink`] takes without a call.
 //!
 //! ```text
 //! let mut out = Counted::new(stdout);

@@ -1,4 +1,4 @@
-//! Devices that bytes come from and go to. Each tells its bytes, where they are known, and counts
+//! Devices that bytes come from and go to. Each reports its bytes, where they are known, and counts
 //! its failures, so that a contract can say what was read and written, and that a fault comes only
 //! where a device failed.
 
@@ -19,14 +19,14 @@ pub const TEXT_ROOM: usize = 128;
 /// How many bytes the array of a number's first digits has room for.
 pub const DIGITS_ROOM: usize = 20;
 
-/// A short text behind a number. The number's last digit stands apart, and of both arrays only the first bytes count.
+/// A short text after a number. The number's last digit is separate, and of both arrays only the first bytes count.
 #[derive(Clone, Copy)]
 pub struct Numbered<'a> {
     /// The digits before the last one.
     pub front: &'a [u8; DIGITS_ROOM],
     pub front_len: usize,
     pub last: u8,
-    /// What stands behind the number.
+    /// What comes after the number.
     pub text: &'a [u8; TEXT_ROOM],
     pub text_len: usize,
 }
@@ -193,7 +193,7 @@ impl<T: Write> Sink for Counted<T> {
     }
 }
 
-/// Writes all of the bytes, in as many writes as it takes. It stands apart, for nearly all sinks take them at once.
+/// Writes all of the bytes, in as many writes as it takes. It is not inlined, as nearly all sinks take them at once.
 #[cold]
 #[inline(never)]
 fn write_on<W: Sink>(sink: &mut W, bytes: &[u8]) -> Result<(), DeviceFault>
@@ -242,7 +242,7 @@ fn append(text: &mut Joined, bytes: &[u8])
     };
 }
 
-/// The bytes of a numbered text, one behind the other.
+/// The bytes of a numbered text, one after the other.
 fn joined(text: Numbered<'_>) -> Joined
     requires front { text.front_len ≤ 20 }
     requires text { text.text_len ≤ 128 }
@@ -257,7 +257,7 @@ fn joined(text: Numbered<'_>) -> Joined
     bytes
 }
 
-/// Writes all of a numbered text, as [`write_whole`] does. It stands apart, for nearly all are taken at once.
+/// Writes all of a numbered text, as [`write_whole`] does. It is not inlined, as nearly all are taken at once.
 #[inline(never)]
 fn write_apart<W: Sink>(sink: &mut W, text: Numbered<'_>) -> Result<(), DeviceFault>
     requires front { text.front_len ≤ 20 }

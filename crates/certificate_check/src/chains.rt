@@ -98,7 +98,7 @@ fn go_on(
     }
 }
 
-/// What the entries give from the page on, where they stand in chains that end at `ends`. The places go on.
+/// What the entries give from the page on, where they form chains that end at `ends`. The places go on.
 pub(crate) fn piece_of_chains(
     entries: &Entries,
     ends: &[usize],

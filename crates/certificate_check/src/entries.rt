@@ -46,7 +46,7 @@ impl<'a> Model for Entries<'a> {
 ghost use Rattle.pmp_encoding.specs.Encoding.{MeansEntry};
 ghost use Rattle.certificate_check.specs.Spans.{AreBoundsOf, IsSpanAt, ReadsAs, count_in};
 
-/// The pages of an entry of at least a page, by its address: its trailing ones say how large the region is, and what stands above
+/// The pages of an entry of at least a page, by its address: its trailing ones say how large the region is, and what is above
 /// them where it begins.
 #[inline(always)]
 fn bounds_of(address: u64) -> Bounds

@@ -6,12 +6,12 @@
 //!
 //! For the layer above: [`check`] answers `Ok(n)` exactly for right certificates, of n entries. The bytes then hold n
 //! entries that mean the map, and no list of fewer entries, of any regions and in any order, means it. Each
-//! [`CheckRefusal`] comes exactly where the fault of that name stands in the bytes, after parts that are right. It takes
+//! [`CheckRefusal`] comes exactly where the fault of that name is in the bytes, after parts that are right. It takes
 //! no memory. [`check_source`] says the same of the bytes that a source gives. It holds the entries, nine bytes each, and
-//! reads the nodes through a window of 16 KiB. The crate stands on `certificate_format`, and on no crate that knows of
+//! reads the nodes through a window of 16 KiB. The crate depends on `certificate_format`, and on no crate that knows of
 //! trees or plans.
 //!
-//! The entries may stand in any order. Where they stand in at most 45 chains, as a planner's do by rising size and
+//! The entries may come in any order. Where they form at most 45 chains, as a planner's do by rising size and
 //! then by rising address, a place in each chain goes on with the pages, so that each entry is passed once. Where
 //! there are more chains, the entries begin by rising first page: those that begin next are gathered by a look at all
 //! of them. One look gathers up to 131,072; of more each gathers at least 65,536, or the rest.

@@ -33,7 +33,7 @@ pub enum CheckRefusal {
     EntriesTooMany = 13,
     /// The entries do not mean the map.
     WrongMeaning = 14,
-    /// Bytes stand after the root.
+    /// Bytes follow the root.
     Trailing = 15,
     /// The limit of a version 2 certificate is neither 16 nor 64.
     BadLimit = 16,

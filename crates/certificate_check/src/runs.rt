@@ -87,7 +87,7 @@ impl<'a> RunsAhead<'a> {
     }
 
     /// The permission that all pages from `first` to before `end` have, or nothing where they have more than one. Runs
-    /// that end at or before `first` are behind.
+    /// that end at or before `first` are dropped.
     #[inline(always)]
     pub(crate) fn uniform(&mut self, first: u64, end: u64) -> Option<Perm>
         requires some { first < end }

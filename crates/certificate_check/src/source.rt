@@ -50,7 +50,7 @@ fn entries_from<R: Source>(
     Ok(list)
 }
 
-/// Reads the entries of a certificate that tells more than may come, and holds none: they end with the one that is at fault.
+/// Reads the entries of a certificate that states more than may come, and holds none: they end with the one that is at fault.
 fn stop_among<R: Source>(window: &mut Window, source: &mut R, count: u32) -> Stop
     ensures refused { Reads (place R.remaining R.failures window.old source.old)
         (place R.remaining R.failures window.new source.new)
@@ -106,11 +106,11 @@ fn found_in(parts: Result<Header, Stop>) -> Option<Result<Header, CheckRefusal>>
     }
 }
 
-/// Checks that the bytes of a source, at most so many, are a right certificate of fewest entries for the map, and answers its
+/// Checks that the bytes of a source, at most `most`, are a right certificate of fewest entries for the map, and answers its
 /// header or the refusal, as [`check`](crate::check) of all the bytes does. They are read to their end. `Read` is answered only
 /// where the source failed in this call, and nothing else where it did.
 ///
-/// What is held at a time is the entries, nine bytes each, and a window of fixed size. Where the header tells more entries than
+/// What is held at a time is the entries, nine bytes each, and a window of fixed size. Where the header states more entries than
 /// may come, none is held: `Memory` is answered of no such certificate.
 pub fn check_source<R: Source>(
     alloc: Global,

@@ -92,7 +92,7 @@ fn agreed<'a>(
 }
 
 /// Whether entries in any order give the runs' permission at each page of the space. They begin by rising first page, with room for
-/// so many keys at once.
+/// `ROOM` keys at once.
 /// (Out of line, so that the room for the keys is no part of the frame of who calls, which touches all of its pages.)
 #[inline(never)]
 fn agrees_in_any_order<const ROOM: usize>(entries: &Entries, runs: &[Run]) -> bool

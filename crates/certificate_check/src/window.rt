@@ -32,7 +32,7 @@ impl Window {
     ghost use Rattle.certificate_check.specs.declared.window.Inflow.TheVariants.{Open, TooLarge};
     ghost use Rattle.certificate_check.specs.Windows.{counted, fault_of, place, stopped_by, HasEnough, Reads, Stays};
 
-    /// A window to which no byte has come, and to which at most so many may.
+    /// A window to which no byte has come, and to which at most `most` may.
     pub(crate) fn new(most: u64) -> Window
         ensures buffer { result.buffer ≡ [] }
         ensures came { result.came ≡ 0 }
@@ -148,7 +148,7 @@ impl Window {
         }
     }
 
-    /// Reads until so many bytes are there, or no more come.
+    /// Reads until `need` bytes are there, or no more come.
     #[cold]
     #[inline(never)]
     fn fill<R: Source>(&mut self, source: &mut R, need: usize)
@@ -165,7 +165,7 @@ impl Window {
         }
     }
 
-    /// Sees to it that so many bytes are there, or that no more come.
+    /// Sees to it that `need` bytes are there, or that no more come.
     #[inline(always)]
     pub(crate) fn hold<R: Source>(&mut self, source: &mut R, need: usize)
         requires { need ≤ 16384 }

@@ -3,7 +3,7 @@
 use byteorder::{ByteOrder, LittleEndian};
 use pmp_encoding::Perm;
 
-/// A number for each permission: how many entries a block costs at least, where that permission stands around it.
+/// A number for each permission: how many entries a block costs at least, where that permission surrounds it.
 #[derive(Clone, Copy)]
 pub struct SixCosts {
     pub no_access: u32,
@@ -46,7 +46,7 @@ impl SixCosts {
         }
     }
 
-    /// The cost where this permission stands around the block.
+    /// The cost where this permission surrounds the block.
     pub fn cost(&self, perm: Perm) -> u32
         ensures { result ≡ cost_of self.now perm }
     {

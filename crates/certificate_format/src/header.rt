@@ -24,7 +24,7 @@ impl Version {
     }
 }
 
-/// What stands before the entries: the form, and the number of entries.
+/// What comes before the entries: the form, and the number of entries.
 #[derive(Clone, Copy, PartialEq, Eq)]
 pub struct Header {
     pub version: Version,

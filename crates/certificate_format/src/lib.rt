@@ -4,7 +4,7 @@
 //! permission, or six numbers and two halves. Who reads it can tell that the list means a view, and that no
 //! shorter list does. This crate knows neither how certificates are made nor how they are checked.
 //!
-//! For the layer above: [`Reader`] hands out, part by part, exactly what the spelling says stands at that place, and
+//! For the layer above: [`Reader`] hands out, part by part, exactly what the spelling says is at that place, and
 //! stays where it was on a refusal. It borrows its bytes, copies none of them and takes no memory.
 //!
 //! ```rust

@@ -105,7 +105,7 @@ impl<'a> Reader<'a> {
     }
 
     /// The form, and the number of entries. Answers `Truncated` where bytes are missing, and `BadMagic`, `BadVersion`
-    /// or `BadLimit` where others stand there. On a fault the cursor stays where it is, here and below.
+    /// or `BadLimit` where they are wrong. On a fault the cursor stays where it is, here and below.
     pub fn header(&mut self) -> Result<Header, ReadFault>
         ensures read { IfOk result (λ header. self.old ≡ header_bytes header ++ self.new) }
         ensures fits { IfOk result (λ header. header.count < 2 ^ 32) }
@@ -136,7 +136,7 @@ impl<'a> Reader<'a> {
         Ok(EntryBytes::of(bytes))
     }
 
-    /// The kind of the node that begins here. Answers `Truncated` at the end, and `BadTag` where another byte stands there.
+    /// The kind of the node that begins here. Answers `Truncated` at the end, and `BadTag` where another byte is there.
     pub fn tag(&mut self) -> Result<Tag, ReadFault>
         ensures read { IfOk result (λ tag. self.old ≡ tag_byte tag ∷ self.new) }
         ensures whole { (tag : Tag) (rest : List ℕ) → self.old ≡ tag_byte tag ∷ rest
@@ -156,7 +156,7 @@ impl<'a> Reader<'a> {
         Ok(tag)
     }
 
-    /// The permission of a leaf. Answers `Truncated` at the end, and `BadPerm` where another byte stands there.
+    /// The permission of a leaf. Answers `Truncated` at the end, and `BadPerm` where another byte is there.
     #[inline(always)]
     pub fn perm(&mut self) -> Result<Perm, ReadFault>
         ensures read { IfOk result (λ perm. self.old ≡ bits_of perm ∷ self.new) }

@@ -1,7 +1,7 @@
 //! The files that the program's commands read whole: their bytes, and the map or the platform that these are.
 //!
 //! For the layer above: [`bytes_in`] reads a file to its end, up to a bound; [`map_in`] and [`read_platform`] read one that should
-//! be a map or a platform, and [`map_by`] and [`platform_in`] take bytes that were read. Each says why a file could not be had, or
+//! be a map or a platform, and [`map_by`] and [`platform_in`] take bytes that were read. Each says why a file could not be read, or
 //! what is wrong with it. [`answer_status`] is the status of a command that answers yes or no.
 //!
 //! ```rust

@@ -22,7 +22,7 @@ fn is_control_pair(byte: u8, next: u8) -> bool
     byte == 0xC2 && (next >= 0x80 && next <= 0x9F)
 }
 
-/// Whether a byte and the first of those behind it are one.
+/// Whether a byte and the first of those after it are one.
 fn begins_pair(byte: u8, behind: &[u8]) -> bool
     ensures { result ≡ begins_pair byte behind.now }
 {
@@ -58,7 +58,7 @@ pub fn push_escaped(text: &mut Vec<u8>, byte: u8) -> Result<(), AllocError>
     Ok(())
 }
 
-/// Appends a byte as it is shown, by the byte before it and those behind it.
+/// Appends a byte as it is shown, by the byte before it and those after it.
 fn push_shown(text: &mut Vec<u8>, before: u8, byte: u8, behind: &[u8]) -> Result<(), AllocError>
     ensures { OnOk result (text.new.items
         ≡ text.old.items ++ shown_byte before byte behind.now) }
@@ -134,7 +134,7 @@ fn is_plain(name: &[u8]) -> bool
     true
 }
 
-/// Writes a byte as it is shown, by the byte before it and those behind it.
+/// Writes a byte as it is shown, by the byte before it and those after it.
 fn write_shown_byte<E: Sink>(
     err: &mut E,
     before: u8,

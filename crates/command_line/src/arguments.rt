@@ -94,7 +94,7 @@ pub const PLATFORM: Argument<'static> = Argument::Value {
     help: "The platform file that tells how many harts the trace is for",
 };
 
-/// When standard error is told what is wrong with an input.
+/// When standard error shows what is wrong with an input.
 pub const HINTS: Argument<'static> = Argument::Value {
     name: "hints",
     value: "auto|always|never",
@@ -123,7 +123,7 @@ pub const EXPECT: Argument<'static> = Argument::Flag(
     "Compare each answer with the one that the comment of its line says",
 );
 
-/// Whether what decided each answer is said behind it.
+/// Whether what decided each answer is said after it.
 pub const EXPLAIN: Argument<'static> = Argument::Flag(
     "explain",
     "Say behind each answer, as a comment, what decided it",

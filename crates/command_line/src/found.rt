@@ -13,7 +13,7 @@ pub struct Found<'m, 'a> {
 }
 
 impl<'m, 'a> Found<'m, 'a> {
-    /// What stands in these matches.
+    /// What these matches hold.
     pub fn new(matches: &'m ArgMatches<'a>) -> Found<'m, 'a>
         ensures { result.matches ≡ matches.entry }
     {

@@ -2,7 +2,7 @@
 //!
 //! For the layer above: [`request_of_words`] answers the [`Request`] that the words of a command line name, a task and how it is
 //! done, as `clap` reads them by the program's subcommands. Of `clap` the crates above know its error and that error's kind; what
-//! a request is, and which one a subcommand's values are, stands below.
+//! a request is, and which one a subcommand's values are, is stated below.
 //!
 //! ```rust
 //! let request = request_of_words(rt.alloc(), &["pmpmon", "plan", "map.txt"])?;

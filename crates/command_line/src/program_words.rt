@@ -90,7 +90,7 @@ fn say_word(rt: &HostRuntime, number: usize, word: &[u8], at: usize) {
     }
 }
 
-/// Says which word of the command line is the first that is no text. Words are counted behind the program's own.
+/// Says which word of the command line is the first that is not text. Words are counted after the program's own.
 fn say_which(rt: &HostRuntime) {
     let mut buf = [0; LONGEST];
     for number in 1..usize::MAX {

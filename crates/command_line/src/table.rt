@@ -17,13 +17,13 @@ use program_tasks::Subcommand;
 pub struct Row<'a> {
     /// What it does.
     pub about: &'a str,
-    /// What stands after its options.
+    /// What follows its options.
     pub more: &'a str,
     /// Its arguments, in the order in which help lists them.
     pub arguments: &'a [Argument<'a>],
 }
 
-/// What is said of `--registers` where a map may stand.
+/// What is said of `--registers` where a map is allowed.
 const AS_THEY_STAND: &str = "Read MAP as a listing of registers, which are taken as they stand";
 
 const RUN_ROW: Row<'static> = Row {

@@ -8,6 +8,6 @@ pub const VERSION: &str =
 pub const ABOUT: &str =
     "Runs traces on a modelled RISC-V hart whose monitor isolates enclaves by PMP, with the fewest entries, and plans, certifies and checks such entries";
 
-/// What stands after the list of subcommands.
+/// What follows the list of subcommands.
 pub const EXAMPLE: &str =
     "Example, with a file map.txt that holds the line\n\n  0x80000000 0x1000 rwx\n\n  pmpmon plan map.txt map.pmpc      prints one entry, and writes its certificate\n  pmpmon check map.txt map.pmpc     prints 'accepted 1'\n\nA file that is read can be '-', standard input; the certificate that plan writes cannot.\n\nStatus: 0 done, 1 the answer is no (check, audit, map, lint, --expect, or registers that mean nothing), 2 bad input, 3 input or output failed, 4 memory";

@@ -2,8 +2,8 @@
 //! fail; of the commands, what each prints and writes on files in memory, and on devices that fail; hints of inputs in memory, and
 //! names as messages show them.
 //!
-//! They stand apart from the commands so that these are proved once, and their tests beside other crates. The proofs of the
-//! command line over `clap` take the longest of all. More of what a command prints and answers stands in transcripts.
+//! They are separate from the commands so that these are proved once, and their tests beside other crates. The proofs of the
+//! command line over `clap` take the longest of all. More of what a command prints and answers is in transcripts.
 #![tactic(auto)]
 
 #[cfg(test)]

@@ -15,21 +15,21 @@ use plan_certificate::send_map;
 use pmp_encoding::Limit;
 use program_files::WholeSink;
 
-/// A certificate comes to stand in its place whole, or not at all.
+/// A certificate is put in its place whole, or not at all.
 pub struct Whole;
 
-/// A certificate stands where it is written.
+/// A certificate is written where it is to be.
 pub struct Straight;
 
 /// A sink that takes a certificate, as `M` says: [`Whole`] where the sink has a place for it, [`Straight`] on any sink.
 pub trait CertificateSink<M>: Sink {
-    /// The bytes that stand in the place, where they are known.
+    /// The bytes that are in the place, where they are known.
     ghost stands: { Self → Option (List ℕ) };
 
     /// Whether the place is apart from what takes the bytes.
     ghost is_apart: { Bool };
 
-    /// Takes the certificate of a map's plan, and lets it stand in its place.
+    /// Takes the certificate of a map's plan, and puts it in its place.
     fn take(
         &mut self,
         map: &PermissionMap,

@@ -23,7 +23,7 @@ use permission_map::{Memory, PermissionMap};
 use pmp_encoding::{Bank, Limit, PackedEntry, Xlen};
 use std::alloc::Global;
 
-/// The plan of a map: the fewest entries that mean it, of the lists of so many the one that the planner chooses.
+/// The plan of a map: the fewest entries that mean it, of the lists of that many the one that the planner chooses.
 pub fn planned(alloc: Global, map: &PermissionMap) -> Result<PackedPlan, Memory>
     ensures fewest { IfOk result (λ plan. IsFewest (view_of_runs map.now) plan.entries) }
     ensures choice { IfOk result (λ plan.

@@ -1,4 +1,4 @@
-//! How a comparison of answers ends: the first difference is told.
+//! How comparing answers ends: the first difference is reported.
 
 ghost use Rattle.std.specs.Prelude.{◌≡◌, ℕ, List, IfErr, IfOk, Some, option_map};
 ghost use Rattle.byte_streams.specs.Writings.{writing, Breaks, IsWell};
@@ -7,7 +7,7 @@ ghost use Rattle.commands.specs.Expected.{IsTold};
 use byte_streams::{DeviceFault, Sink, write_whole};
 use trace_answers::Difference;
 
-/// Tells the first difference, where there is one, and answers the status.
+/// Reports the first difference, where there is one, and answers the status.
 pub fn tell_first<W: Sink>(first: &Option<Difference>, out: &mut W) -> Result<u8, DeviceFault>
     ensures told { IfOk result (λ status. IsTold (option_map (λ d. d.items) first.now)
         (W.contents out.old) (W.contents out.new) status) }

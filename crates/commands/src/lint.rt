@@ -61,7 +61,7 @@ pub fn lint_as_platform<W: Sink>(
 }
 
 /// Prints what is wrong with a platform file, whose name ends in `.toml`, or else with a map file. The status is 0 where the
-/// file is one, and 1 where it is none.
+/// file is one, and 1 where it is not.
 #[inline(never)]
 pub fn do_lint<'a, R: Source, W: Sink>(
     alloc: Global,
@@ -110,7 +110,7 @@ fn listing_reason(xlen: Xlen, others: bool) -> &'static str
     }
 }
 
-/// What stands after the file's name where a line of a listing is not understood.
+/// What comes after the file's name where a line of a listing is not understood.
 fn fault_of_line(xlen: Xlen, others: bool, n: u64) -> Line
     ensures { result ≡ codes ":" ++ (decimal n ++ listing_reason xlen others) }
 {

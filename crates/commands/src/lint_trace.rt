@@ -53,7 +53,7 @@ pub fn lint_as_trace<W: Sink>(
 }
 
 /// Prints what is wrong with a trace, line by line, for the harts of a platform where one is named. The status is 0 where it is
-/// one, and 1 where it is none.
+/// one, and 1 where it is not.
 #[inline(never)]
 pub fn do_lint_trace<'a, R: Source, W: Sink>(
     alloc: Global,

@@ -102,8 +102,8 @@ static MORE: [[u32; 6]; 64] = [
     [0, 0, 0, 0, 0, 0],
 ];
 
-/// How many more entries a block costs under a permission than under the best. The six of a set stand together, so that
-/// they are had in one step where all are asked.
+/// How many more entries a block costs under a permission than under the best. The six of a set lie together, so that
+/// they are read in one step where all are needed.
 #[inline(always)]
 fn more_under(best: PermSet, perm: Perm) -> u32
     ensures value { result ≡ (if has best.bits perm then 0 else 1) }

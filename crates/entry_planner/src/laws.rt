@@ -24,7 +24,7 @@ pub fn best_law()
         → cost tree p ≡ least_cost tree + (if is_best tree p then 0 else 1) }
 {}
 
-/// The entries that are chosen for a view end within the first `2 ^ k` pages exactly where no page behind these has a
+/// The entries that are chosen for a view end within the first `2 ^ k` pages exactly where no page after these has a
 /// permission.
 pub fn reach_law()
     ensures { (view : View) (entries : List Entry) (k : ℕ) → k ≤ 44 → Means entries view

@@ -94,7 +94,7 @@ pub fn plan_map(alloc: Global, map: &PermissionMap) -> Result<PackedPlan, Memory
     Ok(plan)
 }
 
-/// The plan of the space, of which so many blocks are split at most.
+/// The plan of the space, of which at most that many blocks are split.
 fn plan_of<H: Halving>(alloc: Global, root: &H, most: usize) -> Result<PackedPlan, Memory>
     requires fits { Fits 44 (H.shape root.now) }
     requires splits { splits (H.shape root.now) ≤ most }

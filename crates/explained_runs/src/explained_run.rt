@@ -1,4 +1,4 @@
-//! A trace that happens to a machine, line by line, each answer with what happened behind it.
+//! A trace that happens to a machine, line by line, each answer followed by what happened.
 
 ghost use Rattle.std.specs.Prelude.{◌≡◌, ℕ, ◌-◌, ◌^◌, Err, IfOk};
 ghost use Rattle.text_lines.specs.LineLoop.{DoesAll, StopsAt, StopsTooLong, StopsReading, StopsWriting, StopsForMemory, CountsReads, CountsWrites};
@@ -68,7 +68,7 @@ pub struct Ran {
     pub end: Result<(), RunFault>,
 }
 
-/// Runs a trace on a machine as `hart_sim::run` does, says behind each answer what happened, and counts it. The text that
+/// Runs a trace on a machine as `hart_sim::run` does, says after each answer what happened, and counts it. The text that
 /// names how many entries a refused view needs takes memory, and goes without the number where that is refused.
 pub fn explain_run<R: Source, W: Sink>(machine: Machine, source: &mut R, sink: &mut W) -> Ran
     ensures all { KeepsBanksRight machine

@@ -3,7 +3,7 @@
 ghost use Rattle.explained_runs.specs.Plain.{IsRunExplained};
 
 /// What lines did in turn whose answers are explained, they did without comments too: the same events happened, and what was written
-/// is the report, with a comment behind each line of it.
+/// is the report, with a comment after each line of it.
 pub fn explained_law()
     ensures { IsRunExplained }
 {}

@@ -1,6 +1,6 @@
-//! A run told: behind each answer a comment that says what happened, and at the end the summary of all of it.
+//! A run explained: after each answer a comment that says what happened, and at the end a summary of all of it.
 //!
-//! For the layer above: [`explain_run`] runs a trace on a machine as `hart_sim::run` does, and behind each answer says on which hart
+//! For the layer above: [`explain_run`] runs a trace on a machine as `hart_sim::run` does, and after each answer says on which hart
 //! and in which world the event happened; of an access, which entry decided it; of a call, which it is and why it was refused. It
 //! gives back the machine with the [`Tally`] of what happened, of which [`print_summary`] writes the summary in lines of text. Event
 //! by event [`asked_of`] says what an event asks before it happens, and [`Tally::add`] counts it with its reply. A count stays at

@@ -17,9 +17,9 @@ pub enum Outcome {
     Done(u64),
     /// It was refused, with an error so far below zero.
     Refused(u64),
-    /// It was refused for too few entries: the host's view would need so many after it.
+    /// It was refused for too few entries: the host's view would need this many after it.
     HostNeeds(u32),
-    /// It was refused for too few entries: the view of the enclave that it makes would need so many.
+    /// It was refused for too few entries: the view of the enclave that it makes would need this many.
     EnclaveNeeds(u32),
 }
 

@@ -99,7 +99,7 @@ fn push_part(text: &mut Text, subject: Subject, count: &Count)
     push_number(text, count.number);
 }
 
-/// Appends the counts that are not zero, after one that was told, and the bracket that closes.
+/// Appends the counts that are not zero, after one that was written, and the bracket that closes.
 fn push_more(text: &mut Text, subject: Subject, counts: &[Count])
     requires { array_vec_len text.old + (50 * length counts.now + 1) ≤ 4096 }
     ensures items { text.new.items ≡ text.old.items ++ more_text subject counts.now }

@@ -77,11 +77,11 @@ pub enum Breach<'a> {
     NoPages(Place),
     /// The permission of a device is none of the six.
     NoPerm(Place),
-    /// What stands at this place is no table.
+    /// What is at this place is not a table.
     NoTable(Place),
     /// The value of the key is no array of tables.
     NoTables(Key),
-    /// The first of these ranges has a page in common with the second, which stands before it.
+    /// The first of these ranges has a page in common with the second, which comes before it.
     Overlap(PlacedRange, PlacedRange),
     /// The ranges and numbers break this rule on platforms.
     Rule(PlatformFault),

@@ -11,7 +11,7 @@ use crate::keywords::kind_of;
 use crate::reason::{Finding, Reason};
 use lint_texts::{Placed, next_word};
 
-/// What is wrong with the words of an event of this kind: the first that is not what should stand there, is wanting, or is too
+/// What is wrong with the words of an event of this kind: the first that is not what should be there, is wanting, or is too
 /// much. None where nothing is.
 fn words_finding<'a>(kind: EventKind, text: &'a [u8], keyword: Placed<'a>) -> Option<Finding<'a>>
     requires kind { kind_of keyword.word.now ≡ Some kind }

@@ -1,4 +1,4 @@
-//! The forms of events: the words that stand after the one that begins an event.
+//! The forms of events: the words that follow the one that begins an event.
 
 ghost use Rattle.std.specs.Prelude.{◌≡◌, is_some};
 ghost use Rattle.std.specs.List.{list_any};
@@ -132,7 +132,7 @@ fn is_register(word: &[u8]) -> bool
     }
 }
 
-/// Whether a word is what should stand there.
+/// Whether a word is what should be there.
 pub(crate) fn fits(slot: Slot, word: &[u8]) -> bool
     ensures { result ≡ fits slot word.now }
 {

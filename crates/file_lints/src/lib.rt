@@ -1,7 +1,7 @@
 //! Why a file is no platform or no trace: where it is at fault, for what reason, and what would fix it.
 //!
 //! - `platform_lints`: [`lint_platform`] answers whether a file is a platform, exactly as `platform_of` takes it, and writes one
-//!   line where it is none. The line says what its TOML document breaks first, a [`Breach`]: `first_breach` finds what a
+//!   line where it is not one. The line says what its TOML document breaks first, a [`Breach`]: `first_breach` finds what a
 //!   part of it breaks, and `rules` which rule its ranges and numbers break.
 //! - `trace_lints`: [`lint_trace`] answers whether `run` or `judge` takes each line of a file, and writes a line for each that
 //!   is not taken. A [`Taker`] says which of the two it is. `line_finding` and `event_finding` find the reason.

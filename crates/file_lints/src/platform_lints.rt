@@ -57,7 +57,7 @@ fn position_after(before: &[u8]) -> (u64, u64)
     (line, column)
 }
 
-/// How many bytes of a text stand before the place where the library stopped reading it.
+/// How many bytes of a text come before the place where the library stopped reading it.
 fn start_of(error: &Error) -> usize
     requires { ¬ IsMemory error.now }
     ensures { result ≡ span_start error.now }

@@ -9,15 +9,15 @@ pub enum Reason {
     LongLine,
     /// A byte order mark begins it.
     ByteOrderMark,
-    /// A byte outside its comment may not stand there.
+    /// A byte outside its comment may not be there.
     NoText,
     /// The first word begins with `@` and names no hart.
     NoHart,
-    /// No word stands after the hart.
+    /// No word follows the hart.
     NoEvent,
     /// The word begins no event.
     UnknownEvent,
-    /// The word is not what should stand there.
+    /// The word is not what should be there.
     Misfit(Slot),
     /// A word of the event is wanting.
     Missing(EventKind, Slot),
@@ -29,7 +29,7 @@ pub enum Reason {
     EventOfRun,
 }
 
-/// A reason, the word at fault where there is one, and how many bytes of the line stand before it. Of a byte that may not stand
+/// A reason, the word at fault where there is one, and how many bytes of the line come before it. For a byte that may not be
 /// there the word is what begins with it.
 #[derive(Clone, Copy)]
 pub struct Finding<'a> {

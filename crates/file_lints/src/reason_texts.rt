@@ -98,7 +98,7 @@ fn push_register(text: &mut Vec<u8>, word: &[u8]) -> Result<(), AllocError>
     }
 }
 
-/// Appends what is wrong with a word that is not what should stand there.
+/// Appends what is wrong with a word that is not what should be there.
 fn push_misfit(text: &mut Vec<u8>, slot: Slot, word: &[u8]) -> Result<(), AllocError>
     ensures { OnOk result (text.new.items ≡ text.old.items ++ misfit_fault slot word.now) }
 {

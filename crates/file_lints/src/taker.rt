@@ -13,7 +13,7 @@ use text_lines::{LONGEST, without_return};
 /// What takes the lines of a trace.
 #[derive(Clone, Copy)]
 pub enum Taker {
-    /// `run`, on so many harts.
+    /// `run`, on this many harts.
     Run {
         /// How many.
         harts: u8,

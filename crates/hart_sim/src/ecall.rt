@@ -34,7 +34,7 @@ impl MachineParts {
         }
     }
 
-    /// Serves a call with these words, and answers what its caller is told.
+    /// Serves a call with these words, and answers what its caller is given.
     fn serve(&mut self, hart: u8, words: &[u64]) -> Answer
         requires on { IsOn self.old hart }
         requires few { hart < 4 }

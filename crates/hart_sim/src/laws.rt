@@ -36,7 +36,7 @@ pub fn step_law()
         → Step old hart event reply new → Promises old hart event reply new }
 {}
 
-/// What lines did in turn is a run of the events that they say, the text tells its replies, each bank is the one that the
+/// What lines did in turn is a run of the events that they say, the text gives its replies, each bank is the one that the
 /// hart's own last event left, and after boot and other events the machine is the one after these too.
 pub fn report_law()
     ensures { IsReported }

@@ -102,7 +102,7 @@ impl Memory {
         self.store_in_new_span(alloc, address, size, value)
     }
 
-    /// Puts the lowest bytes of a value at an address of a span that is not there. It stands apart so that a store to a span
+    /// Puts the lowest bytes of a value at an address of a span that is not there. It is separate so that a store to a span
     /// that is there clears no room for another.
     #[cold]
     #[inline(never)]

@@ -44,7 +44,7 @@ fn lowest(number: u64, size: usize) -> u64
     number & LOWEST[size]
 }
 
-/// The little-endian number of bytes near a page's end, byte by byte. It stands apart so that a load elsewhere clears no room
+/// The little-endian number of bytes near a page's end, byte by byte. It is separate so that a load elsewhere clears no room
 /// for it.
 #[inline(never)]
 fn number_at_end(page: &[u8; 4096], at: usize, size: usize) -> u64
@@ -105,7 +105,7 @@ fn put_bytes(page: &mut [u8; 4096], at: usize, size: usize, value: u64)
     }
 }
 
-/// Puts the lowest bytes of a value near a page's end, byte by byte. It stands apart so that a store elsewhere clears no room
+/// Puts the lowest bytes of a value near a page's end, byte by byte. It is separate so that a store elsewhere clears no room
 /// for it.
 #[inline(never)]
 fn put_at_end(page: &mut [u8; 4096], at: usize, size: usize, value: u64)
@@ -118,7 +118,7 @@ fn put_at_end(page: &mut [u8; 4096], at: usize, size: usize, value: u64)
     put_bytes(page, at, size, value);
 }
 
-/// A number with the lowest bytes of another in place of its own.
+/// A number with the lowest bytes of another instead of its own.
 #[inline(always)]
 fn with_lowest(number: u64, size: usize, value: u64) -> u64
     requires { size ≤ 8 }
@@ -129,7 +129,7 @@ fn with_lowest(number: u64, size: usize, value: u64) -> u64
 }
 
 /// Puts the lowest bytes of a value into a page, the lowest first. As in `number_at` there is no branch between the sizes below eight.
-/// Eight bytes are one load and one store, which puts those behind the value's back as they were. A value of eight bytes is not
+/// Eight bytes are one load and one store, which puts those after the value's back as they were. A value of eight bytes is not
 /// loaded for: a store waits for no cache, a load does.
 pub(crate) fn put(page: &mut [u8; 4096], at: usize, size: usize, value: u64)
     requires size { size ≤ 8 }

@@ -72,7 +72,7 @@ impl PageGroup {
         self.store_in_new_page(alloc, place, at, size, value)
     }
 
-    /// Puts the lowest bytes of a value into a page that was not written. It stands apart so that a store to a page that
+    /// Puts the lowest bytes of a value into a page that was not written. It is separate so that a store to a page that
     /// is there clears no room for another.
     #[cold]
     #[inline(never)]

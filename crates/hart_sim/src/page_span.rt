@@ -71,7 +71,7 @@ impl PageSpan {
         self.store_in_new_group(alloc, place, at, size, value)
     }
 
-    /// Puts the lowest bytes of a value into a page of a group that is not there. It stands apart so that a store to a group
+    /// Puts the lowest bytes of a value into a page of a group that is not there. It is separate so that a store to a group
     /// that is there clears no room for another.
     #[cold]
     #[inline(never)]

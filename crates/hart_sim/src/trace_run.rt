@@ -41,7 +41,7 @@ impl Machine {
         parse_line(line, self.harts())
     }
 
-    /// An event happens on a hart, and of its reply is written what stands behind the number. It is refused where it wants memory that is.
+    /// An event happens on a hart, and what follows the number in its reply is written. It is refused where it wants memory that is.
     #[inline(always)]
     fn answer(&mut self, hart: u8, event: Event, answer: &mut Line) -> Result<bool, Refusal>
         requires hart { hart < (state_of self.old).table.layout.harts }
@@ -66,7 +66,7 @@ impl Machine {
         Ok(true)
     }
 
-    /// A call happens on a hart, and of its reply is written what stands behind the number, as of that of an event.
+    /// A call happens on a hart, and what follows the number in its reply is written, as for an event.
     #[inline(always)]
     fn answer_call(
         &mut self,

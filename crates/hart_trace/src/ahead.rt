@@ -12,11 +12,11 @@ use crate::plain_events::{plain_call, plain_event, plain_interrupt, plain_settin
 use arrayvec::ArrayVec;
 use pmp_match::Access;
 
-/// So many bytes have all of the longest plain line of an access, and its LF. Of so many, the compiler asks for no part of a line
+/// This many bytes hold all of the longest plain line of an access, and its LF. With them, the compiler checks for no part of a line
 /// whether it is there.
 const ENOUGH: usize = 64;
 
-/// How many bytes stand before a text that begins with a LF.
+/// How many bytes come before a text that begins with a LF.
 #[inline(always)]
 fn len_before(ahead: &[u8], behind: &[u8]) -> Option<usize>
     requires { length behind.now ≤ length ahead.now }
@@ -53,7 +53,7 @@ pub fn access_ahead(ahead: &[u8], harts: u8) -> Option<(u8, Access, u64, usize)>
     Some((hart, access, value, len))
 }
 
-/// The event of the plain line that a text begins with, which names no hart, and what stands after it. None says nothing of the text.
+/// The event of the plain line that a text begins with, which names no hart, and what follows it. None says nothing of the text.
 #[inline(always)]
 fn plain_front(text: &[u8]) -> Option<(Event, &[u8])>
     ensures { IfSome result (λ found. BeginsEvent text.now found.0 found.1.now) }

@@ -6,7 +6,7 @@ ghost use Rattle.hart_trace.specs.Answers.{answer_end, place_of};
 use pmp_match::Cause;
 use text_lines::Line;
 
-/// What stands behind the number of an answer: the first bytes of a text.
+/// What follows the number of an answer: the first bytes of a text.
 #[derive(Clone, Copy)]
 struct Ending {
     text: [u8; 16],
@@ -73,7 +73,7 @@ fn ending_of(answer: Result<(), Cause>) -> Ending
     ENDINGS[place_of(answer)]
 }
 
-/// Writes what stands behind the number of an answer: ` ok`, or ` fault CAUSE`, and the line's end.
+/// Writes what follows the number of an answer: ` ok`, or ` fault CAUSE`, and the line's end.
 #[inline(always)]
 pub fn push_answer(line: &mut Line, answer: Result<(), Cause>)
     requires { length line.old + 16 ≤ 128 }

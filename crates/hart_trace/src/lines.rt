@@ -64,7 +64,7 @@ fn short_end(world: u64, used: u64) -> [u8; 16]
     ]
 }
 
-/// What stands behind the number of the reply to a call that is answered with 0, where the world and the number of entries have one
+/// What follows the number of the reply to a call that is answered with 0, where the world and the number of entries have one
 /// digit each: sixteen bytes and fifteen. They are put together in lanes, so that a load of either meets what one store wrote, and need
 /// not wait for it.
 #[inline(always)]
@@ -92,7 +92,7 @@ fn short_call(value: u64, world: u64, used: u64) -> (u8x16, u8x16)
     (first, second)
 }
 
-/// Writes what stands behind the number of the reply to a call.
+/// Writes what follows the number of the reply to a call.
 fn push_call(line: &mut Line, status: i64, value: u64, world: u64, used: u64)
     requires { line.old ≡ [] }
     ensures { line.new ≡ codes " call " ++ signed_decimal status ++ codes " 0x" ++ hex 16 value
@@ -114,7 +114,7 @@ fn push_call(line: &mut Line, status: i64, value: u64, world: u64, used: u64)
     push_end(line, world, used);
 }
 
-/// What stands behind the number of a reply to an access that failed, by its cause: the first nine bytes.
+/// What follows the number of a reply to an access that failed, by its cause: the first nine bytes.
 static FAULTS: [[u8; 16]; 8] = [
     *b" fault 0\n       ",
     *b" fault 1\n       ",
@@ -134,7 +134,7 @@ fn fault_text(cause: Cause) -> [u8; 16]
     FAULTS[usize::from(cause.number())]
 }
 
-/// Writes what stands behind the number of an event's reply. There is nothing where the reply wanted memory.
+/// Writes what follows the number of an event's reply. There is nothing where the reply wanted memory.
 pub fn push_reply(line: &mut Line, reply: &Reply)
     requires { line.old ≡ [] }
     ensures text { reply.now ≢ NoMemory

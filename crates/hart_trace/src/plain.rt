@@ -36,7 +36,7 @@ static MODES: [ModeLetter; 8] = [
     SUPERVISOR, SUPERVISOR, SUPERVISOR, SUPERVISOR, SUPERVISOR, USER, SUPERVISOR, SUPERVISOR,
 ];
 
-/// The mode that a letter names, where a space stands behind it.
+/// The mode that a letter names, where a space follows it.
 #[inline(always)]
 pub(crate) fn plain_mode(letter: u8, space: u8) -> Option<Mode>
     ensures mode { IfSome result (λ mode. mode_of (letter ∷ []) ≡ Some mode) }
@@ -59,7 +59,7 @@ fn plain_size(byte: u8) -> u64
     u64::from(byte.wrapping_sub(b'0'))
 }
 
-/// Whether two bytes are a space and the `0` behind it. As one number they take one comparison.
+/// Whether two bytes are a space and the `0` after it. As one number they take one comparison.
 #[inline(always)]
 fn begin_number(space: u8, zero: u8) -> bool
     ensures { result ≡ true → (space ≡ 32) × (zero ≡ 48) }
@@ -67,7 +67,7 @@ fn begin_number(space: u8, zero: u8) -> bool
     u16::from_le_bytes([space, zero]) == u16::from_le_bytes([b' ', b'0'])
 }
 
-/// The mode and size of an access, and what stands after the `0x` or `0X` of its address.
+/// The mode and size of an access, and what follows the `0x` or `0X` of its address.
 #[inline(always)]
 fn plain_start(rest: &[u8]) -> Option<(Mode, u64, &[u8])>
     ensures { IfSome result (λ start. Starts rest.now start.0 start.1 start.2.now) }
@@ -86,7 +86,7 @@ fn plain_start(rest: &[u8]) -> Option<(Mode, u64, &[u8])>
     Some((mode, size, digits))
 }
 
-/// What stands after ` 0x`.
+/// What follows ` 0x`.
 #[inline(always)]
 fn behind_blank(text: &[u8]) -> Option<&[u8]>
     ensures { IfSome result (λ digits. text.now ≡ 32 ∷ 48 ∷ 120 ∷ digits.now) }
@@ -108,13 +108,13 @@ fn first_bytes(line: &[u8]) -> Option<u64>
     Some(u64::from_le_bytes(u8x8::from_slice(line).to_array()))
 }
 
-/// The keyword of a kind of access, with the blank behind it.
+/// The keyword of a kind of access, with the blank after it.
 #[derive(Clone, Copy)]
 struct Keyword {
     kind: Kind,
     /// How many bytes it has.
     len: usize,
-    /// All bits of so many bytes.
+    /// All bits of that many bytes.
     mask: u64,
     /// Those bytes as one number, the first of them lowest.
     number: u64,
@@ -153,7 +153,7 @@ fn keyword_of(first: u64) -> Keyword
     KEYWORDS[(first % 8) as usize]
 }
 
-/// What stands after the keyword of an access and its blank.
+/// What follows the keyword of an access and its blank.
 #[inline(always)]
 fn behind_keyword(line: &[u8]) -> Option<(Kind, &[u8])>
     ensures { IfSome result (λ said. line.now ≡ keyword said.0 ++ 32 ∷ said.1.now) }
@@ -168,7 +168,7 @@ fn behind_keyword(line: &[u8]) -> Option<(Kind, &[u8])>
     Some((said.kind, &line[said.len % 8..]))
 }
 
-/// The access of the plain line that a text begins with, which names no hart, the value that a store writes, 0 else, and what stands
+/// The access of the plain line that a text begins with, which names no hart, the value that a store writes, 0 else, and what comes
 /// after it. None says nothing of the text.
 #[inline(always)]
 pub(crate) fn plain_access(text: &[u8]) -> Option<(Access, u64, &[u8])>
@@ -189,7 +189,7 @@ pub(crate) fn plain_access(text: &[u8]) -> Option<(Access, u64, &[u8])>
     }
 }
 
-/// The hart that a line names, where `@H` and one space begin it, and what stands after them.
+/// The hart that a line names, where `@H` and one space begin it, and what follows them.
 #[inline(always)]
 fn behind_hart(line: &[u8], harts: u8) -> Option<(u8, &[u8])>
     ensures { IfSome result (λ named.
@@ -204,7 +204,7 @@ fn behind_hart(line: &[u8], harts: u8) -> Option<(u8, &[u8])>
     }
 }
 
-/// The hart on which the event of a line happens, and what stands after its name: where none is named so, hart 0 and the whole line.
+/// The hart on which the event of a line happens, and what follows its name: where none is named so, hart 0 and the whole line.
 #[inline(always)]
 pub(crate) fn hart_in(line: &[u8], harts: u8) -> (u8, &[u8])
     ensures { Named harts line.now result.0 result.1.now }

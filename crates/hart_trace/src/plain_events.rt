@@ -13,7 +13,7 @@ use crate::trace::has_leading_zero;
 use arrayvec::ArrayVec;
 use text_lines::{behind_mark, behind_space, leading_hexadecimal, leading_numeral};
 
-/// What stands after the letter of a register.
+/// What follows the letter of a register.
 fn behind_letter(text: &[u8]) -> Option<&[u8]>
     ensures { IfSome result (λ digits. text.now ≡ 120 ∷ digits.now) }
 {
@@ -23,7 +23,7 @@ fn behind_letter(text: &[u8]) -> Option<&[u8]>
     }
 }
 
-/// What stands after `reg` and a space.
+/// What follows `reg` and a space.
 fn behind_reg(line: &[u8]) -> Option<&[u8]>
     ensures { IfSome result (λ rest. line.now ≡ 114 ∷ 101 ∷ 103 ∷ 32 ∷ rest.now) }
 {
@@ -33,7 +33,7 @@ fn behind_reg(line: &[u8]) -> Option<&[u8]>
     }
 }
 
-/// What stands after `ecall` and a space.
+/// What follows `ecall` and a space.
 fn behind_ecall(line: &[u8]) -> Option<&[u8]>
     ensures { IfSome result (λ rest. line.now
         ≡ 101 ∷ 99 ∷ 97 ∷ 108 ∷ 108 ∷ 32 ∷ rest.now) }
@@ -44,7 +44,7 @@ fn behind_ecall(line: &[u8]) -> Option<&[u8]>
     }
 }
 
-/// What stands after `irq`.
+/// What follows `irq`.
 fn behind_irq(line: &[u8]) -> Option<&[u8]>
     ensures { IfSome result (λ behind. line.now ≡ 105 ∷ 114 ∷ 113 ∷ behind.now) }
 {
@@ -54,7 +54,7 @@ fn behind_irq(line: &[u8]) -> Option<&[u8]>
     }
 }
 
-/// The first byte of a text, and what stands after it.
+/// The first byte of a text, and what follows it.
 fn first_byte(text: &[u8]) -> Option<(u8, &[u8])>
     ensures { IfSome result (λ found. text.now ≡ found.0 ∷ found.1.now) }
 {
@@ -64,7 +64,7 @@ fn first_byte(text: &[u8]) -> Option<(u8, &[u8])>
     }
 }
 
-/// The number of one decimal digit that a text begins with, where a space or a LF stands after it, and what does. Most numbers of a
+/// The number of one decimal digit that a text begins with, where a space or a LF follows it, and the rest. Most numbers of a
 /// call are so short: they need no loop.
 #[inline(always)]
 fn one_digit(text: &[u8]) -> Option<(u64, &[u8])>
@@ -78,7 +78,7 @@ fn one_digit(text: &[u8]) -> Option<(u64, &[u8])>
     Some((u64::from(first - b'0'), behind))
 }
 
-/// The number of any number of decimal digits that a text begins with, and what stands after it. It stands apart, so that the others
+/// The number of any number of decimal digits that a text begins with, and what follows it. It is not inlined, so that the others
 /// have no room to make.
 #[inline(never)]
 fn long_number(text: &[u8]) -> Option<(u64, &[u8])>
@@ -88,7 +88,7 @@ fn long_number(text: &[u8]) -> Option<(u64, &[u8])>
     Some((value, behind))
 }
 
-/// The number that a text begins with, and what stands after it.
+/// The number that a text begins with, and what follows it.
 #[inline(always)]
 pub(crate) fn plain_number(text: &[u8]) -> Option<(u64, &[u8])>
     ensures { IfSome result (λ found. BeginsNumber text.now found.0 found.1.now) }
@@ -103,7 +103,7 @@ pub(crate) fn plain_number(text: &[u8]) -> Option<(u64, &[u8])>
     long_number(text)
 }
 
-/// The register that a text names before a space, and what stands after that.
+/// The register that a text names before a space, and what follows that.
 fn plain_register(text: &[u8]) -> Option<(u8, &[u8])>
     ensures { IfSome result (λ found.
         (digits : List ℕ) × (text.now ≡ (120 ∷ digits) ++ 32 ∷ found.1.now)
@@ -118,7 +118,7 @@ fn plain_register(text: &[u8]) -> Option<(u8, &[u8])>
     Some((n as u8, rest))
 }
 
-/// The register that the plain line sets with which a text begins, its value, and what stands after it.
+/// The register set by the plain line with which a text begins, its value, and what follows the line.
 #[inline(always)]
 pub(crate) fn plain_setting(text: &[u8]) -> Option<(u8, u64, &[u8])>
     ensures { IfSome result (λ found.
@@ -131,7 +131,7 @@ pub(crate) fn plain_setting(text: &[u8]) -> Option<(u8, u64, &[u8])>
 }
 
 /// Appends the words of a call that a text begins with, of which there is one at least, to a list without words, and says what
-/// stands after them.
+/// follows them.
 #[inline(always)]
 fn plain_words<'a>(rest: &'a [u8], words: &mut ArrayVec<u64, 8>) -> Option<&'a [u8]>
     requires { words.old.items ≡ [] }
@@ -163,7 +163,7 @@ pub(crate) fn plain_call<'a>(text: &'a [u8], words: &mut ArrayVec<u64, 8>) -> Op
     plain_words(rest, words)
 }
 
-/// What stands after the plain line of an interrupt with which a text begins.
+/// What follows the plain line of an interrupt with which a text begins.
 #[inline(always)]
 pub(crate) fn plain_interrupt(text: &[u8]) -> Option<&[u8]>
     ensures { IfSome result (λ behind. BeginsEvent text.now events.Irq behind.now) }
@@ -171,7 +171,7 @@ pub(crate) fn plain_interrupt(text: &[u8]) -> Option<&[u8]>
     behind_irq(text)
 }
 
-/// The event of the plain line that a text begins with, which is no access and names no hart, and what stands after it. None says
+/// The event of the plain line that a text begins with, which is no access and names no hart, and what follows it. None says
 /// nothing of the text.
 pub(crate) fn plain_event(text: &[u8]) -> Option<(Event, &[u8])>
     ensures { IfSome result (λ found. BeginsEvent text.now found.0 found.1.now) }

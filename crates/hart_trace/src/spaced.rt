@@ -1,6 +1,6 @@
-//! The accesses of a trace with other blanks and numbers than the plainest, as `load  u 8 2218633160  # a remark` behind a tab:
-//! one or more blanks between two words and at either end, numbers of either base, and a comment behind a blank. They too are
-//! read in one pass. What stands in a comment is not looked at, and no line is refused here.
+//! The accesses of a trace with other blanks and numbers than the plainest, as `load  u 8 2218633160  # a remark` after a tab:
+//! one or more blanks between two words and at either end, numbers of either base, and a comment after a blank. They too are
+//! read in one pass. The text of a comment is not looked at, and no line is refused here.
 
 ghost use Rattle.std.specs.Prelude.{◌≡◌, ℕ, List, ◌∷◌, ◌++◌, [], None, Some, IfSome, true, option_map};
 ghost use Rattle.text_lines.specs.Words.{is_blank, words_of};
@@ -14,7 +14,7 @@ use crate::plain_events::plain_number;
 use crate::trace::sized;
 use pmp_match::{Access, Kind, Mode};
 
-/// What stands after a blank.
+/// What follows a blank.
 #[inline(always)]
 fn behind_blank(text: &[u8]) -> Option<&[u8]>
     ensures { IfSome result (λ rest. (blank : ℕ) × (text.now ≡ blank ∷ rest.now)
@@ -26,7 +26,7 @@ fn behind_blank(text: &[u8]) -> Option<&[u8]>
     }
 }
 
-/// What stands after the blanks that a text begins with.
+/// What follows the blanks that a text begins with.
 #[inline(always)]
 fn behind_blanks(text: &[u8]) -> &[u8]
     ensures { words_of text.now ≡ words_of result.now }
@@ -38,7 +38,7 @@ fn behind_blanks(text: &[u8]) -> &[u8]
     rest
 }
 
-/// What stands after the blanks between a word and the next, or after the last word.
+/// What follows the blanks between a word and the next, or after the last word.
 #[inline(always)]
 fn behind_word(text: &[u8]) -> Option<&[u8]>
     ensures { IfSome result (λ rest. EndsBefore text.now rest.now) }
@@ -50,7 +50,7 @@ fn behind_word(text: &[u8]) -> Option<&[u8]>
     Some(behind_blanks(rest))
 }
 
-/// The keyword that a text begins with, and what stands after it.
+/// The keyword that a text begins with, and what follows it.
 #[inline(always)]
 fn keyword_in(text: &[u8]) -> Option<(Kind, &[u8])>
     ensures { IfSome result (λ said. text.now ≡ keyword said.0 ++ said.1.now) }
@@ -73,7 +73,7 @@ fn first_keyword(text: &[u8]) -> Option<(Kind, &[u8])>
     Some((kind, rest))
 }
 
-/// The letter that a text begins with as a mode, and what stands after it.
+/// The letter that a text begins with as a mode, and what follows it.
 #[inline(always)]
 fn mode_in(text: &[u8]) -> Option<(Mode, &[u8])>
     ensures { IfSome result (λ said. (m : ℕ) × (text.now ≡ m ∷ said.1.now)
@@ -119,7 +119,7 @@ fn is_end(text: &[u8]) -> bool
     }
 }
 
-/// Whether a line has blanks alone, and perhaps a comment behind them. False says nothing of the line.
+/// Whether a line has blanks alone, and perhaps a comment after them. False says nothing of the line.
 #[inline(always)]
 pub fn is_wordless(line: &[u8]) -> bool
     ensures { result ≡ true → (harts : ℕ) → meaning_of harts line.now ≡ Some None }

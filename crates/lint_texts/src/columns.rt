@@ -1,4 +1,4 @@
-//! Where things stand in a text: the words of a line, each with how many bytes of the line stand before it.
+//! Where things are in a text: the words of a line, each with how many bytes of the line come before it.
 
 ghost use Rattle.std.specs.Prelude.{◌≡◌, ◌==◌, ◌≤◌, [], ◌∷◌, length, MatchOption, IfSome};
 ghost use Rattle.std.specs.List.{position_or_len, prefix_len};
@@ -7,7 +7,7 @@ ghost use Rattle.lint_texts.specs.Columns.{begin_from, end_from, end_of, placed_
 
 use text_lines::{is_blank, word_len};
 
-/// A word of a line, and how many bytes stand before it and before its end; without bytes where there is none.
+/// A word of a line, and how many bytes come before it and before its end; without bytes where there is none.
 #[derive(Clone, Copy)]
 pub struct Placed<'a> {
     pub before: usize,
@@ -15,7 +15,7 @@ pub struct Placed<'a> {
     pub end: usize,
 }
 
-/// How many bytes of a text stand before the first that is this one.
+/// How many bytes of a text come before the first that is this one.
 pub fn len_before(mark: u8, text: &[u8]) -> usize
     ensures within { result ≤ length text.now }
     ensures len { result ≡ position_or_len (λ b. b == mark) text.now }

@@ -1,7 +1,7 @@
-//! What the lints of files share: where the words of a line stand, what is wrong with a line or a number that any of these
+//! What the lints of files share: where the words of a line are, what is wrong with a line or a number that any of these
 //! files may have, and the texts that findings are put together from.
 //!
-//! For the layer above: [`next_word`] gives the words of a line one by one, each with how many bytes stand before it;
+//! For the layer above: [`next_word`] gives the words of a line one by one, each with how many bytes come before it;
 //! [`split_line`] gives the lines of a file. [`LintFault`] is why a lint does not answer.
 #![tactic(auto)]
 

@@ -1,4 +1,4 @@
-//! The lines of a file, and what may stand in them.
+//! The lines of a file, and what may be in them.
 
 ghost use Rattle.std.specs.Prelude.{◌≡◌, ◌∷◌, ◌==◌, ◌<◌, ◌≤◌, length};
 ghost use Rattle.std.specs.List.{before_first, list_all, prefix_len};
@@ -9,7 +9,7 @@ ghost use Rattle.lint_texts.specs.Lines.{unended};
 use crate::columns::len_before;
 use text_lines::is_allowed;
 
-/// The first line, and what stands after its LF.
+/// The first line, and what comes after its LF.
 pub fn split_line(bytes: &[u8]) -> (&[u8], &[u8])
     requires { 0 < length bytes.now }
     ensures lines { raw_lines bytes.now ≡ result.0.now ∷ raw_lines result.1.now }
@@ -30,7 +30,7 @@ pub fn unended(line: &[u8]) -> &[u8]
     &line[..len_before(b'\n', line)]
 }
 
-/// How many bytes stand before the first that may not stand outside a comment.
+/// How many bytes come before the first that may not occur outside a comment.
 pub fn allowed_len(line: &[u8]) -> usize
     ensures within { result ≤ length line.now }
     ensures len { result ≡ prefix_len is_allowed line.now }
@@ -43,7 +43,7 @@ pub fn allowed_len(line: &[u8]) -> usize
     line.len()
 }
 
-/// Whether each byte may stand outside a comment.
+/// Whether each byte may occur outside a comment.
 pub fn are_allowed(text: &[u8]) -> bool
     ensures { result ≡ list_all is_allowed text.now }
 {

@@ -30,7 +30,7 @@ fn begins_with_both(byte: u8, next: u8, text: &[u8]) -> bool
     }
 }
 
-/// What is wrong with a text whose first byte may not stand outside a comment.
+/// What is wrong with a text whose first byte may not occur outside a comment.
 pub fn byte_fault(text: &[u8]) -> &'static str
     ensures { result.now ≡ byte_fault text.now }
 {

@@ -25,7 +25,7 @@ fn fails(
 /// A run on a new machine: the trace, the read or the write that fails, how the run ends, and its report.
 type Row<'a> = (&'a [u8], Option<u64>, Option<u64>, RunFault, &'a str);
 
-/// The run of each row ends so behind its report.
+/// Each row's run ends as it says, after its report.
 fn all_fail(rt: &impl Abort, alloc: Global, rows: &[Row<'_>]) {
     for (trace, read, write, end, report) in rows {
         let mut machine = example_machine(rt, alloc, 1);

@@ -5,7 +5,7 @@
 //! Of the table these are platforms, the life of an enclave, and sequences of calls with the entries that each view then
 //! needs. The table knows nothing of certificates, by which its tree is compared with a new one here.
 //!
-//! They stand apart from the crates that they are of so that the gate proves each of these once, and tries its edits
+//! They are kept apart from the crates that they test so that the gate proves each of these once, and tries its edits
 //! beside the rows.
 #![tactic(auto)]
 

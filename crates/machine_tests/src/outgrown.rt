@@ -1,4 +1,4 @@
-//! Calls that are refused for too few entries, told with the number that a view needs.
+//! Calls that are refused for too few entries, each with the number that a view needs.
 
 use crate::machines::example_machine;
 use byte_streams::fakes::{PieceSink, PieceSource};

@@ -9,7 +9,7 @@ const ANSWER: usize = 984;
 
 const END: &[u8] = b"end\0\0\0\0\0\x01\0\0\0\0\0\0\0\0\0\0\0\0\0\0\0";
 
-/// A platform of one hart, an interrupt there, and a frame that is none.
+/// A platform of one hart, an interrupt there, and an invalid frame.
 fn frames() -> [u8; 2040] {
     let mut bytes = [0; 2040];
     bytes[..8].copy_from_slice(b"platform");

@@ -28,7 +28,7 @@ fn cost_of(alloc: Global, kept: &[Numbered], rest: &[Numbered]) -> Result<Option
     Ok(Some(u64::from(plan.needed())))
 }
 
-/// What stands after a number of entries.
+/// What follows a number of entries.
 fn named<'a>(count: u64) -> &'a [u8]
     ensures text { result.now ≡ entries_named count }
     ensures most { length result.now ≤ 16 }

@@ -1,4 +1,4 @@
-//! What the mends that a reason tells leave of a line.
+//! What the mends that a reason gives leave of a line.
 
 ghost use Rattle.map_lint.specs.Mends.{FindsFaults, MendsHold, NamesPermissions, ReadsAddresses, ReadsHexadecimal};
 

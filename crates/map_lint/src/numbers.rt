@@ -36,14 +36,14 @@ pub(crate) fn push_no_number(
     push(text, no_number(placed.word))
 }
 
-/// Whether a hyphen stands in a text.
+/// Whether a text contains a hyphen.
 fn any_hyphen(text: &[u8]) -> bool
     ensures { result ≡ list_any (λ b. b == 45) text.now }
 {
     text.iter().any(|byte| *byte == b'-')
 }
 
-/// Whether a hyphen stands in a word, after its first byte.
+/// Whether a word contains a hyphen after its first byte.
 fn has_hyphen(word: &[u8]) -> bool
     ensures { result ≡ has_hyphen word.now }
 {
@@ -87,7 +87,7 @@ pub(crate) fn push_no_base(text: &mut Vec<u8>, placed: Placed<'_>) -> Result<(),
     push(text, base_fault(placed.word))
 }
 
-/// Whether digits are a whole number of pages as hexadecimal ones, and at most so many bytes.
+/// Whether digits are a whole number of pages as hexadecimal ones, and at most this many bytes.
 fn is_whole_hex(digits: &[u8], most: u64) -> bool
     ensures { result ≡ is_whole_hex most (numeral_of 16 digits.now) }
 {
@@ -122,7 +122,7 @@ fn push_part(text: &mut Vec<u8>, name: &str, placed: Placed<'_>) -> Result<(), M
     Ok(())
 }
 
-/// As many bytes as the fewest whole pages that have so many.
+/// The bytes of the fewest whole pages that have this many.
 fn whole_bytes(bytes: u64) -> u64
     requires { bytes < 2 ^ 63 }
     ensures { result ≡ whole_bytes bytes }
@@ -183,7 +183,7 @@ pub(crate) fn push_base_part(
     push_base_mend(text, first, bytes)
 }
 
-/// What stands before the whole pages of a size.
+/// What comes before the whole pages of a size.
 fn pages_mend(bytes: u64) -> &'static str
     ensures { result.now ≡ pages_mend bytes }
 {

@@ -22,7 +22,7 @@ fn is_perm_letter(byte: u8) -> bool
     is_letter(b'r', byte) || is_letter(b'w', byte) || is_letter(b'x', byte) || byte == b'-'
 }
 
-/// Whether a letter stands in a word, in either case.
+/// Whether a letter occurs in a word, in either case.
 fn has_letter(letter: u8, word: &[u8]) -> bool
     ensures { result ≡ list_any (is_letter letter) word.now }
 {

@@ -17,7 +17,7 @@ use std::alloc::Global;
 /// Why a plan is not printed whole.
 #[derive(Clone, Copy, Debug)]
 pub enum PlanFault {
-    /// The source could not be had whole: at most 1 MiB.
+    /// The source could not be read whole: at most 1 MiB.
     Source(SourceFault),
     /// Its bytes make no map.
     Map(MapFileFault),

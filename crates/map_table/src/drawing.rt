@@ -16,7 +16,7 @@ use text_lines::Line;
 /// How many stretches are drawn at most.
 pub(crate) const MOST: usize = 1024;
 
-/// What stands before the size of the picture.
+/// What comes before the size of the picture.
 const OPEN: &[u8] = b"<svg xmlns=\"http://www.w3.org/2000/svg\" width=\"680";
 
 /// The title, the colours, the mark of a gap and the ground, up to the number of entries.
@@ -148,7 +148,7 @@ fn push_left(text: &mut Vec<u8>, count: usize, y: u64) -> Result<(), Memory>
     Ok(())
 }
 
-/// Appends what stands before the rows of a picture of that height, with the line of the number of entries.
+/// Appends what comes before the rows of a picture of that height, with the line of the number of entries.
 fn push_head(text: &mut Vec<u8>, height: u64, count: &Line) -> Result<(), Memory>
     ensures { OnOk result (text.new.items ≡ text.old.items
         ++ picture_head height count.now) }
@@ -161,7 +161,7 @@ fn push_head(text: &mut Vec<u8>, height: u64, count: &Line) -> Result<(), Memory
     Ok(())
 }
 
-/// Appends what stands after the rows, which end there.
+/// Appends what follows the rows, which end there.
 fn push_foot(text: &mut Vec<u8>, count: usize, y: u64) -> Result<(), Memory>
     requires { y ≤ 70000 }
     ensures { OnOk result (text.new.items ≡ text.old.items ++ picture_foot count y) }

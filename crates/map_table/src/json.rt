@@ -11,7 +11,7 @@ use pmp_encoding::Limit;
 use std::alloc::Global;
 use text_lines::{Line, push_decimal, push_hex, push_text};
 
-/// What stands after the last row.
+/// What follows the last row.
 pub(crate) const END: &[u8] = b"\n  ]\n}\n";
 
 /// Whether a hart has as many entries.
@@ -26,7 +26,7 @@ fn fits<'a>(count: usize, limit: Limit) -> &'a [u8]
     }
 }
 
-/// What stands before the rows.
+/// What comes before the rows.
 pub(crate) fn head(count: usize, limit: Limit) -> Line
     ensures { result ≡ json_head count limit }
 {
@@ -64,7 +64,7 @@ fn number_line(number: usize) -> Line
     line
 }
 
-/// Appends numbers, each behind a comma.
+/// Appends numbers, each after a comma.
 fn push_numbers_more(text: &mut Vec<u8>, numbers: &[usize]) -> Result<(), Memory>
     ensures { OnOk result (text.new.items ≡ text.old.items ++ numbers_more numbers.now) }
 {
@@ -143,7 +143,7 @@ fn push_row(
     Ok(())
 }
 
-/// Appends a row for each stretch, behind a comma.
+/// Appends a row for each stretch, after a comma.
 fn push_more(
     alloc: Global,
     text: &mut Vec<u8>,

@@ -9,7 +9,7 @@ use pmp_encoding::Perm;
 use printed_lines::letters;
 use text_lines::{Line, push_decimal, push_hex, push_text};
 
-/// How high the band of so many bytes is.
+/// How high the band of that many bytes is.
 fn band_height(size: u64) -> u64
     ensures height { result ≡ band_height size }
     ensures most { result ≤ 64 }
@@ -105,7 +105,7 @@ pub(crate) fn gap_line(size: u64, y: u64) -> Line
     line
 }
 
-/// What stands before the entry beside a band.
+/// What comes before the entry beside a band.
 pub(crate) fn beside_line(y: u64) -> Line
     ensures { result ≡ beside_text y }
 {
@@ -142,7 +142,7 @@ pub(crate) fn left_line(left: usize, y: u64) -> Line
     line
 }
 
-/// Where the key to the colours stands.
+/// Where the key to the colours goes.
 pub(crate) fn key_line(y: u64) -> Line
     ensures { result ≡ key_begin y }
 {

@@ -60,7 +60,7 @@ fn all_as_given(alloc: Global, all: &[Stretch]) -> Result<Vec<Stretch>, Memory>
     Ok(rows)
 }
 
-/// The table of what extents give by themselves, where so many are of entries that are not OFF. The only error is out of memory.
+/// The table of what extents give by themselves, where that many are of entries that are not OFF. The only error is out of memory.
 pub fn extent_table(alloc: Global, extents: &[Extent], on: usize) -> Result<Vec<u8>, Memory>
     requires { All IsWords extents.now }
     ensures { IfOk result (λ text. IsExtentTable extents.now on text.items) }

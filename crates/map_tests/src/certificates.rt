@@ -125,7 +125,7 @@ fn is_sent(rt: &impl Abort, alloc: Global, map: &PermissionMap, bytes: &[u8]) {
     assert!(rt; sink.written() == bytes);
 }
 
-/// A sink has taken so many bytes of the certificate of a map where its third write fails, which is told.
+/// A sink has taken `wanted` bytes of a map's certificate when its third write fails, which is reported.
 fn is_cut_off(rt: &impl Abort, alloc: Global, map: &PermissionMap, wanted: usize) {
     let plan = plan_map(alloc, map).expect(rt, "memory");
     let mut failing = PieceSink::new(100, Some(3));

@@ -85,7 +85,7 @@ const FIVE: &[Block] = &[
     (0, 14),
 ];
 
-/// The third has a byte behind the end of those before it.
+/// The third has a byte past the end of those before it.
 const RISING: &[Block] = &[(0x1000, 12), (0x2000, 12), (0x3000, 12), (0x8000, 12)];
 
 #[test]

@@ -4,7 +4,7 @@
 //! Of the check these are right certificates, each refusal in its place, and entries in any order. The check knows nothing of
 //! the planner, whose trees some rows take.
 //!
-//! They stand apart from the crates that they are of so that the gate proves each of these once.
+//! They are separate from the crates that they test so that the gate proves each of these once.
 #![tactic(auto)]
 
 #[cfg(test)]

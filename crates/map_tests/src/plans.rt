@@ -237,7 +237,7 @@ fn host_beside_scattered_pages(rt: &impl Abort, alloc: Global, pages: u32) -> Pe
     map
 }
 
-/// The host beside so many scattered pages needs that many entries.
+/// The host beside `pages` scattered pages needs `wanted` entries.
 fn scattered_pages_need(rt: &impl Abort, alloc: Global, pages: u32, wanted: u32) {
     let map = host_beside_scattered_pages(rt, alloc, pages);
     needs(rt, alloc, &map, wanted);

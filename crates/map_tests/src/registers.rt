@@ -84,7 +84,7 @@ fn have_bits(rt: &impl Abort) {
     }
 }
 
-/// The indices of permissions, and the entry that is none.
+/// The indices of permissions, and the entry that is blank.
 fn have_indices_and_blanks(rt: &impl Abort) {
     let indices = (Perm::default().index(), Perm::ReadWriteExecute.index());
     assert!(rt; indices == (0, 5));

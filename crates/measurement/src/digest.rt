@@ -10,7 +10,7 @@ ghost use Rattle.measurement.specs.declared.request.Create.{Create};
 use crate::request::Create;
 use crate::{Layout, Measure};
 
-/// What tells the bytes of its pages.
+/// What gives the bytes of its pages.
 pub trait Pages {
     /// The bytes of each page, by its number.
     ghost bytes_of: { Self → ℕ → List ℕ };
@@ -32,7 +32,7 @@ fn is_blank(page: &[u8; 4096]) -> bool
     all
 }
 
-/// Whether so many pages from one on have no byte but zeros.
+/// Whether this many pages from one on have no byte but zeros.
 fn are_blank<P: Pages>(pages: &P, first: u64, count: u64) -> bool
     requires { first + count ≤ 2 ^ 44 }
     ensures { result ≡ true → (i : ℕ) → i < count
@@ -116,7 +116,7 @@ pub trait Digests {
 /// What measures the private pages when it is asked, as they are then.
 #[derive(Drop)]
 pub struct MeasuresPages<'a, P> {
-    /// What tells the bytes of the pages.
+    /// What gives the bytes of the pages.
     pub pages: &'a P,
 }
 

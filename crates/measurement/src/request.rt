@@ -30,7 +30,7 @@ pub struct Create {
     pub entry_offset: u64,
 }
 
-/// Whether so many pages from an address on begin with a page and end in the space.
+/// Whether this many pages from an address on begin with a page and end in the space.
 fn is_placed(base: u64, count: u64) -> bool
     requires { count ≤ 1024 }
     ensures { IsTrue result

@@ -69,7 +69,7 @@ fn lint_as<W: Sink>(
     }
 }
 
-/// The lines of a text, each behind `hint: `.
+/// The lines of a text, each after `hint: `.
 fn hints_in(alloc: Global, text: &[u8]) -> Result<Vec<u8>, AllocError>
     ensures { IfOk result (λ hints. hints.items ≡ hints_in text.now) }
 {

@@ -19,7 +19,7 @@ use std::alloc::Global;
 use std::io::Write;
 
 /// Hands on the last of the output of a task of that status, and answers the program's status and the stream: 3 where that
-/// was refused and no trouble was told before. The stream has a front of it in any case.
+/// was refused with no trouble reported before. The stream has a front of it in any case.
 pub fn closed<T: Write + Drop, E: Sink>(status: u8, out: HeldSink<T>, err: &mut E) -> (u8, T)
     ensures { IsClosed (held_in out) (T.contents (writer_of out)) (T.contents result.1)
         (err.new ≡ err.old)

@@ -288,9 +288,9 @@ fn task_hints<'a, R: Source>(
 }
 
 /// Says what is wrong with the inputs of a task that ended for bad input, which are read anew from `first` and `second`: of the
-/// first that is not what it should be each line of its lint, behind `hint: `; of a map that needs more entries than it may, how
+/// first that is not what it should be each line of its lint, after `hint: `; of a map that needs more entries than it may, how
 /// many. Of a plan that was printed without configuration words it says so too. Nothing is said where each is what it should be,
-/// where one could not be had, or where memory is refused.
+/// where one could not be read, or where memory is refused.
 pub fn tell_hints<R: Source, E: Sink>(
     alloc: Global,
     request: &Request<'_>,

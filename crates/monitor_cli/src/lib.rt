@@ -3,8 +3,8 @@
 //! For the layer above: [`command_of`] answers the [`Task`] that the words of a command line name, and [`perform`] does it and
 //! answers the program's status: its clause has a rule for each way in which a command ends, with what was read and written in which
 //! order. A task alone is done with the options of a command line that names none; [`perform_request`] does a [`Request`], which
-//! has both, and lets a certificate stand in its place whole. [`perform_and_close`] does the same on an output that is held in
-//! part until its end, and [`perform_on_files`] on the task's own files: it opens what reads at its places, and says behind the end
+//! has both, and puts a certificate in its place whole. [`perform_and_close`] does the same on an output that is held in
+//! part until its end, and [`perform_on_files`] on the task's own files: it opens what reads at its places, and says after the end
 //! what helps. The other commands, tasks, the program's files, the texts of maps and platforms and the printed lines are
 //! crates of their own.
 //!
@@ -26,7 +26,7 @@
 //!
 //! # Hints
 //!
-//! What is wrong with the inputs of a task that ended for bad input is said behind its one line of trouble.
+//! What is wrong with the inputs of a task that ended for bad input is said after its one line of trouble.
 //! [`tell_hints`] reads the inputs of a task anew, in their order, and says on standard error of the first that is
 //! not what it should be each line of its lint, that it is too large, or how many entries it needs. Nothing else is written.
 //!

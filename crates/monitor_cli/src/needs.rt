@@ -15,9 +15,9 @@ use text_lines::{Line, push_decimal, push_text};
 /// How many entries a map may need.
 #[derive(Clone, Copy)]
 pub(crate) struct Bounds {
-    /// So many at most, where there is a bound.
+    /// This many at most, where there is a bound.
     pub(crate) most: Option<u64>,
-    /// So many have configuration words, where these are printed only for as many.
+    /// This many have configuration words, where these are printed for no more.
     pub(crate) words: Option<u64>,
 }
 
@@ -51,7 +51,7 @@ pub(crate) fn table_bounds(at_most: Option<u64>) -> Bounds
     }
 }
 
-/// What stands after a number of entries.
+/// What follows a number of entries.
 fn named<'a>(count: u64) -> &'a [u8]
     ensures text { result.now ≡ entries_named count }
     ensures most { length result.now ≤ 10 }
@@ -63,7 +63,7 @@ fn named<'a>(count: u64) -> &'a [u8]
     }
 }
 
-/// That so many are needed, and so many may be.
+/// How many are needed, and how many there may be.
 fn most_line(needed: u64, most: u64) -> Line
     ensures { result ≡ most_text needed most }
 {
@@ -77,7 +77,7 @@ fn most_line(needed: u64, most: u64) -> Line
     line
 }
 
-/// That so many are needed, and so many have configuration words.
+/// How many are needed, and how many have configuration words.
 fn words_line(needed: u64, there: u64) -> Line
     ensures { result ≡ words_text needed there }
 {
@@ -102,7 +102,7 @@ pub(crate) fn need_of(alloc: Global, name: &str, end: &[u8]) -> Result<Vec<u8>, 
     Ok(hint)
 }
 
-/// The hint of a platform whose host's view needs so many entries, which is more than a hart has.
+/// The hint of a platform whose host's view needs this many entries, which is more than a hart has.
 pub(crate) fn boot_hint(
     alloc: Global,
     name: &str,
@@ -119,7 +119,7 @@ pub(crate) fn boot_hint(
     )
 }
 
-/// The hint of a map that needs so many entries, where configuration words have no room for them.
+/// The hint of a map that needs this many entries, where configuration words have no room for them.
 fn words_hint(
     alloc: Global,
     name: &str,
@@ -138,7 +138,7 @@ fn words_hint(
     }
 }
 
-/// The hint of a map that needs so many entries, where that is more than it may.
+/// The hint of a map that needs this many entries, where that is more than it may.
 pub(crate) fn need_hint(
     alloc: Global,
     name: &str,

@@ -63,7 +63,7 @@ fn say_why<E: Sink>(failure: Failure<'_>, err: &mut E)
     }
 }
 
-/// Says what follows the end of a task of that status, where hints are told: what is wrong with its inputs, or why a device
+/// Says what follows the end of a task of that status, where hints are given: what is wrong with its inputs, or why a device
 /// failed.
 fn follow<'a, R: Files, S: Read + Copy, E: Sink>(
     lent: &Lent<'a, R, S>,
@@ -90,7 +90,7 @@ fn follow<'a, R: Files, S: Read + Copy, E: Sink>(
 }
 
 /// Does what is asked for on the files of its task, and answers the program's status. Each file is opened or made at its first
-/// read or write. Where hints are told, what is wrong with the inputs is said behind the trouble, or why a device failed. Nothing
+/// read or write. Where hints are given, what is wrong with the inputs is said after the trouble, or why a device failed. Nothing
 /// is done where memory is refused before.
 pub fn perform_on_files<'a, R: Files, S: Read + Copy, O: Write + Drop, E: Sink>(
     lent: &Lent<'a, R, S>,

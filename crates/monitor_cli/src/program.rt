@@ -190,7 +190,7 @@ pub fn perform<R: Source, C: Sink, W: Sink, E: Sink>(
     perform_as::<R, Straight, C, W, E>(alloc, &request, first, second, cert, out, err)
 }
 
-/// Does a task as [`perform`] does, with the options of a request. A certificate comes to stand in the place of `cert` whole, or not
+/// Does a task as [`perform`] does, with the options of a request. A certificate is put in the place of `cert` whole, or not
 /// at all.
 pub fn perform_request<R: Source, C: WholeSink, W: Sink, E: Sink>(
     alloc: Global,

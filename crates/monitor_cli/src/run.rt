@@ -41,7 +41,7 @@ fn run_plainly<'a, R: Source, W: Sink>(
     }
 }
 
-/// Runs a trace on a machine, says behind each answer what happened, prints the measurements where they are asked for, and last
+/// Runs a trace on a machine, says after each answer what happened, prints the measurements where they are asked for, and last
 /// the summary.
 #[inline(never)]
 fn run_explaining<'a, R: Source, W: Sink>(

@@ -64,7 +64,7 @@ impl FileKind {
     }
 }
 
-/// What was had of a file.
+/// What was read of a file.
 #[derive(Drop)]
 pub(crate) enum Had {
     /// Its bytes.

@@ -10,7 +10,7 @@ use command_line::request_of_words;
 use program_tasks::Task;
 use std::alloc::Global;
 
-/// The task that the words of a command line name; the first word is the program's own. Of its options nothing is told:
+/// The task that the words of a command line name; the first word is the program's own. Nothing is said of its options:
 /// [`request_of_words`] answers both.
 ///
 /// An error is a fault of the command line, out of memory, or a wish for help or the version: its `kind`

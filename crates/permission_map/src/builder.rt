@@ -19,13 +19,13 @@ use std::marker::Model;
 /// The most points of a map, two for each run and one more, those that are idle, and room for two to come before others go.
 const MOST_POINTS: usize = 2 * MOST_RUNS + MOST_IDLE + 3;
 
-/// For so many points room is taken: 128 KiB and more, which the C library gives back to the system when the map is finished. A smaller
+/// Room is taken for this many points: 128 KiB and more, which the C library gives back to the system when the map is finished. A smaller
 /// block would stay with the program, beside what a plan takes.
 const ROOM: usize = 16 * 1024 + 1;
 
 /// A map on which many ranges are set one after another, as the lines of a map file do. It is seen as the runs of the
 /// [`PermissionMap`] that it becomes. It keeps the pages at which the permission changes: a range replaces the few that
-/// lie in it by at most two, or leaves them where they stand. Room for all is taken with the first run.
+/// lie in it by at most two, or leaves them where they are. Room for all is taken with the first run.
 #[derive(Drop)]
 pub struct MapBuilder {
     alloc: Global,

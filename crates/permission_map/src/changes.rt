@@ -10,10 +10,10 @@ use pmp_encoding::{Perm, SPACE_PAGES};
 /// As many points may be idle: at them the permission does not change.
 pub(crate) const MOST_IDLE: usize = 4096;
 
-/// As many points of a range are written anew where they stand. Of more, most go.
+/// Up to this many points of a range are rewritten where they are. Of more, most go.
 const MOST_WRITTEN: usize = 8;
 
-/// Puts a point at an index, in the place of the first of those up to `end`, otherwise before what stands there. It answers
+/// Puts a point at an index, replacing the first of those up to `end`, otherwise before what is there. It answers
 /// how far those to be replaced reach now.
 fn put(points: &mut Vec<Point>, at: usize, end: usize, point: Point) -> usize
     requires order { at ≤ end }
@@ -38,7 +38,7 @@ fn put(points: &mut Vec<Point>, at: usize, end: usize, point: Point) -> usize
     end + 1
 }
 
-/// Puts two points before what stands at an index. What stands there and after it moves once for both: where the lines of a
+/// Puts two points before what is at an index. What is there and after it moves once for both: where the lines of a
 /// map come in no order, most of the time goes by such moves.
 fn put_two(points: &mut Vec<Point>, at: usize, start: Point, stop: Point)
     requires inside { at ≤ vec_len points.old }
@@ -59,7 +59,7 @@ fn put_two(points: &mut Vec<Point>, at: usize, start: Point, stop: Point)
     points[at + 1] = stop;
 }
 
-/// Puts at most two points in the place of those with the indices from `from` to before `to`. It stands apart, so that how its
+/// Replaces the points with the indices from `from` to before `to` by at most two. It is a function of its own, so that how its
 /// loops lie in memory does not depend on who sets ranges.
 #[inline(never)]
 fn replace(
@@ -112,7 +112,7 @@ fn repeat(points: &mut Vec<Point>, from: usize, to: usize, perm: Perm)
     }
 }
 
-/// Writes a range over the points that stand in it, two at least: the first becomes its start and the last its stop. None moves,
+/// Writes a range over the points that lie in it, two at least: the first becomes its start and the last its stop. None moves,
 /// and those between them change nothing. The permission comes beside its start, so that it is not read back from there.
 fn write_over(
     points: &mut Vec<Point>,
@@ -144,8 +144,8 @@ pub(crate) struct Setting {
     pub(crate) perm: Perm,
 }
 
-/// Sets a range between the first `from` points and those after the first `to`. Where a few points stand in it, they stay, some
-/// of them idle: so lines that override one another over and over move no points. Otherwise at most two stand in their place.
+/// Sets a range between the first `from` points and those after the first `to`. Where a few points lie in it, they stay, some
+/// of them idle: so lines that override one another over and over move no points. Otherwise at most two take their place.
 pub(crate) fn change(
     points: &mut Vec<Point>,
     from: usize,

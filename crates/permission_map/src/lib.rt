@@ -11,7 +11,7 @@
 //! - one range adds at most two runs (`runs_law`).
 //!
 //! A [`MapBuilder`] takes many ranges one after another, as a map file sets them, by the same contract of `set_range`, and
-//! becomes a map at the end. It keeps the points at which the permission changes in place of runs.
+//! becomes a map at the end. It keeps the points at which the permission changes instead of runs.
 //!
 //! ```text
 //! let mut map = PermissionMap::new(alloc);

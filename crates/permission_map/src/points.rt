@@ -19,7 +19,7 @@ static PERMS: [Perm; 8] = [
     Perm::ReadWriteExecute,
 ];
 
-/// A page at which the permission changes or has changed, with the one that stands from there on. Both are kept in one number:
+/// A page at which the permission changes or has changed, with the one that holds from there on. Both are kept in one number:
 /// moving points is then moving numbers of eight bytes, which becomes one `memmove`.
 #[derive(Clone, Copy)]
 pub(crate) struct Point {
@@ -49,7 +49,7 @@ impl Point {
         PERMS[(self.number % 8) as usize]
     }
 
-    /// The point at the same page from which the permission stands.
+    /// The point at the same page from which the permission holds.
     pub(crate) fn with_perm(self, perm: Perm) -> Point
         ensures { result ≡ with_perm perm self }
     {
@@ -66,7 +66,7 @@ impl Point {
     }
 }
 
-/// 1 where there are so many points and the last of them comes before the page, otherwise 0. It takes no branch: of one, a
+/// 1 where there are `count` points and the last of them comes before the page, otherwise 0. It takes no branch: of one, a
 /// search guesses every other wrong.
 #[inline(always)]
 fn past(points: &[Point], count: usize, page: u64) -> usize
@@ -83,7 +83,7 @@ fn past(points: &[Point], count: usize, page: u64) -> usize
     usize::from((count <= points.len()) & (points[last].page() < page))
 }
 
-/// How far a search goes by so many bits.
+/// How far a search steps for `bits` bits.
 #[inline(always)]
 fn step_of(bits: u32) -> usize
     requires { bits ≤ 44 }
@@ -174,7 +174,7 @@ pub(crate) fn up_to(points: &[Point], from: usize, page: u64) -> usize
     to
 }
 
-/// The permission that stands after the first `count` points.
+/// The permission that holds after the first `count` points.
 pub(crate) fn standing_behind(points: &[Point], count: usize) -> Perm
     requires { count ≤ length points.now }
     ensures { result ≡ standing NoAccess (take count points.now) }
@@ -185,7 +185,7 @@ pub(crate) fn standing_behind(points: &[Point], count: usize) -> Perm
     points[count - 1].perm()
 }
 
-/// The point at a page from which on `perm` stands, where `before` stands up to it; none where they are the same.
+/// The point at a page from which on `perm` holds, where `before` holds up to it; none where they are the same.
 pub(crate) fn turn(before: Perm, page: u64, perm: Perm) -> Option<Point>
     requires { page < 2 ^ 44 }
     ensures { IsTurn before page perm result }
@@ -196,7 +196,7 @@ pub(crate) fn turn(before: Perm, page: u64, perm: Perm) -> Option<Point>
     Some(Point::new(page, perm))
 }
 
-/// The point at the end of a range, after which `after` stands; none at the end of the space.
+/// The point at the end of a range, after which `after` holds; none at the end of the space.
 pub(crate) fn stop(perm: Perm, end: u64, after: Perm) -> Option<Point>
     requires { end ≤ 2 ^ 44 }
     ensures { IsStop perm end after result }
@@ -207,7 +207,7 @@ pub(crate) fn stop(perm: Perm, end: u64, after: Perm) -> Option<Point>
     turn(perm, end, after)
 }
 
-/// How many of the points begin a run, where `before` stands before them.
+/// How many of the points begin a run, where `before` holds before them.
 fn begun_in(points: &[Point], before: Perm) -> usize
     ensures { result ≡ count_by allows (turns_after before points.now) }
 {

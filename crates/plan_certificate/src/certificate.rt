@@ -19,7 +19,7 @@ use pmp_encoding::Limit;
 use prefix_tree::{Halving, MapBlock, Tree};
 use std::alloc::{AllocError, Global};
 
-/// The certificate of the space, of which the plan has so many split blocks.
+/// The certificate of the space, whose plan has a given number of split blocks.
 fn write_of<H: Halving, P: WrittenPlan>(
     alloc: Global,
     root: &H,
@@ -44,7 +44,7 @@ fn write_of<H: Halving, P: WrittenPlan>(
     Ok(sink.into_inner())
 }
 
-/// The certificate of a tree and its plan, for harts of so many entries: sixteen are written in the first form,
+/// The certificate of a tree and its plan, for harts of `limit` entries: sixteen are written in the first form,
 /// sixty-four in the second. It has the plan's entries, each as its canonical pair, and the tree with the plan's
 /// costs. It asks that both have as many [`branches`](Tree::branches).
 pub fn write(alloc: Global, tree: &Tree, plan: &Plan, limit: Limit) -> Result<Vec<u8>, Memory>

@@ -2,7 +2,7 @@
 //!
 //! For the layer above: the bytes that [`write`] gives spell the plan's entries and the tree with the plan's costs,
 //! and nothing else; [`send_map`] sends the same bytes piece by piece and takes no memory. Of a plan's promises they are a certificate ([`certificate_law`]). What certificates are, and
-//! the cursor that reads them, stand in `certificate_format`, whose names this crate re-exports.
+//! the cursor that reads them, are in `certificate_format`, whose names this crate re-exports.
 //!
 //! ```rust
 //! let tree = build(alloc, &map)?;

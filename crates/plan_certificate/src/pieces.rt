@@ -100,7 +100,7 @@ fn front_of(costs: SixCosts) -> [u8; 25]
     bytes
 }
 
-/// Makes room for so many bytes after those that are held, which go to the sink where there is none.
+/// Makes room for `room` bytes after those that are held, which go to the sink where there is none.
 fn make_room<W: Sink>(
     piece: &mut ArrayVec<u8, PIECE>,
     room: usize,
@@ -170,8 +170,8 @@ fn put_entries<P: WrittenPlan, W: Sink>(
     Ok(())
 }
 
-/// Puts what stands before the node of a chain's smallest block: the branches, and the leaves of the pages before it. Says
-/// how many leaves stand after it.
+/// Puts what comes before the node of a chain's smallest block: the branches, and the leaves of the pages before it. Says
+/// how many leaves come after it.
 fn hold_heads(piece: &mut ArrayVec<u8, PIECE>, chain: Chain, costs: &SplitCosts, i: usize) -> usize
     requires chain { chain.place < 2 ^ chain.levels }
     requires most { chain.levels ≤ 44 }
@@ -206,7 +206,7 @@ fn hold_heads(piece: &mut ArrayVec<u8, PIECE>, chain: Chain, costs: &SplitCosts,
     behind
 }
 
-/// Puts so many leaves.
+/// Puts `count` leaves.
 fn hold_leaves(piece: &mut ArrayVec<u8, PIECE>, count: usize, perm: Perm)
     requires room { length piece.old.items + 2 * count ≤ 16384 }
     ensures { piece.new.items ≡ piece.old.items ++ leaves_bytes count perm }
@@ -220,7 +220,7 @@ fn hold_leaves(piece: &mut ArrayVec<u8, PIECE>, count: usize, perm: Perm)
     }
 }
 
-/// Puts what stands before the node of a chain's smallest block, and says how many leaves stand after it.
+/// Puts what comes before the node of a chain's smallest block, and says how many leaves come after it.
 fn put_heads<W: Sink>(
     piece: &mut ArrayVec<u8, PIECE>,
     chain: Chain,
@@ -252,7 +252,7 @@ fn put_heads<W: Sink>(
     Ok(behind)
 }
 
-/// Puts what stands after it: so many leaves.
+/// Puts what comes after it: `count` leaves.
 fn put_tails<W: Sink>(
     piece: &mut ArrayVec<u8, PIECE>,
     count: usize,
@@ -330,7 +330,7 @@ fn put_node<H: Halving, W: Sink>(
     Ok(next)
 }
 
-/// Sends the certificate of the space, of which the plan has so many split blocks, to a sink.
+/// Sends the certificate of the space, whose plan has a given number of split blocks, to a sink.
 pub(crate) fn send<H: Halving, P: WrittenPlan, W: Sink>(
     root: &H,
     plan: &P,

@@ -9,7 +9,7 @@ use thiserror::Error;
 /// Why a text is no platform.
 #[derive(Clone, Copy, Debug, PartialEq, Eq, Error)]
 pub enum TextFault {
-    /// It is no TOML document, tells too little or too much, or breaks a rule on platforms.
+    /// It is not a TOML document, says too little or too much, or breaks a rule on platforms.
     #[error("not a platform")]
     NotAPlatform = 1,
     /// Memory was refused.

@@ -1,7 +1,7 @@
 //! The platform file: a TOML document that says where memory, devices and the monitor are.
 //!
 //! For the layer above: [`platform_of`] answers the platform that a text is, and `NotAPlatform` exactly where the text
-//! is none. The look-ups that it is made of are public for `file_lints`, which says why a text is none.
+//! is not one. The look-ups that it uses are public for `file_lints`, which says why a text is not one.
 //!
 //! ```rust
 //! let text = "monitor = { base = 0x80000000, size = 0x200000 }\nram = [{ base = 0x80000000, size = 0x8000000 }]";

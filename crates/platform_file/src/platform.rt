@@ -94,11 +94,11 @@ fn platform_in(alloc: Global, document: &Table) -> Result<Platform, TextFault>
 }
 
 /// The platform that a text is: a TOML document with a table `monitor` and an array of tables `ram`, each of a `base` and
-/// a `size` in bytes, and, where they are told, an array of tables `device`, each with a `perm` too, the number of
+/// a `size` in bytes, and, where they are given, an array of tables `device`, each with a `perm` too, the number of
 /// `harts`, 1 to 4, and the number of PMP `entries` to a hart, 16 or 64. No other key is allowed anywhere, and the ranges
 /// keep the rules of [`Platform::new`].
 ///
-/// Refused with [`TextFault::NotAPlatform`] exactly where the text is none, and with [`TextFault::Memory`] where memory
+/// Refused with [`TextFault::NotAPlatform`] exactly where the text is not one, and with [`TextFault::Memory`] where memory
 /// was refused.
 pub fn platform_of(alloc: Global, text: &str) -> Result<Platform, TextFault>
     ensures ok { IfOk result (IsPlatformText text.now) }

@@ -1,4 +1,4 @@
-//! The ranges that tables of a document tell.
+//! The ranges that tables of a document give.
 
 ghost use Rattle.std.specs.Prelude.{◌≡◌, Err, IfOk, None, Some, option_map};
 ghost use Rattle.std.specs.Option.{option_and_then};
@@ -22,7 +22,7 @@ pub fn range_in(table: &Table) -> Option<(u64, u64)>
     Some((base, size))
 }
 
-/// The range that a table of a base and a size alone tells.
+/// The range that a table of a base and a size alone gives.
 fn range_of(table: &Table) -> Option<(u64, u64)>
     ensures { result ≡ range_of (table_view table.now) }
 {
@@ -41,7 +41,7 @@ fn device_in(table: &Table) -> Option<(u64, u64, Perm)>
     Some((range.0, range.1, perm))
 }
 
-/// The device that a table of a base, a size and a permission alone tells.
+/// The device that a table of a base, a size and a permission alone gives.
 fn device_of(table: &Table) -> Option<(u64, u64, Perm)>
     ensures { result ≡ device_of (table_view table.now) }
 {
@@ -75,7 +75,7 @@ fn device_told(value: &Value) -> Option<(u64, u64, Perm)>
     device_of(table)
 }
 
-/// The ranges that tables tell.
+/// The ranges that tables give.
 fn ranges_in(alloc: Global, values: &[Value]) -> Result<Vec<(u64, u64)>, TextFault>
     ensures ok { IfOk result (λ ranges.
         each range_of (items_view values.now) ≡ Some ranges.items) }
@@ -92,7 +92,7 @@ fn ranges_in(alloc: Global, values: &[Value]) -> Result<Vec<(u64, u64)>, TextFau
     Ok(ranges)
 }
 
-/// The devices that tables tell.
+/// The devices that tables give.
 fn devices_in(alloc: Global, values: &[Value]) -> Result<Vec<(u64, u64, Perm)>, TextFault>
     ensures ok { IfOk result (λ devices.
         each device_of (items_view values.now) ≡ Some devices.items) }
@@ -130,7 +130,7 @@ fn array_at<'a>(table: &'a Table, key: &str) -> Option<&'a Array>
     value.as_array()
 }
 
-/// The devices, none where none are told.
+/// The devices, none where none are given.
 pub fn devices_at(alloc: Global, document: &Table) -> Result<Vec<(u64, u64, Perm)>, TextFault>
     ensures ok { IfOk result (λ devices.
         devices_at (table_view document.now) ≡ Some devices.items) }

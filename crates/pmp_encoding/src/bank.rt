@@ -21,14 +21,14 @@ pub struct Bank {
     limit: Limit,
     words: [u64; 8],
     addresses: [u64; 64],
-    /// The entries in their order, decoded once; what stands from `used` on says nothing.
+    /// The entries in their order, decoded once; those from `used` on say nothing.
     extents: [Extent; 64],
     used: usize,
     pub ghost registers: { AreRegisters limit words addresses },
     pub ghost decoded: { AreExtents words addresses (limit_number limit) extents used },
 }
 
-/// What stands in a bank after the extents of its entries.
+/// What a bank holds after the extents of its entries.
 const NOWHERE: Extent = Extent {
     base: 0,
     end: 0,
@@ -126,7 +126,7 @@ impl Bank {
         self.limit
     }
 
-    /// The word pmpcfg(k). There is none of an odd number.
+    /// The word pmpcfg(k). There is none with an odd number.
     pub fn cfg(&self, k: usize) -> u64
         requires even { k % 2 ≡ 0 }
         requires there { k < 16 }
@@ -284,7 +284,7 @@ fn clear(addresses: &mut [u64; 64], limit: Limit)
 }
 
 /// Fills registers with entries, each in its canonical pair, and zero after them; and decodes each one beside it. The word that is
-/// being filled stands in a variable: read back from its place, it would make each entry wait for the store of the one before. So does
+/// being filled is held in a variable: read back from its place, it would make each entry wait for the store of the one before. So is
 /// the entry, which would be read again after each store.
 fn fill(
     words: &mut [u64; 8],

@@ -12,7 +12,7 @@ impl Limit {
     ghost use Rattle.pmp_encoding.specs.declared.limit.Limit.{Limit};
     ghost use Rattle.pmp_encoding.specs.Limits.{limit_number};
 
-    /// The limit of so many entries, or `None` where that is neither 16 nor 64.
+    /// The limit of this many entries, or `None` where that is neither 16 nor 64.
     pub fn of(number: u32) -> Option<Limit>
         ensures some { IfSome result (λ limit. limit_number limit ≡ number) }
         ensures none { IfNone result ((limit : Limit) → limit_number limit ≢ number) }

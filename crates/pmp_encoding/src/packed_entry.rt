@@ -7,7 +7,7 @@ use crate::perm::Perm;
 use crate::region::{Entry, Region, bytes_of};
 use std::marker::Model;
 
-/// An entry in eight bytes in place of twenty-four, as long lists keep it. Contracts see the entry.
+/// An entry in eight bytes instead of twenty-four, as long lists keep it. Contracts see the entry.
 #[derive(Drop)]
 pub struct PackedEntry {
     /// A quarter of the lowest address, six bits of the size, and three of the permission.

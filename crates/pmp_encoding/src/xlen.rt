@@ -74,7 +74,7 @@ impl Xlen {
         }
     }
 
-    /// How many configuration words there are for so many entries.
+    /// How many configuration words there are for this many entries.
     pub fn words(self, limit: Limit) -> usize
         ensures value { result ≡ word_count self limit }
         ensures most { result ≤ 16 }

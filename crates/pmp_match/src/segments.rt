@@ -41,7 +41,7 @@ static OUTCOMES: [Result<(), Cause>; 6] = [
     Ok(()),
 ];
 
-/// What stands after the segments of a bank.
+/// What comes after the segments of a bank.
 const NOWHERE: Segment = Segment {
     base: SPACE_SIZE,
     end: SPACE_SIZE,

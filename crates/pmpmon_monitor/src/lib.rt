@@ -1,6 +1,6 @@
 //! The monitor for firmware in C: one call, which serves the traps of the harts until nothing can be served.
 //!
-//! The harts stand behind standard input and output, as C has them: firmware supplies `read`, `write` and `rattle_errno`, of
+//! The harts are reached by standard input and output, as C has them: firmware supplies `read`, `write` and `rattle_errno`, of
 //! which `firmware/serve.c` is one. What is read is the next frame, what is written the next answer (`docs/FORMATS.md`,
 //! "Frames"). C passes nothing: the three parameters have no size.
 //!

@@ -10,7 +10,7 @@ ghost use Rattle.printed_lines.specs.Texts.{entry_text, register_text};
 use pmp_encoding::{PackedEntry, Xlen};
 use text_lines::{Counter, hex_digit, hex_digits};
 
-/// The most bytes that are put for an entry: what stands behind a short number is put too, and written over.
+/// The most bytes that are put for an entry: what comes after a short number is put too, and written over.
 pub const MOST: usize = 46;
 
 /// Puts a text at a place, and answers the place after it.
@@ -67,7 +67,7 @@ fn put_register(buffer: &mut [u8], at: usize, xlen: Xlen, value: u64) -> usize
     }
 }
 
-/// Puts what stands before the digits of a register. Of an array of its own the compiler knows that it lies apart from the
+/// Puts what comes before the digits of a register. Of an array of its own the compiler knows that it lies apart from the
 /// buffer.
 #[inline(always)]
 fn put_prefix(buffer: &mut [u8], at: usize) -> usize

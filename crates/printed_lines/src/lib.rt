@@ -1,7 +1,7 @@
 //! The lines that the program prints, each in a buffer of a fixed length, and the printing of a plan.
 //!
 //! For the layer above: each function that ends in `_line` answers the text that its clause names, and takes no memory;
-//! [`print_plan`] writes the lines of a list of entries to a sink. [`entry_from`] and [`word_from`] answer what stands at an
+//! [`print_plan`] writes the lines of a list of entries to a sink. [`entry_from`] and [`word_from`] answer what is at an
 //! entry and in a word of a hart on which a list begins at some entry. Sizes and permissions are put in words here.
 //!
 //! ```rust

@@ -1,4 +1,4 @@
-//! Entries that stand on a hart from one of its entries on.
+//! Entries placed on a hart from one of its entries on.
 
 ghost use Rattle.std.specs.Prelude.{◌≡◌, ◌+◌, ◌-◌, ◌<◌, map};
 ghost use Rattle.std.specs.Int.{from_le_bytes, w32, w64};
@@ -7,7 +7,7 @@ ghost use Rattle.printed_lines.specs.Placed.{cfg_from, entry_from, places_in_wor
 
 use pmp_encoding::{Entry, Limit, PackedEntry, Xlen};
 
-/// What stands at entry i of the hart.
+/// What is at entry i of the hart.
 pub fn entry_from(entries: &[PackedEntry], first: u8, i: usize) -> Option<Entry>
     ensures { result ≡ entry_from first entries.now i }
 {

@@ -12,7 +12,7 @@ use std::path::{Path, PathBuf};
 use std::rt::Files;
 use std::{fs, io};
 
-/// What a link of that name leads to; nothing where it is no link, or that cannot be told.
+/// What a link of that name leads to; nothing where it is no link, or that cannot be read.
 pub(crate) fn led_to<R: Files>(files: &R, alloc: Global, name: &str) -> Option<PathBuf> {
     let stands = fs::symlink_metadata(files, name).ok()?;
     if !stands.is_symlink() {
@@ -27,7 +27,7 @@ pub(crate) fn led_to<R: Files>(files: &R, alloc: Global, name: &str) -> Option<P
 /// How many links are followed, as Linux does.
 const MOST_LINKS: u8 = 40;
 
-/// What a link leads to at its end, where nothing need be; nothing where it does not end, or cannot be told.
+/// What a link leads to at its end, where nothing need be; nothing where it does not end, or cannot be read.
 fn end_of<R: Files>(files: &R, alloc: Global, name: &str) -> Option<PathBuf> {
     let mut place = PathBuf::from_str(alloc, name).ok()?;
     for _ in 0..MOST_LINKS {
@@ -51,14 +51,14 @@ pub(crate) fn takes_no_file(kind: ErrorKind) -> bool
     )
 }
 
-/// Lets a new file be read and written by whom the old one may; where that can't be had, it is as any new file.
+/// Lets a new file be read and written by whom the old one may; where that fails, it is as any new file.
 pub(crate) fn permit<F: OpenFile>(file: &F, old: Option<Metadata>) {
     if let Some(old) = old {
         let _ = file.set_permissions(old.permissions());
     }
 }
 
-/// To write to what stands in a place, which is emptied first. Nothing is made.
+/// To write to what is at a place, which is emptied first. Nothing is made.
 fn emptied() -> OpenOptions
     ensures { result ≡ with_truncate (with_write new_options true) true }
 {
@@ -67,7 +67,7 @@ fn emptied() -> OpenOptions
     options
 }
 
-/// What stands there, to be written from its beginning on.
+/// What is there, to be written from its beginning on.
 pub(crate) fn straight<R: Files>(files: &R, place: &str) -> io::Result<R::File> {
     emptied().open(files, place)
 }

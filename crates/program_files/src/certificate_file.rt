@@ -10,7 +10,7 @@ use byte_streams::{DeviceFault, Sink};
 use std::alloc::{AllocError, Global};
 use std::rt::Files;
 
-/// A file that comes to stand whole or not at all: its bytes are written beside it and moved into its place at the end; where
+/// A file that appears whole or not at all: its bytes are written beside it and moved into its place at the end; where
 /// that fails they are removed.
 #[derive(Drop)]
 pub struct CertificateFile<R: Files> {
@@ -53,7 +53,7 @@ impl<R: Files> Sink for CertificateFile<R> {
     }
 }
 
-/// What stands in a file is not known.
+/// What a file contains is not known.
 impl<R: Files> WholeSink for CertificateFile<R> {
     type Inner = PartFile<R>;
 

@@ -32,7 +32,7 @@ impl<'a, R: Files> FileToRead<'a, R> {
 }
 
 impl<R: Files> Read for FileToRead<'_, R> {
-    // What the opened file tells of its bytes; nothing is known of them before its first read.
+    // What the opened file says of its bytes; nothing is known of them before its first read.
     ghost remaining = { λ r. option_and_then R.File.remaining r.file };
 
     // A file that could not be opened is no file without bytes: where a read is done, a file is open.
@@ -79,7 +79,7 @@ impl<'a, R: Files, S> InputToRead<'a, R, S> {
 }
 
 impl<R: Files, S: Read> Read for InputToRead<'_, R, S> {
-    // What the file or the stream tells of its bytes.
+    // What the file or the stream says of its bytes.
     ghost remaining = { remaining_of R.File.remaining S.remaining };
 
     fn read(&mut self, buf: &mut [u8]) -> io::Result<usize>

@@ -1,8 +1,8 @@
-//! The program's files: read whole or from their first read on, and written so that they stand whole or not at all.
+//! The program's files: read whole or from their first read on, and written so that they appear whole or not at all.
 //!
 //! For the layer above: [`read_whole`] answers the bytes of a source of bounded length, and [`has_more`] whether it is
 //! longer; a [`FileToRead`] is opened at its first read, and an [`InputToRead`] is one or standard input; a
-//! [`CertificateFile`] is a [`WholeSink`], whose bytes come to stand in their place all at once: it lends what takes them,
+//! [`CertificateFile`] is a [`WholeSink`], whose bytes appear in their place all at once: it lends what takes them,
 //! a [`PartFile`], and not the place. A call that a signal interrupted is tried again ([`RetryInterrupted`]).
 //!
 //! ```rust

@@ -73,7 +73,7 @@ impl<R: Files> PartFile<R> {
         self.reason
     }
 
-    /// Opens what is written to: a new file beside the place; or what stands there, if it is no plain file or its folder takes
+    /// Opens what is written to: a new file beside the place; or what is there, if it is no plain file or its folder takes
     /// no new one.
     fn open(&mut self) -> io::Result<()>
         ensures place { self.new.place ≡ self.old.place }
@@ -100,7 +100,7 @@ impl<R: Files> PartFile<R> {
         self.open_plain(stands)
     }
 
-    /// The same where what stands in the place, if anything does, is a plain file.
+    /// The same where what is at the place, if anything, is a plain file.
     fn open_plain(&mut self, stands: Option<Metadata>) -> io::Result<()>
         ensures place { self.new.place ≡ self.old.place }
         ensures opened { IfOk result (λ _. self.new.file ≢ None) }
@@ -232,7 +232,7 @@ impl<R: Files> PartFile<R> {
         DeviceFault
     }
 
-    /// Lets what was written stand in its place.
+    /// Puts what was written in its place.
     pub(crate) fn put_in_place(&mut self) -> Result<(), DeviceFault>
         ensures failures { CountsFailure result self.old.failures self.new.failures }
         ensures stalls { self.new.stalls ≡ self.old.stalls }

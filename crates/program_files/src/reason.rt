@@ -1,4 +1,4 @@
-//! Why a file could not be had or made, as the system says it.
+//! Why a file could not be read or made, as the system says it.
 
 ghost use Rattle.std.specs.Prelude.{◌≡◌, IfErr, IfOk, None, Some};
 ghost use Rattle.std.specs.Io.{ReadsAtMost, WritesAtMost};
@@ -9,14 +9,14 @@ ghost use Rattle.program_files.specs.Reasons.{reason_of, reason_text};
 use std::io;
 use std::io::{ErrorKind, Read, Write};
 
-/// Why a file could not be had or made.
+/// Why a file could not be read or made.
 #[derive(Clone, Copy)]
 pub enum Reason {
     /// There is no file of that name, or no folder that it names.
     NoSuchFile,
     /// It is a folder.
     Folder,
-    /// What should be a folder on its way is none.
+    /// What should be a folder on its path is not.
     NoFolder,
     /// The user may not.
     NoPermission,

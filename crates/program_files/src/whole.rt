@@ -10,7 +10,7 @@ use std::alloc::{AllocError, Global};
 /// How many bytes are asked of a source at a time.
 const PIECE: usize = 16384;
 
-/// For so many bytes room is taken with the first: 128 KiB and more, which the C library gives back to the system when they are
+/// Room for this many bytes is taken with the first: 128 KiB and more, which the C library gives back to the system when they are
 /// dropped. A smaller block would stay with the program, beside what is made of them.
 const ROOM: usize = 128 * 1024 + 1;
 

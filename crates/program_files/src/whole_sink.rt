@@ -1,4 +1,4 @@
-//! A sink whose bytes come to stand in a place.
+//! A sink whose bytes end up in a place.
 
 ghost use Rattle.std.specs.Prelude.{◌≡◌, ℕ, Bool, List, Option, true, IfErr, IfOk};
 ghost use Rattle.std.specs.Borrow.{Lends, sem};
@@ -6,12 +6,12 @@ ghost use Rattle.byte_streams.specs.Streams.{CountsFailure};
 
 use byte_streams::{DeviceFault, Sink};
 
-/// A sink whose bytes come to stand in their place all at once, or not at all.
+/// A sink whose bytes appear in their place all at once, or not at all.
 pub trait WholeSink: Sink {
     /// What takes the bytes.
     type Inner: Sink;
 
-    /// The bytes that stand in the place, where they are known.
+    /// The bytes that are in the place, where they are known.
     ghost stands: { Self → Option (List ℕ) };
 
     /// Whether the place is apart from what takes the bytes. A stream is a place of its own.
@@ -48,7 +48,7 @@ pub trait WholeSink: Sink {
     ghost stalled: { (whole : Self) (inner : Self.Inner)
         → Self.stalls (with_inner whole inner) ≡ Self.Inner.stalls inner };
 
-    /// No write changes what stands in a place that is apart.
+    /// No write changes what is in a place that is apart.
     ghost apart: { (whole : Self) (inner : Self.Inner) → is_apart ≡ true
         → stands (with_inner whole inner) ≡ stands whole };
 }

@@ -42,7 +42,7 @@ pub enum Fault<'a> {
     TakesPlace(&'a str),
 }
 
-/// What stands after the word that `--entries` does not take.
+/// What comes after the word that `--entries` does not take.
 const NO_ENTRIES: &str = "' for '--entries <16|64>'\n  [possible values: 16, 64]";
 
 /// After that of `--format`.

@@ -1,4 +1,4 @@
-//! Of which tasks there may be something to say behind their end.
+//! Of which tasks there may be something to say after their end.
 
 ghost use Rattle.std.specs.Prelude.{◌≡◌};
 ghost use Rattle.program_tasks.specs.Hinted.{may_be_hinted};

@@ -1,4 +1,4 @@
-//! When the program tells hints: what is wrong with an input, behind the line of the trouble.
+//! When the program gives hints: what is wrong with an input, after the line of the trouble.
 
 ghost use Rattle.std.specs.Prelude.{◌≡◌, ◌≢◌, [], ◌∷◌, IfErr, IfOk, IfSome, None, Some, codes};
 ghost use Rattle.program_tasks.specs.declared.hints.Hints.{Hints};
@@ -10,7 +10,7 @@ use crate::arguments::value_in;
 use crate::fault::Fault;
 use crate::given::Values;
 
-/// When hints are told.
+/// When hints are given.
 #[derive(Clone, Copy, PartialEq, Eq)]
 pub enum Hints {
     /// Where standard error is a terminal.
@@ -22,7 +22,7 @@ pub enum Hints {
 }
 
 impl Hints {
-    /// Whether they are told, by whether standard error is a terminal.
+    /// Whether they are given, by whether standard error is a terminal.
     pub fn are_told(self, is_terminal: bool) -> bool
         ensures { result ≡ are_told self is_terminal }
     {
@@ -34,7 +34,7 @@ impl Hints {
     }
 }
 
-/// When hints are told that a word names.
+/// When hints are given, as a word says.
 fn hints_of(word: &str) -> Option<Hints>
     ensures some { IfSome result (λ hints. word.now ≡ hints_word hints) }
     ensures none { result ≡ None → (hints : Hints) → word.now ≢ hints_word hints }

@@ -1,4 +1,4 @@
-//! How a task is done: what stands beside it on a command line.
+//! How a task is done: what goes with it on a command line.
 
 ghost use Rattle.std.specs.Prelude.{◌≡◌};
 ghost use Rattle.program_tasks.specs.Options.{default_options};
@@ -35,7 +35,7 @@ pub enum TableFormat {
 pub enum Answers {
     /// The answers alone.
     Plain,
-    /// The answers, and behind each what decided it or what happened.
+    /// The answers, and after each what decided it or what happened.
     Explained,
     /// The answers, compared with those that the comments of the trace say.
     Compared,
@@ -69,7 +69,7 @@ pub struct Options<'a> {
     pub registers: bool,
     /// What is written of the answers to a trace.
     pub answers: Answers,
-    /// Whether `audit` tells each stretch that differs, or the first alone.
+    /// Whether `audit` reports each stretch that differs, or the first alone.
     pub all: bool,
     /// What a file that is linted should be.
     pub kind: LintKind,
@@ -77,7 +77,7 @@ pub struct Options<'a> {
     pub table: TableFormat,
     /// Whether the text of a map's table is followed by how many entries the map needs without each of its lines.
     pub costs: bool,
-    /// When standard error is told what is wrong with an input.
+    /// When to say on standard error what is wrong with an input.
     pub hints: Hints,
 }
 

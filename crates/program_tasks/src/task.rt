@@ -1,4 +1,4 @@
-//! What the program can be asked to do: each task, the subcommand that it is, and its files. A new task stands here first.
+//! What the program can be asked to do: each task, the subcommand that it is, and its files. A new task is added here first.
 
 ghost use Rattle.std.specs.Prelude.{◌≡◌, ◌≢◌, ◌↔◌, true, IfSome, None};
 ghost use Rattle.program_tasks.specs.declared.task.Subcommand.{Subcommand};
@@ -28,7 +28,7 @@ pub enum Task<'a> {
         /// How many entries the register file has.
         limit: Limit,
     },
-    /// Load a map's entries, or take registers as they stand, and judge the accesses of a trace by them.
+    /// Load a map's entries, or take registers as they are, and judge the accesses of a trace by them.
     Judge {
         /// The map file, or the listing of the registers.
         map: &'a str,
@@ -60,7 +60,7 @@ pub enum Task<'a> {
     Lint {
         /// The file.
         file: &'a str,
-        /// The platform file that tells how many harts a trace is for.
+        /// The platform file that says how many harts a trace is for.
         platform: Option<&'a str>,
     },
     /// Print a map, or what registers mean, as a table of its stretches, each with the entry that decides it.

@@ -54,7 +54,7 @@ pub fn inputs<'a, R: Files, S: Read + Copy>(
     )
 }
 
-/// What reads a second time at that place, where a plain file stands there. A pipe is not there again, and might never come.
+/// What reads a second time at that place, where a plain file is there. A pipe is not there again, and might never come.
 fn input_again<'a, R: Files, S: Read + Copy>(
     files: &'a R,
     stdin: S,

@@ -15,7 +15,7 @@ use crate::options::{Answers, LintKind, Options, TableFormat};
 use crate::request::Request;
 use crate::task::{Subcommand, Task};
 
-/// The word that standard input stands for.
+/// The word that stands for standard input.
 const INPUT: &str = "-";
 
 /// Whether a word stands for standard input.

@@ -257,7 +257,7 @@ pub fn seen(machine: &Machine, hart: u8) -> (World, bool, u8)
     )
 }
 
-/// A number of each reply, made of what it tells.
+/// A number of each reply, made of what it says.
 pub fn number_of_reply(reply: Reply) -> u64 {
     match reply {
         Reply::Done | Reply::NoMemory => 0,

@@ -95,7 +95,7 @@ fn commented(alloc: Global, listing: &Listing) -> Result<Said, Refusal>
 }
 
 /// Reads a listing of registers of that width, and writes the map that they mean, as the lines of a map file; or one line that says why no map
-/// of whole pages is what supervisor and user mode may do under them. After it stands a comment where lines of other registers
+/// of whole pages is what supervisor and user mode may do under them. After it comes a comment where lines of other registers
 /// are passed over. The answer is whether there is a map. Where a line is not understood, there are too many ranges or memory is
 /// refused, nothing is written; where the device failed, or took none of some bytes, a beginning of the text was written.
 pub fn print_map_of<W: Sink>(

@@ -14,7 +14,7 @@ use std::alloc::Global;
 /// Whether registers mean a map, and where they do not.
 #[derive(Clone, Copy)]
 pub enum Verdict {
-    /// They mean it, with so many entries.
+    /// They mean it, with this many entries.
     Means {
         /// How many of them are not OFF.
         count: usize,

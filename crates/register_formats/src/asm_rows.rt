@@ -30,7 +30,7 @@ pub(crate) fn label_of<'a>(name: Option<&'a str>) -> &'a [u8]
     }
 }
 
-/// What stands after it.
+/// What comes after it.
 pub(crate) fn label_end<'a>(name: Option<&str>) -> &'a [u8]
     ensures { result.now ≡ label_end (option_map (λ s. s.now) name.entry) }
 {

@@ -9,7 +9,7 @@ use pmp_encoding::{Limit, PackedEntry, Xlen};
 use printed_lines::{entry_from, push_register, word_from};
 use text_lines::{Line, push_decimal, push_text};
 
-/// What stands before the arrays, with a guard that a compiler for the other width refuses.
+/// What comes before the arrays, with a guard that a compiler for the other width refuses.
 pub(crate) fn begin<'a>(xlen: Xlen) -> &'a [u8]
     ensures { result.now ≡ c_begin xlen }
 {
@@ -63,7 +63,7 @@ pub(crate) fn words_size<'a>(xlen: Xlen, limit: Limit) -> &'a [u8]
     }
 }
 
-/// The end of the arrays, and what stands before the number of entries.
+/// The end of the arrays, and what comes before the number of entries.
 pub(crate) fn count_begin<'a>() -> &'a [u8]
     ensures { result.now ≡ c_count_begin }
 {
@@ -73,7 +73,7 @@ pub(crate) fn count_begin<'a>() -> &'a [u8]
 enum { "
 }
 
-/// What stands between the name of the number of entries and that number.
+/// What comes between the name of the number of entries and that number.
 pub(crate) fn count_is<'a>() -> &'a [u8]
     ensures { result.now ≡ c_count_is }
 {
@@ -126,7 +126,7 @@ pub(crate) fn loader_reason<'a>() -> &'a [u8]
 static inline void "
 }
 
-/// The rest of that function's name, and what stands before the array of address registers.
+/// The rest of that function's name, and what comes before the array of address registers.
 pub(crate) fn load_addresses<'a>(xlen: Xlen) -> &'a [u8]
     ensures { result.now ≡ c_load_addresses xlen }
 {
@@ -136,7 +136,7 @@ pub(crate) fn load_addresses<'a>(xlen: Xlen) -> &'a [u8]
     }
 }
 
-/// What stands before the array of configuration words.
+/// What comes before the array of configuration words.
 pub(crate) fn load_words<'a>(xlen: Xlen) -> &'a [u8]
     ensures { result.now ≡ c_load_words xlen }
 {
@@ -146,7 +146,7 @@ pub(crate) fn load_words<'a>(xlen: Xlen) -> &'a [u8]
     }
 }
 
-/// What stands before the instructions.
+/// What comes before the instructions.
 pub(crate) fn load_begin<'a>() -> &'a [u8]
     ensures { result.now ≡ c_load_begin }
 {

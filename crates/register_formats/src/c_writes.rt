@@ -38,7 +38,7 @@ impl Rows for AddressWrites {
     }
 }
 
-/// What stands before the number of a shared word.
+/// What comes before the number of a shared word.
 fn kept_begin<'a>(xlen: Xlen) -> &'a [u8]
     ensures text { result.now ≡ c_kept_begin xlen }
     ensures most { length result.now ≤ 58 }

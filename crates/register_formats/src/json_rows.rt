@@ -44,7 +44,7 @@ fn width_text<'a>(xlen: Xlen) -> &'a [u8]
     }
 }
 
-/// All three, and what stands before the entries.
+/// All three, and what comes before the entries.
 pub(crate) fn entries_begin(xlen: Xlen, limit: Limit, first: u8) -> Line
     ensures { result ≡ json_entries_begin xlen limit first }
 {
@@ -78,7 +78,7 @@ fn json_byte(byte: u8) -> Line
     line
 }
 
-/// What stands before an item of a list.
+/// What comes before an item of a list.
 fn json_before(i: usize) -> &'static [u8]
     ensures text { result.now ≡ json_before i }
     ensures most { length result.now ≤ 2 }

@@ -59,7 +59,7 @@ fn push_region_or_off(line: &mut Line, entry: Option<Entry>)
     }
 }
 
-/// Appends what stands beside the registers of entry i.
+/// Appends the note beside the registers of entry i.
 pub(crate) fn push_note(line: &mut Line, i: u64, entry: Option<Entry>)
     requires { length line.old + 72 ≤ 128 }
     ensures items { line.new ≡ line.old ++ note_text i entry }
@@ -114,7 +114,7 @@ pub(crate) fn prefix_of<'a>(name: Option<&'a str>) -> &'a [u8]
     }
 }
 
-/// What stands after it in the names of the arrays.
+/// What comes after it in the names of the arrays.
 pub(crate) fn array_link<'a>(name: Option<&str>) -> &'a [u8]
     ensures { result.now ≡ array_link (option_map (λ s. s.now) name.entry) }
 {

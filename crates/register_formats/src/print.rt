@@ -283,7 +283,7 @@ fn print_object<W: Sink>(
     Ok(())
 }
 
-/// How many words are printed: none where the hart has no room for so many entries.
+/// How many words are printed: none where the hart has no room for that many entries.
 fn words_printed(xlen: Xlen, entries: usize, first: u8, limit: Limit) -> usize
     ensures fits { entries ≤ limit_number limit - first → result ≡ word_count xlen limit }
     ensures too_many { limit_number limit - first < entries → result ≡ 0 }

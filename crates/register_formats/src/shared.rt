@@ -17,7 +17,7 @@ pub(crate) fn shared_words(xlen: Xlen, limit: Limit, first: u8) -> usize
     }
 }
 
-/// The bits of the entries below the first in the word that it stands in.
+/// The bits of the entries below the first in the word that it is in.
 pub(crate) fn kept_bits(xlen: Xlen, first: u8) -> u64
     ensures { result ≡ kept_bits xlen first }
 {

@@ -67,7 +67,7 @@ fn space_log2(xlen: Xlen) -> u32
     }
 }
 
-/// How many bytes stand from a first to a last address.
+/// The number of bytes from a first to a last address.
 fn size_of(first: u64, last: u64) -> Option<u64>
     requires { (x : Xlen) × (is_all x first last ≡ false) }
     ensures some { IfSome result (λ size. first + size ≡ last + 1) }

@@ -19,7 +19,7 @@ use text_lines::{
     NotUnderstood, Words, after_text, begins_with, is_text, number, numeral, without_return,
 };
 
-/// The words of a line, and none where a byte outside its comment may not stand there.
+/// The words of a line, and none where a byte outside its comment is not allowed there.
 fn words_in(raw: &[u8]) -> Words<'_>
     ensures { split_words result.rest.now ≡ words_in raw.now }
 {

@@ -98,7 +98,7 @@ fn begins_with_letter(name: &[u8]) -> bool
     }
 }
 
-/// Whether a register is none of the protection by its name: gdb's `pc` and `priv`, or a name that does not begin with `p`.
+/// Whether a register is not one of the protection by its name: gdb's `pc` and `priv`, or a name that does not begin with `p`.
 fn is_foreign(name: &[u8]) -> bool
     ensures { result ≡ is_foreign name.now }
 {
@@ -108,7 +108,7 @@ fn is_foreign(name: &[u8]) -> bool
     begins_with_letter(name) && !begins_with(name, b"p")
 }
 
-/// Whether a register leaves those of the protection their meaning: it is none of them, or `mseccfgh` where it is zero.
+/// Whether a register leaves those of the protection their meaning: it is not one of them, or `mseccfgh` where it is zero.
 fn is_harmless(name: &[u8], value: u64) -> bool
     ensures { result ≡ is_harmless name.now value }
 {
@@ -265,7 +265,7 @@ fn is_width_sign(xlen: Xlen, word: &[u8]) -> bool
     }
 }
 
-/// Whether a word stands between a name and its value: a sign, or the width of the register.
+/// Whether a word can be between a name and its value: a sign, or the width of the register.
 fn is_between(xlen: Xlen, word: &[u8]) -> bool
     ensures { result ≡ is_between xlen word.now }
 {

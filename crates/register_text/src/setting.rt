@@ -71,7 +71,7 @@ fn first_of(passed: Option<u64>, n: u64) -> Option<u64>
     }
 }
 
-/// The bytes with so many of a word put in place, the lowest first.
+/// The bytes with `count` of a word's put in place, the lowest first.
 fn with_word(cfgs: [u8; 64], place: usize, count: usize, value: u64) -> [u8; 64]
     requires { place + count ≤ 64 }
     ensures { result ≡ set_bytes place count value cfgs }

@@ -4,7 +4,7 @@
 /// Encoding): the letters "ENC" after it.
 pub const EXTENSION_ID: u64 = 0x0845_4E43;
 
-/// A call of the monitor, with its arguments. All numbers are the registers' 64-bit words as they stand: the monitor
+/// A call of the monitor, with its arguments. All numbers are the registers' 64-bit words as they are: the monitor
 /// checks them.
 #[derive(Clone, Copy, PartialEq, Eq)]
 pub enum Call {

@@ -5,7 +5,7 @@ ghost use Rattle.text_lines.specs.Counters.{digits_of};
 
 use crate::written::{Line, push_decimal};
 
-/// The digits of a number in decimal. Its last digit stands apart: the others are those of the next number too, where
+/// The digits of a number in decimal. Its last digit is separate: the others are those of the next number too, where
 /// that is no multiple of ten.
 #[derive(Drop)]
 pub struct Counter {
@@ -59,7 +59,7 @@ impl Counter {
         self.renew(n + 1);
     }
 
-    /// Makes the digits those of another number. It stands apart, for one number of a hundred needs it.
+    /// Makes the digits those of another number. It is not inlined, as one number in a hundred needs it.
     #[cold]
     #[inline(never)]
     fn renew(&mut self, n: u64)

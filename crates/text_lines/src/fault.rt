@@ -1,4 +1,4 @@
-//! Why no more lines can be had, and why a run over lines ended early.
+//! Why no more lines can be read, and why a run over lines ended early.
 
 ghost use Rattle.text_lines.specs.Faults.{run_fault, run_fault_number};
 

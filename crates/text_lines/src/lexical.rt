@@ -16,7 +16,7 @@ use thiserror::Error;
 #[error("not understood")]
 pub struct NotUnderstood;
 
-/// Whether a byte may stand outside a comment and begins none.
+/// Whether a byte may occur outside a comment and begins none.
 fn is_plain(byte: u8) -> bool
     ensures { result ≡ is_plain byte }
 {
@@ -34,7 +34,7 @@ fn all_allowed(text: &[u8]) -> bool
     all
 }
 
-/// Whether a text has no comment, and each byte may stand in it.
+/// Whether a text has no comment, and each byte may occur in it.
 fn all_plain(text: &[u8]) -> bool
     ensures { result ≡ list_all is_plain text.now }
 {
@@ -79,7 +79,7 @@ pub fn word_len(text: &[u8]) -> usize
     text.len()
 }
 
-/// The value of each byte as a digit in bases up to 16, and 16 for one that is none. Tests of ranges would be guessed wrong at
+/// The value of each byte as a digit in bases up to 16, and 16 for a non-digit. Tests of ranges would be guessed wrong at
 /// every other hexadecimal digit.
 static DIGITS: [u8; 256] = [
     16, 16, 16, 16, 16, 16, 16, 16, 16, 16, 16, 16, 16, 16, 16, 16, 16, 16, 16, 16, 16, 16, 16, 16,
@@ -95,7 +95,7 @@ static DIGITS: [u8; 256] = [
     16, 16, 16, 16, 16, 16, 16, 16, 16, 16, 16, 16, 16, 16,
 ];
 
-/// The value of a digit in bases up to 16, and 16 for a byte that is none.
+/// The value of a digit in bases up to 16, and 16 for a byte that is not one.
 fn digit(byte: u8) -> u8
     ensures value { result ≡ digit_of byte }
     ensures most { result ≤ 16 }
@@ -129,7 +129,7 @@ fn leading_sixteen(text: &[u8], base: u8) -> Option<(u64, usize)>
     Some((value_of_all(text) >> (64 - 4 * len), len))
 }
 
-/// The value of a decimal digit, and 10 or more for a byte that is none. The table of all digits takes two instructions more.
+/// The value of a decimal digit, and 10 or more for a byte that is not one. The table of all digits takes two instructions more.
 #[inline(always)]
 fn decimal(byte: u8) -> u64
     ensures digit { result < 10 → result ≡ digit_of byte }
@@ -138,7 +138,7 @@ fn decimal(byte: u8) -> u64
     u64::from(byte).wrapping_sub(u64::from(b'0'))
 }
 
-/// So many decimal digits have a value below 2^64.
+/// This many decimal digits have a value below 2^64.
 const DECIMALS: usize = 19;
 
 /// The value of the decimal digits that a text begins with, and how many they are: one to eighteen. None where there are others, and
@@ -169,7 +169,7 @@ fn leading_decimals(text: &[u8], base: u8) -> Option<(u64, usize)>
     Some((value, len))
 }
 
-/// The value of the digits that a text begins with, of a base from 2 to 16, and what stands after them. None where there are
+/// The value of the digits that a text begins with, of a base from 2 to 16, and what comes after them. None where there are
 /// none, or their value is 2^64 or more.
 #[inline(always)]
 pub fn leading_numeral(text: &[u8], base: u8) -> Option<(u64, &[u8])>
@@ -239,7 +239,7 @@ fn sixteen_digits(text: &[u8]) -> (u64, usize)
     }
 }
 
-/// The value of the hexadecimal digits that a text begins with, and what stands after them. None says nothing of the text. It takes
+/// The value of the hexadecimal digits that a text begins with, and what comes after them. None says nothing of the text. It takes
 /// fewer steps than [`leading_numeral`], which has more to say.
 #[inline(always)]
 pub fn leading_hexadecimal(text: &[u8]) -> Option<(u64, &[u8])>
@@ -256,7 +256,7 @@ pub fn leading_hexadecimal(text: &[u8]) -> Option<(u64, &[u8])>
     Some((value, &text[len..]))
 }
 
-/// What stands after `0x`.
+/// What comes after `0x`.
 #[inline(always)]
 pub fn behind_mark(text: &[u8]) -> Option<&[u8]>
     ensures { IfSome result (λ digits. text.now ≡ 48 ∷ 120 ∷ digits.now) }
@@ -267,7 +267,7 @@ pub fn behind_mark(text: &[u8]) -> Option<&[u8]>
     }
 }
 
-/// What stands after a space.
+/// What comes after a space.
 #[inline(always)]
 pub fn behind_space(text: &[u8]) -> Option<&[u8]>
     ensures { IfSome result (λ behind. text.now ≡ 32 ∷ behind.now) }
@@ -309,7 +309,7 @@ pub struct Words<'a> {
 }
 
 impl<'a> Words<'a> {
-    /// The words of a line, unless a byte outside its comment may not stand there.
+    /// The words of a line, unless a byte outside its comment is not allowed there.
     pub fn of(line: &'a [u8]) -> Result<Words<'a>, NotUnderstood>
         ensures { option_map (λ words. split_words words.rest.now) (result_ok result)
             ≡ words_of line.now }

@@ -33,7 +33,7 @@ pub enum Refusal {
 
 /// What understands lines and does what they say.
 pub trait Interpreter {
-    /// What a line does after so many answers, from one state to the next, with the text of its answer where it has one.
+    /// What a line does after n answers, from one state to the next, with the text of its answer where it has one.
     ghost does: { Self → ℕ → List ℕ → Option (List ℕ) → Self → Type 0 };
 
     /// A line that is not understood.
@@ -46,7 +46,7 @@ pub trait Interpreter {
     ghost keeps: { Self → Type 0 };
 
     /// Does what a line says, which comes without its LF and its CR. Says whether there is an answer, the one after `count` others, and
-    /// writes what stands behind its number.
+    /// writes what comes after its number.
     fn interpret(&mut self, line: &[u8], count: u64, answer: &mut Line) -> Result<bool, Refusal>
         requires count { count < 2 ^ 64 - 1 }
         requires empty { answer.old ≡ [] }

@@ -56,7 +56,7 @@ fn read_end<R: Source>(source: &mut R) -> Result<(), ReadFault>
 }
 
 /// Hands out the lines of a source one by one. It has room for `SIZE` bytes that have come, at least a line of [`LONGEST`] and its
-/// LF, and reads so many at once where they are there.
+/// LF, and reads that many at once where they are there.
 #[derive(Drop)]
 pub struct LineReader<const SIZE: usize> {
     buffer: Buffer<SIZE>,

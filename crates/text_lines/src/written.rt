@@ -107,7 +107,7 @@ impl Line {
         self.len += len;
     }
 
-    /// Writes a number, and the line behind it.
+    /// Writes a number, and the line after it.
     #[inline(always)]
     pub fn write_behind<W: Sink>(&self, number: &Counter, sink: &mut W) -> Result<(), DeviceFault>
         requires { number.now.len ≤ 20 }

@@ -33,7 +33,7 @@ fn is(event: &Event, said: Said<'_>) -> bool {
     }
 }
 
-/// Whether a line says that, with so many harts; none where it is not understood.
+/// Whether a line says that, with that many harts; none where it is not understood.
 fn says(line: &[u8], harts: u8, said: Option<Said<'_>>) -> bool {
     match (parse_line(line, harts), said) {
         (Ok(Some((hart, event))), Some(said)) => hart == 0 && is(&event, said),
@@ -82,7 +82,7 @@ const ROWS: &[Row<'static>] = &[
     (b"@: irq", 200, None),
 ];
 
-/// Each line, with so many harts, says what stands beside it.
+/// Each line, with its number of harts, says what is beside it.
 fn all_say(rt: &impl Abort, rows: &[Row<'_>]) {
     for (line, harts, said) in rows {
         assert!(rt; says(*line, *harts, *said), "{line:?}");

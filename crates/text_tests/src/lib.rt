@@ -1,8 +1,8 @@
 //! Worked rows of the texts that the program reads and prints, as tests alone: streams, lines, events and judged traces,
-//! registers judged, audited and printed, listings, platforms, and what is said of files. What a command shows in full stands in
+//! registers judged, audited and printed, listings, platforms, and what is said of files. What a command shows in full is in
 //! `tests/transcripts`.
 //!
-//! They stand apart from the crates that they are of so that the gate proves each of these once.
+//! They are kept apart from the crates that they test so that the gate proves each of these once.
 #![tactic(auto)]
 
 #[cfg(test)]

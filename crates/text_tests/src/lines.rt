@@ -77,7 +77,7 @@ fn one_carriage_return_at_the_end_of_a_line_is_dropped(rt: HostRuntime) {
     );
 }
 
-/// How many lines come before the reader's answer that there is none, or its fault.
+/// How many lines come before the reader's answer that there is no more, or its fault.
 fn ends(source: &mut PieceSource<'_>) -> (u64, Result<bool, ReadFault>)
     requires { source.old.failures ≡ 0 }
 {
@@ -91,7 +91,7 @@ fn ends(source: &mut PieceSource<'_>) -> (u64, Result<bool, ReadFault>)
     (reader.number(), Ok(true))
 }
 
-/// The reader ends behind so many lines with that answer, in pieces of a byte, of 1000, and of 4096.
+/// The reader ends after that many lines with that answer, in pieces of a byte, of 1000, and of 4096.
 fn ends_so(rt: &impl Abort, input: &[u8], lines: u64, answer: Result<bool, ReadFault>) {
     for piece in [1, 1000, 4096] {
         let mut source = PieceSource::new(input, piece, None);
@@ -111,7 +111,7 @@ fn a_line_has_at_most_1023_bytes(rt: HostRuntime) {
     ends_so(&rt, &input[..1024], 0, Err(ReadFault::LongLine(1)));
 }
 
-/// Where that read fails, the reader ends behind so many lines with that answer, after so many reads.
+/// Where that read fails, the reader ends with that answer, after that many lines and that many reads.
 fn ends_at(
     rt: &impl Abort,
     input: &[u8],
@@ -167,7 +167,7 @@ fn lines_that_have_come_are_handed_out_before_a_further_read(rt: HostRuntime) {
     assert!(rt; source.rest().len() == 1);
 }
 
-/// The read of that number, of one byte, fails, and is told behind fewer lines than it has.
+/// The one-byte read of that number fails, and is reported after fewer lines than that.
 fn is_told(rt: &impl Abort, failing: u64) {
     let mut source = PieceSource::new(b"a\n\nbc\n", 1, Some(failing));
     let (lines, end) = ends(&mut source);

@@ -5,7 +5,7 @@ use pmp_encoding::Limit;
 use std::alloc::Global;
 use std::process::Abort;
 
-/// That the text is a platform of so many harts and of that limit.
+/// That the text is a platform of that many harts and of that limit.
 fn expect_platform(rt: &impl Abort, alloc: Global, text: &str, harts: u8, limit: Limit) {
     let platform = platform_of(alloc, text).expect(rt, "a platform");
     assert!(rt; platform.harts() == harts);

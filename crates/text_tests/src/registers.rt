@@ -1,4 +1,4 @@
-//! Accesses that are judged by registers as they stand.
+//! Accesses that are judged by registers as they are.
 
 use byte_streams::fakes::{PieceSink, PieceSource};
 use hart_trace::judge_lines;

@@ -73,7 +73,7 @@ impl Write for PieceWriter {
     }
 }
 
-/// A writer that takes so many bytes a write, the write that fails, and what it has of two answers at the end: the first was handed
+/// How many bytes a writer takes per write, the write that fails, and what it has of two answers at the end: the first was handed
 /// on before the second was held.
 type Held<'a> = (usize, Option<u64>, &'a [u8]);
 

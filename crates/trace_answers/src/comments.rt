@@ -14,7 +14,7 @@ fn is_digit(byte: u8) -> bool
     byte >= b'0' && byte <= b'9'
 }
 
-/// Whether a byte may stand in a word of an answer.
+/// Whether a byte may occur in a word of an answer.
 fn is_spoken(byte: u8) -> bool
     ensures { result ≡ is_spoken byte }
 {
@@ -58,7 +58,7 @@ fn is_numbered(word: &[u8]) -> bool
     }
 }
 
-/// Whether a word is the first of an answer, behind its number.
+/// Whether a word is the first of an answer, after its number.
 fn is_kind(word: &[u8]) -> bool
     ensures { result ≡ is_kind (spoken word.now) }
 {
@@ -109,7 +109,7 @@ pub(crate) fn comment_of(line: &[u8]) -> &[u8]
     &line[len_before(b'#', line)..]
 }
 
-/// What stands behind the `#`.
+/// What comes after the `#`.
 fn remark_of(line: &[u8]) -> &[u8]
     ensures { result.now ≡ remark_of line.now }
 {

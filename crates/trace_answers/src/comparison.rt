@@ -17,7 +17,7 @@ struct Comparing<I> {
     first: Option<Difference>,
 }
 
-/// Notes the first difference, with one more line: what stands behind the number of its answer, after `count` others.
+/// Notes the first difference, with one more line: what follows the number of its answer, after `count` others.
 fn note(
     first: &mut Option<Difference>,
     number: u64,

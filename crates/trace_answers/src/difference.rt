@@ -28,7 +28,7 @@ fn shown_comment(line: &[u8]) -> &[u8]
     &comment[..allowed_len(comment).min(SHOWN)]
 }
 
-/// A whole answer: its number, and what stands behind that.
+/// A whole answer: its number, and what comes after that.
 pub(crate) fn numbered(number: u64, behind: &Line) -> ArrayVec<u8, ROOM>
     ensures { result.items ≡ decimal number ++ behind.now }
 {

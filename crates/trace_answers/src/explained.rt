@@ -1,4 +1,4 @@
-//! An answer with a comment behind it.
+//! An answer with a comment after it.
 
 ghost use Rattle.std.specs.Prelude.{◌≡◌, ◌≤◌, ◌++◌, codes, decimal, length, take};
 ghost use Rattle.trace_answers.specs.Explained.{explained};
@@ -8,7 +8,7 @@ use arrayvec::ArrayVec;
 use lint_texts::{append, unended};
 use text_lines::{Line, push_decimal, push_text};
 
-/// How many bytes of a line stand before its LF at most.
+/// How many bytes of a line come before its LF at most.
 const ROOM: usize = 127;
 
 /// An answer and its comment, as long as they are.
@@ -46,7 +46,7 @@ fn digits_in(number: u64) -> usize
     digits.len()
 }
 
-/// Puts a comment behind an answer, of which what stands behind its number is in the line. With the number a line has 128 bytes at
+/// Puts a comment after an answer, of which the line holds what follows its number. With the number a line has 128 bytes at
 /// most: what of the comment has no room there is left out.
 pub fn explain(answer: &mut Line, number: u64, comment: &Comment)
     ensures { decimal number ++ answer.new

@@ -1,4 +1,4 @@
-//! The accesses of a trace, judged line by line, each answer with what decided it behind it.
+//! The accesses of a trace, judged line by line, each answer followed by what decided it.
 
 ghost use Rattle.std.specs.Prelude.{◌≡◌, ℕ, ◌-◌, ◌^◌, Err, IfOk, Some, [], IfSome};
 ghost use Rattle.std.specs.Result.{result_ok};
@@ -80,7 +80,7 @@ impl<J: AccessJudge, D: Deciders> Interpreter for ExplainingJudge<'_, J, D> {
     }
 }
 
-/// Judges the accesses of a trace as `judge_lines` does, and says behind each answer which entry decided it.
+/// Judges the accesses of a trace as `judge_lines` does, and says after each answer which entry decided it.
 pub fn explain_judged<J: AccessJudge, D: Deciders, R: Source, W: Sink>(
     by: &J,
     deciders: &D,

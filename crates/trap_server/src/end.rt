@@ -32,7 +32,7 @@ impl EndReason {
         }
     }
 
-    /// What stands beside it: the number of the fault, or of entries.
+    /// What goes with it: the number of the fault, or of entries.
     fn detail(self) -> u64
         ensures { result ≡ detail_of self }
     {

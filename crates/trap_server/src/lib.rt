@@ -1,6 +1,6 @@
 //! The loop that serves the traps of a hart.
 //!
-//! It stands between two devices. What comes from the first are frames: the platform, then the traps of its harts one after
+//! It works between two devices. What comes from the first are frames: the platform, then the traps of its harts one after
 //! another. What goes to the second is, for each trap, with what the hart goes on: its registers, the answer, the world, the
 //! PMP registers and control registers to load, the pages to make zero, and which other harts are to load the same entries.
 //! `docs/FORMATS.md` has the layouts, under "Frames".
@@ -38,7 +38,7 @@
 //! ([`read_trap`]), and the pages that are asked for ([`digest_of`]). Written are answers ([`put_answer`]), questions for
 //! pages, and why the end has come ([`end_frame`]).
 //!
-//! For the layer above: what is read is consumed whole, and what is no frame is told from a device that failed. Nothing here
+//! For the layer above: what is read is consumed whole, and what is not a frame is distinct from a failed device. Nothing here
 //! takes memory.
 #![tactic(auto)]
 

@@ -15,7 +15,7 @@ use measurement::{Create, Measure};
 /// The bytes of the frame of a page: its tag, its number, and its own bytes.
 const PAGE_BYTES: usize = 4112;
 
-/// The question for so many pages from one on.
+/// The question for `count` pages from one on.
 fn question(first: u64, count: u64) -> ShortBytes
     ensures { result ≡ question_bytes first count }
 {

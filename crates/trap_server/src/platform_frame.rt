@@ -71,7 +71,7 @@ fn devices_in(bytes: &[u8; 1336], count: usize) -> Option<ArrayVec<(u64, u64, Pe
     Some(devices)
 }
 
-/// The same platform with so many harts.
+/// The same platform with this many harts.
 fn with_harts(platform: Platform, harts: u64) -> Result<Platform, PlatformFault>
     ensures value { IfOk result (λ p. (0 < harts) × (harts ≤ 4)
         × (p ≡ record platform { harts = harts })) }
@@ -84,7 +84,7 @@ fn with_harts(platform: Platform, harts: u64) -> Result<Platform, PlatformFault>
     platform.with_harts(harts as u8)
 }
 
-/// The same platform with so many entries.
+/// The same platform with this many entries.
 fn with_entries(platform: Platform, entries: u64) -> Result<Platform, PlatformFault>
     ensures limit { IfOk result (λ p. limit_number p.limit ≡ entries) }
     ensures others { IfOk result (λ p. p ≡ record platform { limit = p.limit }) }

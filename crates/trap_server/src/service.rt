@@ -14,7 +14,7 @@ use byte_streams::{Sink, Source, write_whole};
 use monitor_core::{Answer, Monitor, TakenDigest};
 use pmp_encoding::PageRange;
 
-/// What stands for the answer where there was no call.
+/// What serves as the answer where there was no call.
 pub(crate) const NOTHING: Answer = Answer {
     status: 0,
     value: 0,

@@ -87,7 +87,7 @@ fn event_in(tag: u64) -> Option<TrapEvent>
     }
 }
 
-/// The trap that a frame is of, on one of so many harts.
+/// The trap that a frame is of, on one of this many harts.
 fn trap_in(bytes: &[u8; 352], harts: u8) -> Option<Trap>
     ensures trap { IfSome result (λ trap. IsTrapFrame bytes.now harts trap) }
     ensures none { IfNone result ((trap : TrapOf) → IsTrapFrame bytes.now harts trap → ⊥) }
@@ -111,7 +111,7 @@ fn trap_in(bytes: &[u8; 352], harts: u8) -> Option<Trap>
     })
 }
 
-/// Reads the next trap, on one of so many harts; none at the end of the input.
+/// Reads the next trap, on one of this many harts; none at the end of the input.
 #[inline(never)]
 pub fn read_trap<R: Source>(source: &mut R, harts: u8) -> Result<Option<Trap>, FrameFault>
     ensures trap { ReadsTrap result harts (R.remaining source.old) (R.remaining source.new) }

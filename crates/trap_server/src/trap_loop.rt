@@ -94,7 +94,7 @@ fn others(harts: u8) -> [bool; 4]
 ///
 /// It ends early where a frame is not understood, which is no frame of its place or one within which the input ends; where the
 /// first frame is of no platform, or the host's view on it needs more entries than there are; where memory is refused at boot;
-/// where a read or a write fails; and after 2^64 - 1 traps. Behind the last answer there is then a question for pages, where they
+/// where a read or a write fails; and after 2^64 - 1 traps. After the last answer there is then a question for pages, where they
 /// were asked for, and the last frame, or a part of what was to come.
 pub fn serve_traps<R: Source, W: Sink>(
     alloc: Global,

@@ -18,7 +18,7 @@ const HOSTS_EXCEPTIONS: u64 = 0xf0_b5ff;
 /// The bits of `mstatus` by which machine mode returns to supervisor mode (MPP).
 const SUPERVISOR_MODE: u64 = 0x800;
 
-/// What stands in the control registers of a hart while a world runs there (Privileged Architecture, *Machine-Level ISA* and
+/// What is in the control registers of a hart while a world runs there (Privileged Architecture, *Machine-Level ISA* and
 /// *Supervisor-Level ISA*). A register that the hart has not is zero.
 #[derive(Clone, Copy)]
 pub struct ControlWords {

@@ -1,4 +1,4 @@
-//! When hints are told.
+//! When hints are given.
 
 use command_line::{Hints, request_of_words};
 use std::test::Fail;

@@ -11,7 +11,7 @@ use program_files::WholeSink;
 use std::alloc::Global;
 use std::process::Abort;
 
-/// A place, and a sink whose k-th call fails, the one that puts its bytes there among them. Nothing stands in the place until
+/// A place, and a sink whose k-th call fails, the one that puts its bytes there among them. Nothing is in the place until
 /// then.
 #[derive(Drop)]
 struct PlacedSink {
@@ -82,7 +82,7 @@ pub struct Failing {
 }
 
 impl Failing {
-    /// Inputs of so many bytes at a time, where no call fails.
+    /// Inputs of this many bytes at a time, where no call fails.
     pub fn none(piece: usize) -> Failing {
         Failing {
             piece,

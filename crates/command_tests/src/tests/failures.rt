@@ -170,7 +170,7 @@ fn is_left(rt: &impl Abort, tried: &Tried, left: Left<'_>) {
     assert!(rt; tried.second_reads == 0);
 }
 
-/// Each command line leaves this behind of a first input, where a call of a device fails.
+/// Each command line leaves this behind for a first input, where a call of a device fails.
 fn each_leaves(rt: &impl Abort, alloc: Global, rows: &[(&[&str], &[u8], Failing, Left<'_>)]) {
     for (words, first, failing, left) in rows {
         let tried = try_on(rt, alloc, words, first, b"", *failing);

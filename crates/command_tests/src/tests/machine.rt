@@ -107,7 +107,7 @@ fn are_the_words(rt: &impl Abort, plain: &[u8], line: &[u8]) {
     }
 }
 
-/// Behind the answers of a run stands one line of its measurement, and it is the one that the calls answered.
+/// After the answers of a run comes one line of its measurement, and it is the one that the calls answered.
 fn is_measured(rt: &impl Abort, plain: &[u8], measured: &[u8]) {
     let line = measured.get(plain.len()..).unwrap_or(&[]);
     are_the_words(rt, plain, line);

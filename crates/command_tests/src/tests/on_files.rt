@@ -1,4 +1,4 @@
-//! Requests on their files and streams, with what is said behind their ends.
+//! Requests on their files and streams, with what is said after their ends.
 
 use byte_streams::Counted;
 use command_line::request_of_words;

@@ -100,7 +100,7 @@ pub fn denies(
     ends(rt, alloc, words, (first, second), 1, out.as_bytes(), b"")
 }
 
-/// The second input is bad: this is said after the answers to what stands before.
+/// The second input is bad: this is said after the answers to what comes before.
 pub fn stops(
     rt: &impl Abort,
     alloc: Global,
@@ -144,17 +144,17 @@ pub fn all_deny(rt: &impl Abort, alloc: Global, rows: &[Row<'_>]) {
     }
 }
 
-/// The second input of each is bad: the last text is said, behind the answers before it.
+/// The second input of each is bad: the last text is said, after the answers before it.
 pub fn all_stop(rt: &impl Abort, alloc: Global, rows: &[(Row<'_>, &str)]) {
     for ((words, first, second, out), said) in rows {
         stops(rt, alloc, words, first, second, out, said);
     }
 }
 
-/// A status, and what stands at the beginning of a text, somewhere within it, and at its end.
+/// A status, and what is at the beginning of a text, somewhere within it, and at its end.
 pub type Parts<'a> = (u8, &'a [u8], &'a [u8], &'a [u8]);
 
-/// Whether a text stands in another.
+/// Whether a text occurs in another.
 fn contains(text: &[u8], part: &[u8]) -> bool {
     text.windows(part.len().max(1)).any(|window| window == part)
 }

@@ -1,4 +1,4 @@
-//! `judge`: the accesses of a trace, by the entries of a map, or by registers as they stand.
+//! `judge`: the accesses of a trace, by the entries of a map, or by registers as they are.
 
 ghost use Rattle.std.specs.Prelude.{◌-◌, ◌^◌, ◌<◌};
 ghost use Rattle.byte_streams.specs.Writings.{writing};
@@ -38,7 +38,7 @@ fn judge_plainly<'a, J: AccessJudge, R: Source, W: Sink>(
     }
 }
 
-/// Judges a trace, and says behind each answer which entry decided it.
+/// Judges a trace, and says after each answer which entry decided it.
 #[inline(never)]
 fn judge_explaining<'a, J: AccessJudge, D: Deciders, R: Source, W: Sink>(
     by: &J,
@@ -126,7 +126,7 @@ fn do_judge<'a, R: Source, W: Sink>(
     judge_by(&segments, &bank, answers, trace, second, out)
 }
 
-/// Takes registers as they stand and judges a trace by them. The status is 1 where they judge nothing.
+/// Takes registers as they are and judges a trace by them. The status is 1 where they judge nothing.
 #[inline(never)]
 fn do_judge_registers<'a, R: Source, W: Sink>(
     alloc: Global,
@@ -158,7 +158,7 @@ fn do_judge_registers<'a, R: Source, W: Sink>(
     }
 }
 
-/// Judges a trace by the entries of a map, or by registers as they stand, and writes of the answers what is asked for.
+/// Judges a trace by the entries of a map, or by registers as they are, and writes of the answers what is asked for.
 pub fn do_judge_as<'a, R: Source, W: Sink>(
     alloc: Global,
     registers: bool,
