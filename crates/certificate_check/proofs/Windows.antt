@@ -24,7 +24,7 @@ use Rattle.certificate_check.proofs.Entered.{listed_long}
 use Rattle.certificate_check.specs.declared.window.Inflow.{Inflow}
 use Rattle.certificate_check.specs.declared.window.Inflow.TheVariants.{Open, AtEnd, TooLarge, Failed}
 use Rattle.certificate_check.specs.Refusals.{refusal_of}
-use Rattle.certificate_check.specs.Windows.{counted, fault_of, found_of, stopped_by, StandsIn, AreLeft, HasEnough, IsSound, IsSoundAs, Place, Reads, Stays}
+use Rattle.certificate_check.specs.Windows.{counted, fault_of, found_of, stopped_by, StandsIn, AreLeft, HasEnough, IsSound, IsSoundAs, WindowState, Reads, Stays}
 
 -- ---- places one after the other
 
@@ -34,11 +34,11 @@ open_or AtEnd = inr (λ e. cc)
 open_or TooLarge = inr (λ e. cc)
 open_or Failed = inr (λ e. cc)
 
-pub reads_none : (at : Place) → Reads at at Stays
+pub reads_none : (at : WindowState) → Reads at at Stays
 reads_none at = record { most = refl; sound = λ n h. h; left = λ after total rest are. (rest, are, refl) }
 
 pub reads_then :
-    (a b c : Place) (P Q R : List ℕ → List ℕ → Type 0) → Reads a b P → Reads b c Q → ((left mid rest : List ℕ) → P left mid → Q mid rest → R left rest)
+    (a b c : WindowState) (P Q R : List ℕ → List ℕ → Type 0) → Reads a b P → Reads b c Q → ((left mid rest : List ℕ) → P left mid → Q mid rest → R left rest)
     → Reads a c R
 reads_then a b c P Q R first second both = record {
   most = second.most ∙ first.most;
@@ -49,23 +49,23 @@ reads_then a b c P Q R first second both = record {
       (old.0, old.1, both old.0 mid.0 rest old.2 mid.2);
 }
 
-pub reads_as : (a b : Place) (P Q : List ℕ → List ℕ → Type 0) → Reads a b P → ((left rest : List ℕ) → P left rest → Q left rest) → Reads a b Q
+pub reads_as : (a b : WindowState) (P Q : List ℕ → List ℕ → Type 0) → Reads a b P → ((left rest : List ℕ) → P left rest → Q left rest) → Reads a b Q
 reads_as a b P Q read is = record {
   most = read.most;
   sound = read.sound;
   left = λ after total rest are. let old = read.left after total rest are in (old.0, old.1, is old.0 rest old.2);
 }
 
-pub stays_on : (a b c : Place) → Reads a b Stays → Reads b c Stays → Reads a c Stays
+pub stays_on : (a b c : WindowState) → Reads a b Stays → Reads b c Stays → Reads a c Stays
 stays_on a b c first second = reads_then a b c Stays Stays Stays first second (λ left mid rest p q. p ∙ q)
 
 -- what is left where no more is to come than the window holds
-pub all_here : (at : Place) → AreLeft at.remaining (counted at.window.came 0) at at.window.buffer
+pub all_here : (at : WindowState) → AreLeft at.remaining (counted at.window.came 0) at at.window.buffer
 all_here at = record { later = []; held = sym (append-nil at.window.buffer); consumed = Consumes-nil at.remaining; counted = refl; closed = λ e. refl }
 
 -- a window that was open and counts what came is sound: it is still open, or too much came
 pub counts_soundly :
-    (old new : Place) → old.window.inflow ≡ Open → new.failures ≡ old.failures → (new.window.inflow ≡ Open → new.window.came ≤ new.window.most)
+    (old new : WindowState) → old.window.inflow ≡ Open → new.failures ≡ old.failures → (new.window.inflow ≡ Open → new.window.came ≤ new.window.most)
     → (new.window.inflow ≢ Open → (new.window.inflow ≡ TooLarge) × (new.window.most < new.window.came)) → new.window.came < 2 ^ 64 → (failures : ℕ)
     → IsSound failures old → IsSound failures new
 counts_soundly old new was_open same few many fits failures is =
@@ -75,7 +75,7 @@ counts_soundly old new was_open same few many fits failures is =
 
 -- bytes that came to a window which was open stand behind those that it held, and what is left is the same
 pub came_behind :
-    (old new : Place) (bytes : List ℕ) → old.window.inflow ≡ Open → new.window.buffer ≡ old.window.buffer ++ bytes → Consumes old.remaining new.remaining bytes
+    (old new : WindowState) (bytes : List ℕ) → old.window.inflow ≡ Open → new.window.buffer ≡ old.window.buffer ++ bytes → Consumes old.remaining new.remaining bytes
     → new.window.came ≡ counted old.window.came (length bytes)
     → new.window.most ≡ old.window.most → ((failures : ℕ) → IsSound failures old → IsSound failures new) → Reads old new Stays
 came_behind old new bytes was_open held came counts most sound = record {
@@ -96,11 +96,11 @@ came_behind old new bytes was_open held came counts most sound = record {
 
 -- ---- parts that are read
 
-sound_as : (i j : Inflow) (n : ℕ) (at : Place) → i ≡ j → IsSoundAs j n at → IsSoundAs i n at
+sound_as : (i j : Inflow) (n : ℕ) (at : WindowState) → i ≡ j → IsSoundAs j n at → IsSoundAs i n at
 sound_as i j n at e h = subst (λ (x : Inflow). IsSoundAs x n at) (sym e) h
 
 -- what is behind the first bytes of a window
-pub record IsPassed (mid new : Place) (rest : List ℕ) : Type 0 where
+pub record IsPassed (mid new : WindowState) (rest : List ℕ) : Type 0 where
   pub buffer : new.window.buffer ≡ rest
   pub came : new.window.came ≡ mid.window.came
   pub most : new.window.most ≡ mid.window.most
@@ -108,7 +108,7 @@ pub record IsPassed (mid new : Place) (rest : List ℕ) : Type 0 where
   pub remaining : new.remaining ≡ mid.remaining
   pub failures : new.failures ≡ mid.failures
 
-sound_passed : (i j : Inflow) (n : ℕ) (mid new : Place) (rest : List ℕ) → i ≡ j → IsPassed mid new rest → IsSoundAs i n mid → IsSoundAs j n new
+sound_passed : (i j : Inflow) (n : ℕ) (mid new : WindowState) (rest : List ℕ) → i ≡ j → IsPassed mid new rest → IsSoundAs i n mid → IsSoundAs j n new
 sound_passed Open j n mid new rest e p h = subst (λ (x : Inflow). IsSoundAs x n new) e (p.failures ∙ h.0, (let a = h.1 in omega (arith, a, p.came, p.most)))
 sound_passed AtEnd j n mid new rest e p h =
     subst (λ (x : Inflow). IsSoundAs x n new) e (p.failures ∙ h.0, (let a = h.1 in omega (arith, a, p.came, p.most)), subst IsAtEnd (sym p.remaining) h.2)
@@ -116,7 +116,7 @@ sound_passed TooLarge j n mid new rest e p h =
     subst (λ (x : Inflow). IsSoundAs x n new) e (p.failures ∙ h.0, (let a = h.1 in omega (arith, a, p.came, p.most)), (let a = h.2 in omega (arith, a, p.came)))
 sound_passed Failed j n mid new rest e p h = subst (λ (x : Inflow). IsSoundAs x n new) e (p.failures ∙ h)
 
-pub passed : (mid new : Place) (front rest : List ℕ) → mid.window.buffer ≡ front ++ rest → IsPassed mid new rest
+pub passed : (mid new : WindowState) (front rest : List ℕ) → mid.window.buffer ≡ front ++ rest → IsPassed mid new rest
     → Reads mid new (λ left later. left ≡ front ++ later)
 passed mid new front behind held p = record {
   most = p.most;
@@ -137,7 +137,7 @@ passed mid new front behind held p = record {
 
 -- a part that stands at the front of what is there
 pub part_read :
-    (old mid new : Place) (front rest : List ℕ) (P : List ℕ → List ℕ → Type 0) → Reads old mid Stays → mid.window.buffer ≡ front ++ rest → IsPassed mid new rest
+    (old mid new : WindowState) (front rest : List ℕ) (P : List ℕ → List ℕ → Type 0) → Reads old mid Stays → mid.window.buffer ≡ front ++ rest → IsPassed mid new rest
     → ((later : List ℕ) → P (front ++ later) later) → Reads old new P
 part_read old mid new front rest P held split p is =
     reads_then old mid new Stays (λ left later. left ≡ front ++ later) P held (passed mid new front rest split p)
@@ -145,7 +145,7 @@ part_read old mid new front rest P held split p is =
 
 -- a part that is at fault: where enough is there, whatever comes later, and otherwise nothing comes
 pub part_refused :
-    (old mid : Place) (need : ℕ) (P : List ℕ → List ℕ → Type 0) → Reads old mid Stays → HasEnough need mid
+    (old mid : WindowState) (need : ℕ) (P : List ℕ → List ℕ → Type 0) → Reads old mid Stays → HasEnough need mid
     → ((later : List ℕ) → (need ≤ length mid.window.buffer) ⊎ (later ≡ []) → P (mid.window.buffer ++ later) (mid.window.buffer ++ later)) → Reads old mid P
 part_refused old mid need P held enough is = record {
   most = held.most;
@@ -187,7 +187,7 @@ ok_from (Err e) P F f = tt
 
 -- three parts one after the other
 pub reads_thrice :
-    (a b c d : Place) (P Q R S : List ℕ → List ℕ → Type 0) → Reads a b P → Reads b c Q → Reads c d R
+    (a b c d : WindowState) (P Q R S : List ℕ → List ℕ → Type 0) → Reads a b P → Reads b c Q → Reads c d R
     → ((left one two rest : List ℕ) → P left one → Q one two → R two rest → S left rest) → Reads a d S
 reads_thrice a b c d P Q R S first second third all = record {
   most = third.most ∙ second.most ∙ first.most;
@@ -206,7 +206,7 @@ unfolding one_failure_more
 never_none e = omega (arith, e)
 
 -- what is left of a slice
-slice_closed : (i : Inflow) (at : Place) (rest : List ℕ) → at.remaining ≡ Some rest → at.window.most ≡ 2 ^ 64 - 1 → at.failures ≡ 0 → i ≢ Open
+slice_closed : (i : Inflow) (at : WindowState) (rest : List ℕ) → at.remaining ≡ Some rest → at.window.most ≡ 2 ^ 64 - 1 → at.failures ≡ 0 → i ≢ Open
     → IsSoundAs i 0 at → rest ≡ []
 slice_closed Open at rest is most none shut h = absurd (shut refl)
 slice_closed AtEnd at rest is most none shut h = subst IsAtEnd is h.2
@@ -214,7 +214,7 @@ slice_closed TooLarge at rest is most none shut h = (let a = h.1 in let b = h.2 
 slice_closed Failed at rest is most none shut h = absurd (never_none (sym none ∙ h))
 
 pub of_slice :
-    (old new : Place) (P : List ℕ → List ℕ → Type 0) (bytes rest : List ℕ) → Reads old new P → old.window.buffer ≡ [] → old.window.came ≡ 0
+    (old new : WindowState) (P : List ℕ → List ℕ → Type 0) (bytes rest : List ℕ) → Reads old new P → old.window.buffer ≡ [] → old.window.came ≡ 0
     → old.window.most ≡ 2 ^ 64 - 1
     → old.window.inflow ≡ Open → old.failures ≡ 0 → new.failures ≡ 0 → old.remaining ≡ Some bytes → new.remaining ≡ Some rest → (left : List ℕ) × P bytes left
 of_slice old new P bytes rest read empty zero most is_open none none' before after =
@@ -237,7 +237,7 @@ of_slice old new P bytes rest read empty zero most is_open none none' before aft
 
 -- what has come from an empty window on
 pub came_from :
-    (old new : Place) (P : List ℕ → List ℕ → Type 0) → Reads old new P → old.window.buffer ≡ [] → old.window.came ≡ 0
+    (old new : WindowState) (P : List ℕ → List ℕ → Type 0) → Reads old new P → old.window.buffer ≡ [] → old.window.came ≡ 0
     → (bytes : List ℕ) × Consumes old.remaining new.remaining bytes × (counted 0 (length bytes) ≡ counted new.window.came 0) × P bytes new.window.buffer
 came_from old new P read empty zero =
     let left = read.left _ _ _ (all_here new) in
@@ -253,47 +253,47 @@ many_came n came most e many small = grind (arith, nat_tests, common_steps)
 
 -- why no more came
 whole_as :
-    (i : Inflow) (n : ℕ) (at : Place) → IsSoundAs i n at → fault_of i ≡ None → i ≢ Open
+    (i : Inflow) (n : ℕ) (at : WindowState) → IsSoundAs i n at → fault_of i ≡ None → i ≢ Open
     → (at.failures ≡ n) × (at.window.came ≤ at.window.most) × IsAtEnd at.remaining
 whole_as Open n at h none shut = absurd (shut refl)
 whole_as AtEnd n at h none shut = h
 whole_as TooLarge n at h none shut = absurd (cc)
 whole_as Failed n at h none shut = absurd (cc)
 
-large_as : (i : Inflow) (n : ℕ) (at : Place) → IsSoundAs i n at → fault_of i ≡ Some faults.TooLarge
+large_as : (i : Inflow) (n : ℕ) (at : WindowState) → IsSoundAs i n at → fault_of i ≡ Some faults.TooLarge
     → (at.window.most < at.window.came) × (at.window.came < 2 ^ 64)
 large_as Open n at h is = absurd (cc)
 large_as AtEnd n at h is = absurd (cc)
 large_as TooLarge n at h is = (h.1, h.2)
 large_as Failed n at h is = absurd (cc)
 
-failed_as : (i : Inflow) (n : ℕ) (at : Place) → IsSoundAs i n at → fault_of i ≡ Some faults.Read → at.failures ≡ one_failure_more n
+failed_as : (i : Inflow) (n : ℕ) (at : WindowState) → IsSoundAs i n at → fault_of i ≡ Some faults.Read → at.failures ≡ one_failure_more n
 failed_as Open n at h is = absurd (cc)
 failed_as AtEnd n at h is = absurd (cc)
 failed_as TooLarge n at h is = absurd (cc)
 failed_as Failed n at h is = h
 
-well_as : (i : Inflow) (n : ℕ) (at : Place) → IsSoundAs i n at → fault_of i ≢ Some faults.Read → at.failures ≡ n
+well_as : (i : Inflow) (n : ℕ) (at : WindowState) → IsSoundAs i n at → fault_of i ≢ Some faults.Read → at.failures ≡ n
 well_as Open n at h other = h.0
 well_as AtEnd n at h other = h.0
 well_as TooLarge n at h other = h.0
 well_as Failed n at h other = absurd (other refl)
 
 -- a window that is new
-pub record IsFresh (at : Place) (limit : ℕ) : Type 0 where
+pub record IsFresh (at : WindowState) (limit : ℕ) : Type 0 where
   pub empty : at.window.buffer ≡ []
   pub zero : at.window.came ≡ 0
   pub most : at.window.most ≡ limit
   pub is_open : at.window.inflow ≡ Open
 
-pub fresh_at : (at : Place) (limit : ℕ) → at.window.buffer ≡ [] → at.window.came ≡ 0 → at.window.most ≡ limit → at.window.inflow ≡ Open → IsFresh at limit
+pub fresh_at : (at : WindowState) (limit : ℕ) → at.window.buffer ≡ [] → at.window.came ≡ 0 → at.window.most ≡ limit → at.window.inflow ≡ Open → IsFresh at limit
 fresh_at at limit empty zero most is_open = record { empty = empty; zero = zero; most = most; is_open = is_open }
 
-fresh_sound : (at : Place) (most : ℕ) → IsFresh at most → IsSound at.failures at
+fresh_sound : (at : WindowState) (most : ℕ) → IsFresh at most → IsSound at.failures at
 fresh_sound at most fresh = sound_as at.window.inflow Open at.failures at fresh.is_open (refl, (let z = fresh.zero in omega arith))
 
 pub whole_from :
-    (old new : Place) (most : ℕ) (P : List ℕ → List ℕ → Type 0) → Reads old new P → IsFresh old most → most < 2 ^ 32 → fault_of new.window.inflow ≡ None
+    (old new : WindowState) (most : ℕ) (P : List ℕ → List ℕ → Type 0) → Reads old new P → IsFresh old most → most < 2 ^ 32 → fault_of new.window.inflow ≡ None
     → new.window.inflow ≢ Open
     → (bytes : List ℕ) × Consumes old.remaining new.remaining bytes × IsAtEnd new.remaining × (length bytes ≤ most) × P bytes new.window.buffer
 whole_from old new most P read fresh small none shut =
@@ -302,7 +302,7 @@ whole_from old new most P read fresh small none shut =
     (came.0, came.1, end.2, few_came (length came.0) new.window.came most came.2 (let a = end.1 in omega (arith, a, read.most, fresh.most)) small, came.3)
 
 pub large_from :
-    (old new : Place) (most : ℕ) (P : List ℕ → List ℕ → Type 0) → Reads old new P → IsFresh old most → fault_of new.window.inflow ≡ Some faults.TooLarge
+    (old new : WindowState) (most : ℕ) (P : List ℕ → List ℕ → Type 0) → Reads old new P → IsFresh old most → fault_of new.window.inflow ≡ Some faults.TooLarge
     → (bytes : List ℕ) × Consumes old.remaining new.remaining bytes × (most < length bytes)
 large_from old new most P read fresh is =
     let came = came_from old new P read fresh.empty fresh.zero in
@@ -310,12 +310,12 @@ large_from old new most P read fresh is =
     (came.0, came.1, many_came (length came.0) new.window.came most came.2 (let a = over.0 in omega (arith, a, read.most, fresh.most)) over.1)
 
 pub failed_from :
-    (old new : Place) (most : ℕ) (P : List ℕ → List ℕ → Type 0) → Reads old new P → IsFresh old most → fault_of new.window.inflow ≡ Some faults.Read
+    (old new : WindowState) (most : ℕ) (P : List ℕ → List ℕ → Type 0) → Reads old new P → IsFresh old most → fault_of new.window.inflow ≡ Some faults.Read
     → new.failures ≡ one_failure_more old.failures
 failed_from old new most P read fresh is = failed_as new.window.inflow old.failures new (read.sound old.failures (fresh_sound old most fresh)) is
 
 pub well_from :
-    (old new : Place) (most : ℕ) (P : List ℕ → List ℕ → Type 0) → Reads old new P → IsFresh old most → fault_of new.window.inflow ≢ Some faults.Read
+    (old new : WindowState) (most : ℕ) (P : List ℕ → List ℕ → Type 0) → Reads old new P → IsFresh old most → fault_of new.window.inflow ≢ Some faults.Read
     → new.failures ≡ old.failures
 well_from old new most P read fresh other = well_as new.window.inflow old.failures new (read.sound old.failures (fresh_sound old most fresh)) other
 
@@ -370,7 +370,7 @@ unheld_from (Err (Refused refusal)) e = absurd (cc)
 unheld_from (Err Unheld) e = refl
 
 -- memory was refused only where no more came than may
-within_as : (i : Inflow) (n : ℕ) (at : Place) → IsSoundAs i n at → stopped_by i ≡ faults.Memory → at.window.came ≤ at.window.most
+within_as : (i : Inflow) (n : ℕ) (at : WindowState) → IsSoundAs i n at → stopped_by i ≡ faults.Memory → at.window.came ≤ at.window.most
 within_as Open n at h is = h.1
 within_as AtEnd n at h is = h.1
 within_as TooLarge n at h is = absurd (cc)
@@ -397,7 +397,7 @@ few_told most bytes rest are short = record {
 }
 
 pub memory_from :
-    (old new : Place) (most : ℕ) → Reads old new (AreUnheld old.window.most) → IsFresh old most → most < 2 ^ 32 → stopped_by new.window.inflow ≡ faults.Memory
+    (old new : WindowState) (most : ℕ) → Reads old new (AreUnheld old.window.most) → IsFresh old most → most < 2 ^ 32 → stopped_by new.window.inflow ≡ faults.Memory
     → (bytes : List ℕ) × Consumes old.remaining new.remaining bytes × TellsOfFew most bytes
 memory_from old new most read fresh small is =
     let came = came_from old new (AreUnheld old.window.most) read fresh.empty fresh.zero in

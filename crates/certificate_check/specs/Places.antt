@@ -2,12 +2,12 @@
 use Rattle.std.specs.Prelude.{◌≡◌, ℕ, zero, suc, ◌<◌, ◌≤◌, List, length, slice_index}
 use Rattle.std.specs.Prelude.{slice_index_or}
 use Rattle.certificate_check.specs.declared.entries.Span.{Span}
-use Rattle.certificate_check.specs.declared.chains.Place.{Place}
+use Rattle.certificate_check.specs.declared.chains.ChainCursor.{ChainCursor}
 use Rattle.certificate_check.specs.Spans.{HaveEnded}
 
 -- the place is before the chain of the spans from one number to before another, or after one of
 -- them where those before it have ended before the page
-pub data IsPlace (spans : ℕ → Span) (from to page : ℕ) (place : Place) : Type 0 where
+pub data IsPlace (spans : ℕ → Span) (from to page : ℕ) (place : ChainCursor) : Type 0 where
   before : place.next ≤ from → place.span.first ≡ 0 → place.span.end ≡ 0
       → IsPlace spans from to page place
   stands :
@@ -21,7 +21,7 @@ start_of ends zero = 0
 start_of ends (suc k) = slice_index ends k
 
 -- each chain has its place
-abbrev pub ArePlaces : (ℕ → Span) → List ℕ → ℕ → List Place → Type 0
+abbrev pub ArePlaces : (ℕ → Span) → List ℕ → ℕ → List ChainCursor → Type 0
 ArePlaces spans ends page places =
-    (k : ℕ) (d : Place) → k < length ends
+    (k : ℕ) (d : ChainCursor) → k < length ends
     → IsPlace spans (start_of ends k) (slice_index ends k) page (slice_index_or places k d)

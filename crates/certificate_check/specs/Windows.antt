@@ -20,18 +20,19 @@ counted came more = min (came + more) (2 ^ 64 - 1)
 
 -- a window and its source at a time: the bytes that the source has still to give, where they are
 -- known, and how often it has failed
-pub record Place : Type 0 where
+pub record WindowState : Type 0 where
   pub window : Window
   pub remaining : Option (List ℕ)
   pub failures : ℕ
 
-abbrev pub place : {R : Type 0} → (R → Option (List ℕ)) → (R → ℕ) → Window → R → Place
+abbrev pub place : {R : Type 0} → (R → Option (List ℕ)) → (R → ℕ) → Window → R → WindowState
 place remaining failures window source =
     record { window = window; remaining = remaining source; failures = failures source }
 
 -- these bytes are left to be read at a place, where in the end so much remains in the source and so
 -- many bytes have come: those that the window holds, and those that come later
-pub record AreLeft (after : Option (List ℕ)) (total : ℕ) (at : Place) (left : List ℕ) : Type 0 where
+pub record AreLeft (after : Option (List ℕ)) (total : ℕ) (at : WindowState) (left : List ℕ)
+    : Type 0 where
   pub later : List ℕ
   pub held : left ≡ at.window.buffer ++ later
   pub consumed : Consumes at.remaining after later
@@ -39,7 +40,7 @@ pub record AreLeft (after : Option (List ℕ)) (total : ℕ) (at : Place) (left 
   pub closed : at.window.inflow ≢ Open → later ≡ []
 
 -- why no more bytes come is so, where the source had failed so often before
-abbrev pub IsSoundAs : Inflow → ℕ → Place → Type 0
+abbrev pub IsSoundAs : Inflow → ℕ → WindowState → Type 0
 IsSoundAs Open failures at = (at.failures ≡ failures) × (at.window.came ≤ at.window.most)
 IsSoundAs AtEnd failures at = (at.failures ≡ failures) × (at.window.came ≤ at.window.most)
     × IsAtEnd at.remaining
@@ -47,12 +48,12 @@ IsSoundAs TooLarge failures at = (at.failures ≡ failures) × (at.window.most <
     × (at.window.came < 2 ^ 64)
 IsSoundAs Failed failures at = at.failures ≡ one_failure_more failures
 
-abbrev pub IsSound : ℕ → Place → Type 0
+abbrev pub IsSound : ℕ → WindowState → Type 0
 IsSound failures at = IsSoundAs at.window.inflow failures at
 
 -- from one place to the next: whatever comes later, what was left and what is left then are in the
 -- relation
-pub record Reads (old new : Place) (P : List ℕ → List ℕ → Type 0) : Type 0 where
+pub record Reads (old new : WindowState) (P : List ℕ → List ℕ → Type 0) : Type 0 where
   pub most : new.window.most ≡ old.window.most
   pub sound : (failures : ℕ) → IsSound failures old → IsSound failures new
   pub left : (after : Option (List ℕ)) (total : ℕ) (rest : List ℕ) → AreLeft after total new rest
@@ -63,7 +64,7 @@ abbrev pub Stays : List ℕ → List ℕ → Type 0
 Stays left rest = left ≡ rest
 
 -- so many bytes are there, or no more come
-abbrev pub HasEnough : ℕ → Place → Type 0
+abbrev pub HasEnough : ℕ → WindowState → Type 0
 HasEnough need at = (at.window.inflow ≡ Open) → need ≤ length at.window.buffer
 
 -- a stop for what is at fault in the bytes is one where it stands, and one for entries that are not

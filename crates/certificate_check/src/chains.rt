@@ -7,13 +7,13 @@ use pmp_encoding::{Perm, SPACE_PAGES};
 
 /// A place in a chain: the span that was read last, and the number of the one after it.
 #[derive(Clone, Copy)]
-pub(crate) struct Place {
+pub(crate) struct ChainCursor {
     pub(crate) next: usize,
     pub(crate) span: Span,
 }
 
 /// Before each chain: no span was read.
-pub(crate) const BEFORE: Place = Place {
+pub(crate) const BEFORE: ChainCursor = ChainCursor {
     next: 0,
     span: Span {
         first: 0,
@@ -26,7 +26,7 @@ pub(crate) const BEFORE: Place = Place {
 ghost use Rattle.std.specs.Prelude.{◌≡◌, ℕ, ◌+◌, ◌*◌, ◌<◌, ◌≤◌, ◌^◌, List, length, slice_index, slice_index_or, IfSome};
 ghost use Rattle.certificate_check.specs.declared.entries.Span.{Span};
 ghost use Rattle.certificate_check.specs.Spans.{ReadsAs, Decides, RiseTo, AreChains, count_in};
-ghost use Rattle.certificate_check.specs.declared.chains.Place.{Place};
+ghost use Rattle.certificate_check.specs.declared.chains.ChainCursor.{ChainCursor};
 ghost use Rattle.certificate_check.specs.Places.{IsPlace, start_of, ArePlaces};
 
 /// The same span, field by field. As a whole it would be copied with the bytes that no field has, in pieces that lie across
@@ -55,7 +55,13 @@ fn start_of(ends: &[usize], i: usize) -> usize
 }
 
 /// Goes on in the chain of the entries from `from` to before `to`, to the first span that ends after the page.
-fn next_in_chain(entries: &Entries, place: Place, from: usize, to: usize, page: u64) -> Place
+fn next_in_chain(
+    entries: &Entries,
+    place: ChainCursor,
+    from: usize,
+    to: usize,
+    page: u64,
+) -> ChainCursor
     requires inside { to ≤ count_in entries.now }
     ensures all { result.span.end ≤ page → to ≤ result.next }
     ensures value { (spans : ℕ → Span) → ReadsAs entries.now spans
@@ -68,7 +74,7 @@ fn next_in_chain(entries: &Entries, place: Place, from: usize, to: usize, page: 
         span = entries.span(next);
         next += 1;
     }
-    Place {
+    ChainCursor {
         next,
         span: taken_apart(span),
     }
@@ -78,7 +84,7 @@ fn next_in_chain(entries: &Entries, place: Place, from: usize, to: usize, page: 
 /// takes most of the time of a sweep.)
 fn go_on(
     entries: &Entries,
-    places: &mut [Place; SIZES],
+    places: &mut [ChainCursor; SIZES],
     i: usize,
     from: usize,
     to: usize,
@@ -86,7 +92,7 @@ fn go_on(
 )
     requires place { i < 45 }
     requires inside { to ≤ count_in entries.now }
-    ensures all { (d : Place) → (slice_index_or places.new i d).span.end ≤ page
+    ensures all { (d : ChainCursor) → (slice_index_or places.new i d).span.end ≤ page
         → to ≤ (slice_index_or places.new i d).next }
     ensures value { (spans : ℕ → Span) → ReadsAs entries.now spans → (ends : List ℕ)
         → start_of ends i ≡ from
@@ -102,7 +108,7 @@ fn go_on(
 pub(crate) fn piece_of_chains(
     entries: &Entries,
     ends: &[usize],
-    places: &mut [Place; SIZES],
+    places: &mut [ChainCursor; SIZES],
     page: u64,
 ) -> Piece
     requires few { length ends.now ≤ 45 }

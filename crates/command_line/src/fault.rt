@@ -33,7 +33,7 @@ fn kind_of(fault: &Fault<'_>) -> ErrorKind
 }
 
 /// The error of a fault, with the usage of the subcommand of that name.
-pub fn explained(alloc: Global, name: &str, fault: &Fault<'_>) -> Result<Error, AllocError>
+pub fn error_with_usage(alloc: Global, name: &str, fault: &Fault<'_>) -> Result<Error, AllocError>
     ensures { IfOk result (λ error. kind_of error ≡ fault_kind fault.now) }
 {
     let text = fault.text(alloc)?;
@@ -45,7 +45,7 @@ pub fn explained(alloc: Global, name: &str, fault: &Fault<'_>) -> Result<Error, 
 pub fn takes_place(alloc: Global, map: &str) -> Result<Error, AllocError>
     ensures { IfOk result (λ error. kind_of error ≡ ArgumentConflict) }
 {
-    explained(alloc, "plan", &Fault::TakesPlace(map))
+    error_with_usage(alloc, "plan", &Fault::TakesPlace(map))
 }
 
 /// The error of a certificate that cannot be written where it is asked for, which is said in that text.
@@ -60,5 +60,5 @@ pub fn no_certificate(alloc: Global, text: &str) -> Result<Error, AllocError>
 pub fn reads_twice(alloc: Global, name: &str) -> Result<Error, AllocError>
     ensures { IfOk result (λ error. kind_of error ≡ ArgumentConflict) }
 {
-    explained(alloc, name, &Fault::InputTwice)
+    error_with_usage(alloc, name, &Fault::InputTwice)
 }

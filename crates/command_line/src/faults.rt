@@ -7,7 +7,7 @@ ghost use Rattle.clap.specs.declared.error.kind.ErrorKind.TheVariants as kind;
 ghost use Rattle.command_line.specs.Ends.{IsStatusOf};
 
 use crate::request_of_words;
-use crate::troubles::stopped;
+use crate::troubles::exit_with_trouble;
 use clap::Error;
 use clap::error::ErrorKind;
 use command_inputs::Trouble;
@@ -16,11 +16,11 @@ use std::alloc::AllocError;
 use std::process::ExitCode;
 
 /// Help or the version on standard output, or a fault of the command line on standard error.
-fn explained(rt: &HostRuntime, error: &Error) -> ExitCode
+fn exit_with_usage(rt: &HostRuntime, error: &Error) -> ExitCode
     ensures { IsStatusOf (kind_of error.now) (exit_status result) }
 {
     if error.kind() == ErrorKind::OutOfMemory {
-        return stopped(rt, Trouble::Memory);
+        return exit_with_trouble(rt, Trouble::Memory);
     }
     let printed = error.print(rt);
     if error.use_stderr() {
@@ -28,18 +28,18 @@ fn explained(rt: &HostRuntime, error: &Error) -> ExitCode
     }
     match printed {
         Ok(()) => ExitCode::SUCCESS,
-        Err(_) => stopped(rt, Trouble::Output),
+        Err(_) => exit_with_trouble(rt, Trouble::Output),
     }
 }
 
 /// Reports a fault of the command line, or that there is no memory to say it.
-pub(crate) fn faulted(rt: &HostRuntime, error: Result<Error, AllocError>) -> ExitCode
+pub(crate) fn exit_with_fault(rt: &HostRuntime, error: Result<Error, AllocError>) -> ExitCode
     requires fault { IfOk error (λ error. kind_of error ≡ kind.ArgumentConflict) }
     ensures { exit_status result ≡ 2 ⊎ exit_status result ≡ 4 }
 {
     match error {
-        Ok(error) => explained(rt, &error),
-        Err(AllocError) => stopped(rt, Trouble::Memory),
+        Ok(error) => exit_with_usage(rt, &error),
+        Err(AllocError) => exit_with_trouble(rt, Trouble::Memory),
     }
 }
 
@@ -48,13 +48,13 @@ pub(crate) fn refuse(rt: &HostRuntime, words: &[&str], error: &Error) -> ExitCod
     ensures { IsStatusOf (kind_of error.now) (exit_status result) }
 {
     let Ok(shown) = shown_words(rt.alloc(), words) else {
-        return explained(rt, error);
+        return exit_with_usage(rt, error);
     };
     let Ok(texts) = texts_of(rt.alloc(), shown.as_slice()) else {
-        return explained(rt, error);
+        return exit_with_usage(rt, error);
     };
     match request_of_words(rt.alloc(), texts.as_slice()) {
-        Err(other) if other.kind() == error.kind() => explained(rt, &other),
-        _ => explained(rt, error),
+        Err(other) if other.kind() == error.kind() => exit_with_usage(rt, &other),
+        _ => exit_with_usage(rt, error),
     }
 }

@@ -12,7 +12,7 @@
 //!
 //! For the layer above: [`words_in`] has the words of the command line, [`texts_in`] these as texts, [`request_in`] what they ask
 //! for, and [`may_be_done`] refuses a task whose files get in each other's way. Where the way ends, each has said why, and answers
-//! the status with which the program ends. [`ended`] is the end of a task that was done, and [`standard_error`] where its troubles go.
+//! the status with which the program ends. [`exit_with_status`] is the end of a task that was done, and [`standard_error`] where its troubles go.
 //!
 //! ```text
 //! let words = words_in(rt)?;
@@ -38,5 +38,5 @@ pub use fault::{no_certificate, reads_twice, takes_place};
 pub use program_tasks::{Answers, Format, Hints, LintKind, Options, Request, TableFormat, Task};
 pub use program_words::{request_in, texts_in, words_in};
 pub use task_files::may_be_done;
-pub use troubles::{ended, standard_error};
+pub use troubles::{exit_with_status, standard_error};
 pub use words::request_of_words;

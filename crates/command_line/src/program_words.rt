@@ -8,7 +8,7 @@ ghost use Rattle.command_line.specs.Ends.{IsRefused};
 
 use crate::faults::refuse;
 use crate::request_of_words;
-use crate::troubles::stopped;
+use crate::troubles::exit_with_trouble;
 use command_inputs::Trouble;
 use program_tasks::{Request, quoted};
 use std::alloc::AllocError;
@@ -35,7 +35,7 @@ pub fn words_in(rt: &HostRuntime) -> Result<Vec<String>, ExitCode>
     match read_words(rt) {
         Ok(words) => Ok(words),
         Err(error) if error.kind() == io::ErrorKind::OutOfMemory => {
-            Err(stopped(rt, Trouble::Memory))
+            Err(exit_with_trouble(rt, Trouble::Memory))
         }
         Err(_) => {
             say_which(rt);
@@ -53,7 +53,7 @@ pub fn texts_in<'a>(rt: &HostRuntime, words: &'a [String]) -> Result<Vec<&'a str
     let mut texts = Vec::new(rt.alloc());
     for word in words {
         let Ok(()) = texts.push(word.as_str()) else {
-            return Err(stopped(rt, Trouble::Memory));
+            return Err(exit_with_trouble(rt, Trouble::Memory));
         };
     }
     Ok(texts)

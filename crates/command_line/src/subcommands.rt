@@ -13,7 +13,7 @@ use program_tasks::{SUBCOMMANDS, Subcommand};
 use std::alloc::{AllocError, Global};
 
 /// A command without arguments, with its texts for help.
-fn named<'a>(alloc: Global, name: &'a str, about: &'a str, more: &'a str) -> Command<'a>
+fn plain_command<'a>(alloc: Global, name: &'a str, about: &'a str, more: &'a str) -> Command<'a>
     ensures { IsCommandOf (new_app name.entry.now) result }
 {
     Command::new(alloc, name).about(about).after_help(more)
@@ -30,7 +30,7 @@ fn command<'a>(
     ensures { IfOk result (IsCommandOf (with_arguments (new_app name.entry.now)
         arguments.entry.now)) }
 {
-    let mut command = named(alloc, name, about, more);
+    let mut command = plain_command(alloc, name, about, more);
     for &argument in arguments {
         command = command.arg(argument.arg(alloc))?;
     }
@@ -49,7 +49,7 @@ fn subcommand_command<'a>(alloc: Global, subcommand: Subcommand) -> Result<Comma
 fn bare_program<'a>(alloc: Global) -> Command<'a>
     ensures { IsCommandOf bare_app result }
 {
-    named(alloc, "pmpmon", ABOUT, EXAMPLE)
+    plain_command(alloc, "pmpmon", ABOUT, EXAMPLE)
         .version(VERSION)
         .subcommand_required(true)
 }

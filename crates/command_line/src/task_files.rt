@@ -6,14 +6,14 @@ ghost use Rattle.std.specs.Process.{exit_status};
 ghost use Rattle.program_tasks.specs.Tasks.{input_word};
 ghost use Rattle.program_tasks.specs.Places.{cert_of, IsToStandardOutput, ReadsTwice};
 
-use crate::faults::faulted;
+use crate::faults::exit_with_fault;
 use crate::{no_certificate, takes_place};
 use program_files::{is_same_file, is_same_plain_file};
 use program_tasks::{Task, cert_of, files_of, reads_twice};
 use std::process::ExitCode;
 
 /// Why a certificate is not written under that name; the list, or what is read, would be lost.
-fn misplaced(rt: &HostRuntime, cert: &str) -> Option<&'static str>
+fn why_not_placed(rt: &HostRuntime, cert: &str) -> Option<&'static str>
     ensures { cert.now ≡ input_word → result ≢ None }
 {
     if cert == "-" {
@@ -30,7 +30,7 @@ fn misplaced(rt: &HostRuntime, cert: &str) -> Option<&'static str>
 
 /// Refuses a task whose certificate would take the place of its map, under another name of the same file, or of the file at
 /// standard input or output.
-fn refused(rt: &HostRuntime, task: &Task<'_>) -> Option<ExitCode>
+fn refuse_files(rt: &HostRuntime, task: &Task<'_>) -> Option<ExitCode>
     ensures status { IfSome result (λ code. exit_status code ≡ 2 ⊎ exit_status code ≡ 4) }
     ensures word { IsToStandardOutput (cert_of task.now) → result ≢ None }
     ensures others { cert_of task.now ≡ None → result ≡ None }
@@ -38,12 +38,12 @@ fn refused(rt: &HostRuntime, task: &Task<'_>) -> Option<ExitCode>
     let Some(cert) = cert_of(task) else {
         return None;
     };
-    if let Some(text) = misplaced(rt, cert) {
-        return Some(faulted(rt, no_certificate(rt.alloc(), text)));
+    if let Some(text) = why_not_placed(rt, cert) {
+        return Some(exit_with_fault(rt, no_certificate(rt.alloc(), text)));
     }
     let map = files_of(task).first;
     if is_same_file(rt, map, cert) {
-        return Some(faulted(rt, takes_place(rt.alloc(), map)));
+        return Some(exit_with_fault(rt, takes_place(rt.alloc(), map)));
     }
     None
 }
@@ -58,9 +58,9 @@ pub fn may_be_done(rt: &HostRuntime, task: &Task<'_>) -> Result<(), ExitCode>
 {
     if reads_twice(task) {
         let name = task.subcommand().name();
-        return Err(faulted(rt, crate::reads_twice(rt.alloc(), name)));
+        return Err(exit_with_fault(rt, crate::reads_twice(rt.alloc(), name)));
     }
-    match refused(rt, task) {
+    match refuse_files(rt, task) {
         Some(code) => Err(code),
         None => Ok(()),
     }

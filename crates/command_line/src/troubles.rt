@@ -20,7 +20,7 @@ pub fn standard_error(rt: &HostRuntime) -> Counted<RetryInterrupted<Stderr>>
 }
 
 /// Says what went wrong, and with which status the program ends.
-pub(crate) fn stopped(rt: &HostRuntime, trouble: Trouble<'_>) -> ExitCode
+pub(crate) fn exit_with_trouble(rt: &HostRuntime, trouble: Trouble<'_>) -> ExitCode
     ensures { exit_status result ≡ trouble_status trouble.entry }
 {
     let mut err = standard_error(rt);
@@ -29,12 +29,12 @@ pub(crate) fn stopped(rt: &HostRuntime, trouble: Trouble<'_>) -> ExitCode
 }
 
 /// The end of a task that was done, with its status, or for which memory was refused, which is reported.
-pub fn ended(rt: &HostRuntime, status: Result<u8, AllocError>) -> ExitCode
+pub fn exit_with_status(rt: &HostRuntime, status: Result<u8, AllocError>) -> ExitCode
     ensures { MatchResult status (λ status. exit_status result ≡ status)
         (λ _. exit_status result ≡ 4) }
 {
     match status {
         Ok(status) => ExitCode::from(status),
-        Err(AllocError) => stopped(rt, Trouble::Memory),
+        Err(AllocError) => exit_with_trouble(rt, Trouble::Memory),
     }
 }

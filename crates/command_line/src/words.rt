@@ -5,7 +5,7 @@ ghost use Rattle.clap.specs.Words.{fault_of, kind_of, subcommand_of, subcommand_
 ghost use Rattle.program_tasks.specs.Tasks.{IsSound};
 ghost use Rattle.command_line.specs.CommandLine.{program_app, AreNone, IsFaultIn, IsRequest, Refuses};
 
-use crate::fault::explained;
+use crate::fault::error_with_usage;
 use crate::found::Found;
 use crate::subcommands::program;
 use clap::{ArgMatches, Error};
@@ -44,7 +44,7 @@ pub fn request_of_words<'a>(alloc: Global, words: &'a [&'a str]) -> Result<Reque
         Ok(request) => Ok(request),
         Err(fault) => {
             let name = matches.subcommand_name().unwrap_or("");
-            Err(explained(alloc, name, &fault)?)
+            Err(error_with_usage(alloc, name, &fault)?)
         }
     }
 }

@@ -24,7 +24,7 @@ use pmp_encoding::{Bank, Limit, PackedEntry, Xlen};
 use std::alloc::Global;
 
 /// The plan of a map: the fewest entries that mean it, of the lists of that many the one that the planner chooses.
-pub fn planned(alloc: Global, map: &PermissionMap) -> Result<PackedPlan, Memory>
+pub fn plan_of_map(alloc: Global, map: &PermissionMap) -> Result<PackedPlan, Memory>
     ensures fewest { IfOk result (λ plan. IsFewest (view_of_runs map.now) plan.entries) }
     ensures choice { IfOk result (λ plan.
         AreChosen (tree_of (view_of_runs map.now)) plan.entries) }
@@ -47,7 +47,7 @@ pub fn fewest_in<'a>(
     ensures refused { IfErr result (λ trouble. (trouble ≡ Trouble.Memory)
         ⊎ IsTooFar (view_of_runs map.now) xlen None file.entry trouble) }
 {
-    let plan = planned(alloc, map)?;
+    let plan = plan_of_map(alloc, map)?;
     reached(&plan, xlen, file)?;
     Ok(plan.entries().len() as u64)
 }
@@ -58,7 +58,7 @@ pub fn needed_by<'a>(alloc: Global, file: &'a str, bytes: &[u8]) -> Result<u64, 
     ensures { IfOk result (AreNeeded bytes.now) }
 {
     let map = map_by(alloc, file, bytes)?;
-    let plan = planned(alloc, &map)?;
+    let plan = plan_of_map(alloc, &map)?;
     Ok(plan.entries().len() as u64)
 }
 
@@ -85,7 +85,7 @@ pub fn planned_within<'a>(
     ensures refused { IfErr result (λ trouble.
         (trouble ≡ Trouble.Memory) ⊎ NeedsMore (view_of_runs map.now) most trouble) }
 {
-    let plan = planned(alloc, map)?;
+    let plan = plan_of_map(alloc, map)?;
     within(&plan, most)?;
     Ok(plan)
 }
@@ -206,7 +206,7 @@ pub fn bank_in<'a>(
     ensures loaded { IfOk result (IsLoaded (view_of_runs map.now) xlen limit) }
     ensures refused { IfErr result (IsUnloaded (view_of_runs map.now) xlen limit file.entry) }
 {
-    let plan = planned(alloc, map)?;
+    let plan = plan_of_map(alloc, map)?;
     let entries = plan.entries();
     match bank_of(entries, limit) {
         Some(bank) => {

@@ -15,7 +15,7 @@
 //!
 //! For the layer above: `do_plan`, `do_check`, `do_judge_as`, `do_show_as`, `do_audit` and `do_map` each do one command on the
 //! devices that are lent for it; the clause of each has a rule for each way in which it ends, with what was read and written in
-//! which order. [`planned`] answers the fewest entries of a map, [`plan_and_certify`] puts a certificate of them in its place, which
+//! which order. [`plan_of_map`] answers the fewest entries of a map, [`plan_and_certify`] puts a certificate of them in its place, which
 //! the checker accepts, and [`bank_of`] answers the bank of a list that fits it. A certificate goes to a [`CertificateSink`]: whole
 //! into a place, or straight into any sink.
 //!
@@ -35,7 +35,7 @@ mod lint_trace;
 mod on_maps;
 
 pub use certificate_sink::{CertificateSink, Straight, Whole};
-pub use certified_plan::{bank_of, needed_by, plan_and_certify, planned};
+pub use certified_plan::{bank_of, needed_by, plan_and_certify, plan_of_map};
 pub use expected::tell_first;
 pub use laws::width_law;
 pub use lint::{

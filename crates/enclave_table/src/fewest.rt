@@ -20,7 +20,7 @@ use prefix_tree::Tree;
 use std::alloc::Global;
 
 /// The entries of a plan, if there are as many.
-fn listed(limit: Limit, plan: Plan) -> Result<EntryList, Refusal>
+fn list_of_plan(limit: Limit, plan: Plan) -> Result<EntryList, Refusal>
     ensures list { (view : ℕ → Perm) → IsFewest view plan.entries
         → IfOk result (λ list. IsListOf limit view list) }
     ensures want { (view : ℕ → Perm) → IsFewest view plan.entries
@@ -46,7 +46,7 @@ pub(crate) fn enclave_list(
     let Ok(plan) = enclave_plan(alloc, parts) else {
         return Err(Refusal::NoMemory);
     };
-    listed(limit, plan)
+    list_of_plan(limit, plan)
 }
 
 /// The tree and the entries of a host's view.
@@ -74,7 +74,7 @@ impl Table {
         let Ok(PlannedView { tree, plan }) = self.host_plan(pages, perm) else {
             return Err(Refusal::NoMemory);
         };
-        let list = listed(self.limit(), plan)?;
+        let list = list_of_plan(self.limit(), plan)?;
         Ok(HostView { tree, list })
     }
 }

@@ -11,7 +11,7 @@ use crate::comment::comment_on;
 use crate::tally::Tally;
 use byte_streams::{Sink, Source};
 use hart_sim::{Machine, push_reply};
-use text_lines::{Interpreter, Line, Refusal, RunFault, interpret_lines};
+use text_lines::{Interpreter, Line, LineRefusal, RunFault, interpret_lines};
 use trace_answers::explain;
 
 /// A machine whose answers are explained, and the tally of what happened to it.
@@ -37,9 +37,14 @@ impl Interpreter for ExplainingMachine {
 
     ghost keeps = { λ now. KeepsBanksRight now.machine };
 
-    fn interpret(&mut self, line: &[u8], count: u64, answer: &mut Line) -> Result<bool, Refusal> {
+    fn interpret(
+        &mut self,
+        line: &[u8],
+        count: u64,
+        answer: &mut Line,
+    ) -> Result<bool, LineRefusal> {
         let Ok(said) = self.machine.event_in(line) else {
-            return Err(Refusal::NotUnderstood);
+            return Err(LineRefusal::NotUnderstood);
         };
         let Some((hart, event)) = said else {
             return Ok(false);
@@ -47,7 +52,7 @@ impl Interpreter for ExplainingMachine {
         let asked = asked_of(&self.machine, hart, &event);
         let reply = self.machine.step(hart, event);
         if reply.wants_memory() {
-            return Err(Refusal::Memory);
+            return Err(LineRefusal::Memory);
         }
         self.tally.add(&asked, &reply);
         push_reply(answer, &reply);

@@ -7,8 +7,8 @@ use Rattle.platforms.specs.Ranges.{AreRangesApart, EachApart, device_range}
 use Rattle.platforms.specs.declared.platform.PlatformFault.{PlatformFault}
 use Rattle.platforms.specs.declared.platform.PlatformFault.TheVariants.{Overlap}
 use Rattle.file_lints.specs.Breaches.{BreaksRule}
-use Rattle.file_lints.specs.declared.breach.Place.{Place}
-use Rattle.file_lints.specs.declared.breach.Place.TheVariants.{Ram, Device}
+use Rattle.file_lints.specs.declared.breach.TomlPath.{TomlPath}
+use Rattle.file_lints.specs.declared.breach.TomlPath.TheVariants.{Ram, Device}
 use Rattle.file_lints.specs.declared.breach.PlacedRange.{PlacedRange}
 use Rattle.file_lints.specs.Overlaps.{placed_from, placed_ranges}
 
@@ -28,11 +28,11 @@ each_apart (x ∷ xs) here = (
   each_apart xs (λ k d low. rw (drop_behind k x xs) at (here (suc k) d (omega arith))),
 )
 
-bounds_from : (place : ℕ → Place) (n : ℕ) (ranges : List (ℕ × ℕ)) → map bounds_of (placed_from place n ranges) ≡ ranges
+bounds_from : (place : ℕ → TomlPath) (n : ℕ) (ranges : List (ℕ × ℕ)) → map bounds_of (placed_from place n ranges) ≡ ranges
 bounds_from place n [] = refl
 bounds_from place n (range ∷ ranges) = ap (λ xs. range ∷ xs) (bounds_from place (n + 1) ranges)
 
-both : (place : ℕ → Place) (n : ℕ) (ranges : List (ℕ × ℕ)) (more : List PlacedRange)
+both : (place : ℕ → TomlPath) (n : ℕ) (ranges : List (ℕ × ℕ)) (more : List PlacedRange)
     → map bounds_of (placed_from place n ranges ++ more) ≡ ranges ++ map bounds_of more
 both place n [] more = refl
 both place n (range ∷ ranges) more = ap (λ xs. range ∷ xs) (both place (n + 1) ranges more)

@@ -14,8 +14,8 @@ use Rattle.platforms.specs.declared.platform.PlatformFault.{PlatformFault}
 use Rattle.platform_file.specs.Document.{has_only, is_known, known, number}
 use Rattle.file_lints.specs.declared.breach.Key.{Key}
 use Rattle.file_lints.specs.declared.breach.Key.TheVariants as keys
-use Rattle.file_lints.specs.declared.breach.Place.{Place}
-use Rattle.file_lints.specs.declared.breach.Place.TheVariants.{File, Monitor, Ram, Device}
+use Rattle.file_lints.specs.declared.breach.TomlPath.{TomlPath}
+use Rattle.file_lints.specs.declared.breach.TomlPath.TheVariants.{File, Monitor, Ram, Device}
 use Rattle.file_lints.specs.declared.breach.Breach.{Breach}
 use Rattle.file_lints.specs.declared.breach.Breach.TheVariants.{Unknown, Missing, NoNumber, NoPages, NoPerm, NoTable, NoTables, Overlap, Rule}
 use Rattle.file_lints.specs.Breaches.{key_name, needed_of, numbered, numbers_of, value_of, at_place, no_array, rule, Breaks, BreaksAt, IsBreach, IsBroken}
@@ -84,7 +84,7 @@ item_found zero (Some value) one is = absurd (let h : None ≡ Some one = is in 
 item_found (suc i) None one is = absurd (let h : None ≡ Some one = is in cc)
 item_found (suc i) (Some value) one is = (i, value, (let same : suc i ≡ i + 1 = omega arith in same), refl, is)
 
-found_at : (document : Members) (place : Place) (value : Data) (b : Breach) → value_of document place ≡ Some value → BreaksAt value place b → Found document b
+found_at : (document : Members) (place : TomlPath) (value : Data) (b : Breach) → value_of document place ≡ Some value → BreaksAt value place b → Found document b
 found_at document File value b is (inl (none, told)) = absurd (let h : Some document ≡ None = ap as_table (same_Some _ _ is) ∙ none in cc)
 found_at document File value b is (inr (fields, there, broken)) = of_file document b
     (rw (same_Some fields document (sym there ∙ ap as_table (sym (same_Some _ _ is)))) at broken)
@@ -432,7 +432,7 @@ item_low vs i one is =
 
 -- an item after those that break nothing: what it breaks first is the first of all
 pub before_item :
-    (items : Items) (place : ℕ → Place) (i : ℕ) (value : Data) (b : Breach) → get_item i items ≡ Some value → item_of b ≡ i + 1
+    (items : Items) (place : ℕ → TomlPath) (i : ℕ) (value : Data) (b : Breach) → get_item i items ≡ Some value → item_of b ≡ i + 1
     → BreaksNoneBelowAt value (place (i + 1)) (step_of b)
     → ((j : ℕ) (earlier : Data) (other : Breach) → j < i → get_item j items ≡ Some earlier → BreaksAt earlier (place (j + 1)) other → ⊥)
     → BreaksNoItemBefore items place (item_of b) (step_of b)
@@ -444,7 +444,7 @@ before_item items place i value b here item below before j earlier other is brok
 
 -- and where it breaks nothing, neither does any up to it
 pub next_item :
-    (items : Items) (place : ℕ → Place) (i : ℕ) (value : Data) → get_item i items ≡ Some value → ((other : Breach) → BreaksAt value (place (i + 1)) other → ⊥)
+    (items : Items) (place : ℕ → TomlPath) (i : ℕ) (value : Data) → get_item i items ≡ Some value → ((other : Breach) → BreaksAt value (place (i + 1)) other → ⊥)
     → ((j : ℕ) (earlier : Data) (other : Breach) → j < i → get_item j items ≡ Some earlier → BreaksAt earlier (place (j + 1)) other → ⊥)
     → (j : ℕ) (earlier : Data) (other : Breach) → j < i + 1 → get_item j items ≡ Some earlier → BreaksAt earlier (place (j + 1)) other → ⊥
 next_item items place i value here clear before j earlier other low is broken =

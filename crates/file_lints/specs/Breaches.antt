@@ -13,8 +13,8 @@ use Rattle.platforms.specs.declared.platform.PlatformFault.TheVariants.{Overlap}
 use Rattle.platform_file.specs.Document.{HasForm, is_known, known, number, perm_of, range_in}
 use Rattle.file_lints.specs.declared.breach.Key.{Key}
 use Rattle.file_lints.specs.declared.breach.Key.TheVariants as keys
-use Rattle.file_lints.specs.declared.breach.Place.{Place}
-use Rattle.file_lints.specs.declared.breach.Place.TheVariants.{File, Monitor, Ram, Device}
+use Rattle.file_lints.specs.declared.breach.TomlPath.{TomlPath}
+use Rattle.file_lints.specs.declared.breach.TomlPath.TheVariants.{File, Monitor, Ram, Device}
 use Rattle.file_lints.specs.declared.breach.Breach.{Breach}
 use Rattle.file_lints.specs.declared.breach.Breach.TheVariants as breaches
 use Rattle.file_lints.specs.Overlaps.{IsOverlap, placed_ranges}
@@ -33,19 +33,19 @@ key_name keys.Size = codes "size"
 key_name keys.Perm = codes "perm"
 
 -- the keys that the table of a place may have
-abbrev pub keys_of : Place → List (List ℕ)
+abbrev pub keys_of : TomlPath → List (List ℕ)
 keys_of File = known
 keys_of Monitor = codes "base" ∷ codes "size" ∷ []
 keys_of (Ram n) = codes "base" ∷ codes "size" ∷ []
 keys_of (Device n) = codes "base" ∷ codes "size" ∷ codes "perm" ∷ []
 
 -- the keys that the table of a place must have
-abbrev pub needed_of : Place → List (List ℕ)
+abbrev pub needed_of : TomlPath → List (List ℕ)
 needed_of File = codes "monitor" ∷ codes "ram" ∷ []
 needed_of place = keys_of place
 
 -- the keys of the table of a place whose values are numbers
-abbrev pub numbers_of : Place → List (List ℕ)
+abbrev pub numbers_of : TomlPath → List (List ℕ)
 numbers_of File = codes "harts" ∷ codes "entries" ∷ []
 numbers_of place = codes "base" ∷ codes "size" ∷ []
 
@@ -55,7 +55,7 @@ numbered zero value = None
 numbered (suc i) value = at i value
 
 -- what stands at a place of a document: a range of memory and a device are counted from 1
-abbrev pub value_of : Members → Place → Option Data
+abbrev pub value_of : Members → TomlPath → Option Data
 value_of document File = Some (table document)
 value_of document Monitor = get_member (codes "monitor") document
 value_of document (Ram n) = option_and_then (numbered n) (get_member (codes "ram") document)
@@ -63,7 +63,7 @@ value_of document (Device n) = option_and_then (numbered n) (get_member (codes "
 
 -- the table of a place breaks this: it has a key that it may not have, lacks one that it must have,
 -- or has a value that will not do
-abbrev pub Breaks : Members → Place → Breach → Type 0
+abbrev pub Breaks : Members → TomlPath → Breach → Type 0
 Breaks fields place (Unknown spot key) = (spot ≡ place) × (get_member key.now fields ≢ None)
     × (is_known key.now (keys_of place) ≡ false)
 Breaks fields place (Missing spot key) = (spot ≡ place)
@@ -79,13 +79,13 @@ Breaks fields place (NoPerm spot) =
 Breaks fields place _ = ⊥
 
 -- what stands at a place breaks this: it is no table, or one that breaks it
-abbrev pub BreaksAt : Data → Place → Breach → Type 0
+abbrev pub BreaksAt : Data → TomlPath → Breach → Type 0
 BreaksAt value place breach =
     ((as_table value ≡ None) × (breach ≡ NoTable place))
     ⊎ ((fields : Members) × (as_table value ≡ Some fields) × Breaks fields place breach)
 
 -- an item of an array breaks this, at the place of its number, counted from 1
-abbrev pub BreaksItem : Items → (ℕ → Place) → Breach → Type 0
+abbrev pub BreaksItem : Items → (ℕ → TomlPath) → Breach → Type 0
 BreaksItem items place breach = (i : ℕ) × (value : Data) × (get_item i items ≡ Some value)
     × BreaksAt value (place (i + 1)) breach
 
@@ -108,8 +108,8 @@ IsBroken fault ram devices _ = ⊥
 -- a document breaks this: what stands at a place does, a value is no array, two ranges have a page
 -- in common, or another rule is broken
 pub data IsBreach (document : Members) : Breach → Type 0 where
-  at_place : (place : Place) (value : Data) (breach : Breach) → value_of document place ≡ Some value
-      → BreaksAt value place breach → IsBreach document breach
+  at_place : (place : TomlPath) (value : Data) (breach : Breach)
+      → value_of document place ≡ Some value → BreaksAt value place breach → IsBreach document breach
   no_array : (key : Key) (value : Data) → (key ≡ keys.Ram) ⊎ (key ≡ keys.Device)
       → get_member (key_name key) document ≡ Some value → as_array value ≡ None
       → IsBreach document (NoTables key)

@@ -3,8 +3,8 @@ use Rattle.std.specs.Prelude.{◌≡◌, ◌⊎◌, ℕ, ◌+◌, ◌<◌, Some}
 use Rattle.toml.specs.Data.{Data, Items, Members, get_item}
 use Rattle.file_lints.specs.declared.breach.Key.{Key}
 use Rattle.file_lints.specs.declared.breach.Key.TheVariants as keys
-use Rattle.file_lints.specs.declared.breach.Place.{Place}
-use Rattle.file_lints.specs.declared.breach.Place.TheVariants.{File, Monitor, Ram, Device}
+use Rattle.file_lints.specs.declared.breach.TomlPath.{TomlPath}
+use Rattle.file_lints.specs.declared.breach.TomlPath.TheVariants.{File, Monitor, Ram, Device}
 use Rattle.file_lints.specs.declared.breach.Breach.{Breach}
 use Rattle.file_lints.specs.declared.breach.Breach.TheVariants.{Unknown, Missing, NoNumber, NoPages}
 use Rattle.file_lints.specs.declared.breach.Breach.TheVariants.{NoPerm, NoTable, NoTables, Overlap}
@@ -13,7 +13,7 @@ use Rattle.file_lints.specs.Breaches.{Breaks, BreaksAt, IsBreach}
 
 -- the parts of a file in their order: its keys (0), `monitor`, `ram`, `device`, `harts`, `entries`,
 -- and then the rules on platforms (6)
-abbrev pub place_part : Place → ℕ
+abbrev pub place_part : TomlPath → ℕ
 place_part File = 0
 place_part Monitor = 1
 place_part (Ram n) = 2
@@ -29,12 +29,12 @@ file_part keys.Entries = 5
 file_part _ = 0
 
 -- the part in which a key of a table is looked at
-abbrev pub key_part : Place → Key → ℕ
+abbrev pub key_part : TomlPath → Key → ℕ
 key_part File key = file_part key
 key_part place key = place_part place
 
 -- the number of a range or of a device in its part; 0 for the part itself
-abbrev pub place_item : Place → ℕ
+abbrev pub place_item : TomlPath → ℕ
 place_item (Ram n) = n
 place_item (Device n) = n
 place_item _ = 0
@@ -93,23 +93,23 @@ pub data IsFirstBreach (document : Members) : Breach → Type 0 where
       → IsFirstBreach document breach
 
 -- the table of a place breaks nothing that is looked for at a step before this one
-abbrev pub BreaksNoneBelow : Members → Place → ℕ → Type 0
+abbrev pub BreaksNoneBelow : Members → TomlPath → ℕ → Type 0
 BreaksNoneBelow fields place step = (other : Breach) → Breaks fields place other
     → step_of other < step → ⊥
 
 -- the same of what stands at a place
-abbrev pub BreaksNoneBelowAt : Data → Place → ℕ → Type 0
+abbrev pub BreaksNoneBelowAt : Data → TomlPath → ℕ → Type 0
 BreaksNoneBelowAt value place step = (other : Breach) → BreaksAt value place other
     → step_of other < step → ⊥
 
 -- no item of an array breaks anything
-abbrev pub BreaksNoItem : Items → (ℕ → Place) → Type 0
+abbrev pub BreaksNoItem : Items → (ℕ → TomlPath) → Type 0
 BreaksNoItem items place = (i : ℕ) (value : Data) (other : Breach) → get_item i items ≡ Some value
     → BreaksAt value (place (i + 1)) other → ⊥
 
 -- no item of an array breaks anything that is looked for before a step of the item of this number,
 -- counted from 1
-abbrev pub BreaksNoItemBefore : Items → (ℕ → Place) → ℕ → ℕ → Type 0
+abbrev pub BreaksNoItemBefore : Items → (ℕ → TomlPath) → ℕ → ℕ → Type 0
 BreaksNoItemBefore items place item step =
     (i : ℕ) (value : Data) (other : Breach) → get_item i items ≡ Some value
     → BreaksAt value (place (i + 1)) other → (i + 1 < item)

@@ -5,11 +5,11 @@ use Rattle.std.specs.List.{All}
 use Rattle.pmp_encoding.specs.declared.perm.Perm.{Perm}
 use Rattle.platforms.specs.Ranges.{AreRangesApart, device_range}
 use Rattle.file_lints.specs.declared.breach.PlacedRange.{PlacedRange}
-use Rattle.file_lints.specs.declared.breach.Place.{Place}
-use Rattle.file_lints.specs.declared.breach.Place.TheVariants.{Ram, Device}
+use Rattle.file_lints.specs.declared.breach.TomlPath.{TomlPath}
+use Rattle.file_lints.specs.declared.breach.TomlPath.TheVariants.{Ram, Device}
 
 -- ranges with their places, the first of which has this number
-abbrev pub placed_from : (ℕ → Place) → ℕ → List (ℕ × ℕ) → List PlacedRange
+abbrev pub placed_from : (ℕ → TomlPath) → ℕ → List (ℕ × ℕ) → List PlacedRange
 placed_from place n [] = []
 placed_from place n (range ∷ ranges) = record { place = place n; bounds = range }
     ∷ placed_from place (n + 1) ranges

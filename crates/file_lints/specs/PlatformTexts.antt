@@ -5,8 +5,8 @@ use Rattle.platforms.specs.declared.platform.PlatformFault.TheVariants.{BadRange
 use Rattle.platforms.specs.declared.platform.PlatformFault.TheVariants.{MonitorNotRam, BadNumber}
 use Rattle.platforms.specs.declared.platform.PlatformFault.TheVariants.{BadHarts, BadEntries}
 use Rattle.file_lints.specs.Breaches.{key_name}
-use Rattle.file_lints.specs.declared.breach.Place.{Place}
-use Rattle.file_lints.specs.declared.breach.Place.TheVariants.{File, Monitor, Ram, Device}
+use Rattle.file_lints.specs.declared.breach.TomlPath.{TomlPath}
+use Rattle.file_lints.specs.declared.breach.TomlPath.TheVariants.{File, Monitor, Ram, Device}
 use Rattle.file_lints.specs.declared.breach.Breach.{Breach}
 use Rattle.file_lints.specs.declared.breach.Breach.TheVariants.{Unknown, Missing, NoNumber, NoPages}
 use Rattle.file_lints.specs.declared.breach.Breach.TheVariants.{NoPerm, NoTable, NoTables, Rule}
@@ -15,21 +15,21 @@ use Rattle.file_lints.specs.declared.breach.PlacedRange.{PlacedRange}
 use Rattle.lint_texts.specs.Pieces.{address_text}
 
 -- the table that is spoken of: nothing for the file's own
-abbrev pub place_text : Place → List ℕ
+abbrev pub place_text : TomlPath → List ℕ
 place_text File = []
 place_text Monitor = codes "monitor: "
 place_text (Ram n) = codes "ram " ++ (decimal n ++ codes ": ")
 place_text (Device n) = codes "device " ++ (decimal n ++ codes ": ")
 
 -- what is said after a key that it may not have: those that it may have
-abbrev pub keys_text : Place → List ℕ
+abbrev pub keys_text : TomlPath → List ℕ
 keys_text File = codes "'; the keys are monitor, ram, device, harts and entries"
 keys_text Monitor = codes "'; the keys are base and size"
 keys_text (Ram n) = codes "'; the keys are base and size"
 keys_text (Device n) = codes "'; the keys are base, size and perm"
 
 -- what is said where it is no table
-abbrev pub table_text : Place → List ℕ
+abbrev pub table_text : TomlPath → List ℕ
 table_text File = codes "this is no table of base and size"
 table_text Monitor = codes "this is no table of base and size"
 table_text (Ram n) = codes "this is no table of base and size"
@@ -46,7 +46,7 @@ rule_text BadHarts = codes "harts is 1, 2, 3 or 4"
 rule_text BadEntries = codes "entries is 16 or 64"
 
 -- the table that is spoken of, and what is said of one of its keys
-abbrev pub about : Place → List ℕ → List ℕ → List ℕ → List ℕ
+abbrev pub about : TomlPath → List ℕ → List ℕ → List ℕ → List ℕ
 about place before key after = place_text place ++ (before ++ (key ++ after))
 
 -- a range: its table, its base and its size

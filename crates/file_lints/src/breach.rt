@@ -46,7 +46,7 @@ impl Key {
 
 /// A table of a platform file.
 #[derive(Clone, Copy)]
-pub enum Place {
+pub enum TomlPath {
     /// The file's own.
     File,
     /// That of the monitor's range.
@@ -60,7 +60,7 @@ pub enum Place {
 /// A range of memory or of a device: its table, and its base and its size, in bytes.
 #[derive(Clone, Copy)]
 pub struct PlacedRange {
-    pub place: Place,
+    pub place: TomlPath,
     pub bounds: (u64, u64),
 }
 
@@ -68,17 +68,17 @@ pub struct PlacedRange {
 #[derive(Clone, Copy)]
 pub enum Breach<'a> {
     /// The table may not have this key.
-    Unknown(Place, &'a str),
+    Unknown(TomlPath, &'a str),
     /// The table needs this key.
-    Missing(Place, Key),
+    Missing(TomlPath, Key),
     /// The value of the key is no whole number from 0.
-    NoNumber(Place, Key),
+    NoNumber(TomlPath, Key),
     /// The range is not of whole pages, at least one, below 2^56.
-    NoPages(Place),
+    NoPages(TomlPath),
     /// The permission of a device is none of the six.
-    NoPerm(Place),
+    NoPerm(TomlPath),
     /// What is at this place is not a table.
-    NoTable(Place),
+    NoTable(TomlPath),
     /// The value of the key is no array of tables.
     NoTables(Key),
     /// The first of these ranges has a page in common with the second, which comes before it.

@@ -10,14 +10,14 @@ ghost use Rattle.file_lints.specs.Breaches.{key_name, keys_of, numbers_of, Break
 ghost use Rattle.file_lints.specs.Order.{file_part, item_of, part_of, step_of, BreaksNoItem, BreaksNoItemBefore, BreaksNoneBelowAt, BreaksNoneOf, IsFirstBreach, IsFirstOf};
 ghost use Rattle.file_lints.specs.declared.breach.Breach.{Breach};
 
-use crate::breach::{Breach, Key, Place};
+use crate::breach::{Breach, Key, TomlPath};
 use crate::ranges::{device_breach, range_breach};
 use platform_file::{number, unknown_key, value_at};
 use toml::{Table, Value};
 
 /// What a value breaks that should be the table of a range.
-fn range_breach_at<'a>(value: &'a Value, place: Place) -> Option<Breach<'a>>
-    requires { keys_of place ≡ keys_of Place.Monitor }
+fn range_breach_at<'a>(value: &'a Value, place: TomlPath) -> Option<Breach<'a>>
+    requires { keys_of place ≡ keys_of TomlPath.Monitor }
     ensures some { IfSome result (BreaksAt (view value.now) place) }
     ensures first { IfSome result (λ breach.
         BreaksNoneBelowAt (view value.now) place (step_of breach)) }
@@ -32,8 +32,8 @@ fn range_breach_at<'a>(value: &'a Value, place: Place) -> Option<Breach<'a>>
 }
 
 /// What a value breaks that should be the table of a device.
-fn device_breach_at<'a>(value: &'a Value, place: Place) -> Option<Breach<'a>>
-    requires { keys_of place ≡ keys_of (Place.Device 1) }
+fn device_breach_at<'a>(value: &'a Value, place: TomlPath) -> Option<Breach<'a>>
+    requires { keys_of place ≡ keys_of (TomlPath.Device 1) }
     ensures some { IfSome result (BreaksAt (view value.now) place) }
     ensures first { IfSome result (λ breach.
         BreaksNoneBelowAt (view value.now) place (step_of breach)) }
@@ -49,16 +49,16 @@ fn device_breach_at<'a>(value: &'a Value, place: Place) -> Option<Breach<'a>>
 
 /// What the first of these values breaks that breaks something, where each should be the table of a range of memory.
 fn ram_breach<'a>(values: &'a [Value]) -> Option<Breach<'a>>
-    ensures some { IfSome result (BreaksItem (items_view values.now) Place.Ram) }
+    ensures some { IfSome result (BreaksItem (items_view values.now) TomlPath.Ram) }
     ensures first { IfSome result (λ breach.
-        BreaksNoItemBefore (items_view values.now) Place.Ram (item_of breach)
+        BreaksNoItemBefore (items_view values.now) TomlPath.Ram (item_of breach)
         (step_of breach)) }
-    ensures clear { result ≡ None → BreaksNoItem (items_view values.now) Place.Ram }
+    ensures clear { result ≡ None → BreaksNoItem (items_view values.now) TomlPath.Ram }
     ensures none { result ≡ None → (ranges : List (ℕ × ℕ))
         × (each range_of (items_view values.now) ≡ Some ranges) }
 {
     for (i, value) in values.iter().enumerate() {
-        if let Some(breach) = range_breach_at(value, Place::Ram(i as u64 + 1)) {
+        if let Some(breach) = range_breach_at(value, TomlPath::Ram(i as u64 + 1)) {
             return Some(breach);
         }
     }
@@ -67,16 +67,16 @@ fn ram_breach<'a>(values: &'a [Value]) -> Option<Breach<'a>>
 
 /// What the first of these values breaks that breaks something, where each should be the table of a device.
 fn devices_breach<'a>(values: &'a [Value]) -> Option<Breach<'a>>
-    ensures some { IfSome result (BreaksItem (items_view values.now) Place.Device) }
+    ensures some { IfSome result (BreaksItem (items_view values.now) TomlPath.Device) }
     ensures first { IfSome result (λ breach.
-        BreaksNoItemBefore (items_view values.now) Place.Device (item_of breach)
+        BreaksNoItemBefore (items_view values.now) TomlPath.Device (item_of breach)
         (step_of breach)) }
-    ensures clear { result ≡ None → BreaksNoItem (items_view values.now) Place.Device }
+    ensures clear { result ≡ None → BreaksNoItem (items_view values.now) TomlPath.Device }
     ensures none { result ≡ None → (devices : List (ℕ × ℕ × Perm))
         × (each device_of (items_view values.now) ≡ Some devices) }
 {
     for (i, value) in values.iter().enumerate() {
-        if let Some(breach) = device_breach_at(value, Place::Device(i as u64 + 1)) {
+        if let Some(breach) = device_breach_at(value, TomlPath::Device(i as u64 + 1)) {
             return Some(breach);
         }
     }
@@ -92,8 +92,8 @@ fn monitor_breach<'a>(document: &'a Table) -> Option<Breach<'a>>
         → (range : ℕ × ℕ) × (monitor_at (table_view document.now) ≡ Some range) }
 {
     match value_at(document, "monitor") {
-        None => Some(Breach::Missing(Place::File, Key::Monitor)),
-        Some(value) => range_breach_at(value, Place::Monitor),
+        None => Some(Breach::Missing(TomlPath::File, Key::Monitor)),
+        Some(value) => range_breach_at(value, TomlPath::Monitor),
     }
 }
 
@@ -106,7 +106,7 @@ fn memory_breach<'a>(document: &'a Table) -> Option<Breach<'a>>
         → (ranges : List (ℕ × ℕ)) × (ram_at (table_view document.now) ≡ Some ranges) }
 {
     let Some(value) = value_at(document, "ram") else {
-        return Some(Breach::Missing(Place::File, Key::Ram));
+        return Some(Breach::Missing(TomlPath::File, Key::Ram));
     };
     match value.as_array() {
         None => Some(Breach::NoTables(Key::Ram)),
@@ -133,11 +133,11 @@ fn device_list_breach<'a>(document: &'a Table) -> Option<Breach<'a>>
 
 /// What a number of the file breaks that may be left out.
 fn count_breach<'a>(document: &'a Table, key: Key) -> Option<Breach<'a>>
-    ensures some { is_known (key_name key) (numbers_of Place.File) ≡ true
+    ensures some { is_known (key_name key) (numbers_of TomlPath.File) ≡ true
         → IfSome result (IsBreach (table_view document.now)) }
-    ensures first { is_known (key_name key) (numbers_of Place.File) ≡ true
+    ensures first { is_known (key_name key) (numbers_of TomlPath.File) ≡ true
         → IfSome result (IsFirstOf (table_view document.now) (file_part key)) }
-    ensures clear { is_known (key_name key) (numbers_of Place.File) ≡ true
+    ensures clear { is_known (key_name key) (numbers_of TomlPath.File) ≡ true
         → result ≡ None
         → BreaksNoneOf (table_view document.now) (file_part key) }
     ensures none { result ≡ None → (usual : ℕ)
@@ -148,7 +148,7 @@ fn count_breach<'a>(document: &'a Table, key: Key) -> Option<Breach<'a>>
     };
     match number(value) {
         Some(_) => None,
-        None => Some(Breach::NoNumber(Place::File, key)),
+        None => Some(Breach::NoNumber(TomlPath::File, key)),
     }
 }
 
@@ -161,7 +161,7 @@ pub(crate) fn form_breach<'a>(document: &'a Table) -> Option<Breach<'a>>
     ensures none { result ≡ None → HasForm (table_view document.now) }
 {
     if let Some(key) = unknown_key(document, &["monitor", "ram", "device", "harts", "entries"]) {
-        return Some(Breach::Unknown(Place::File, key));
+        return Some(Breach::Unknown(TomlPath::File, key));
     }
     if let Some(breach) = monitor_breach(document) {
         return Some(breach);

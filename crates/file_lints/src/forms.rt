@@ -7,9 +7,8 @@ ghost use Rattle.text_lines.specs.Numbers.{number_of};
 ghost use Rattle.hart_trace.specs.Events.{has_leading_zero, mode_of, register_of};
 ghost use Rattle.file_lints.specs.Forms.{fits, may_end, size_fits, slots_of};
 
-use crate::keywords::is_text;
 use pmp_match::Kind;
-use text_lines::{number, numeral};
+use text_lines::{is_text, number, numeral};
 
 /// What an event is.
 #[derive(Clone, Copy)]

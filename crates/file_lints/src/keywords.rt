@@ -5,13 +5,7 @@ ghost use Rattle.file_lints.specs.Forms.{kind_of};
 ghost use Rattle.file_lints.specs.Keywords.{begins_alike, is_near, keyword, lower, near_kind, one_letter_off};
 
 use crate::forms::EventKind;
-
-/// Whether a word is this text.
-pub(crate) fn is_text(word: &[u8], text: &[u8]) -> bool
-    ensures { result ≡ bytes_eq word.now text.now }
-{
-    word == text
-}
+use text_lines::is_text;
 
 /// The event that a word begins.
 pub(crate) fn kind_of(word: &[u8]) -> Option<EventKind>

@@ -31,7 +31,7 @@ mod taker;
 mod texts;
 mod trace_lints;
 
-pub use breach::{Breach, Key, Place, PlacedRange};
+pub use breach::{Breach, Key, PlacedRange, TomlPath};
 pub use lint_texts::LintFault;
 pub use platform_lints::lint_platform;
 pub use taker::Taker;

@@ -6,7 +6,7 @@ ghost use Rattle.platforms.specs.Ranges.{AreRangesApart, EachApart};
 ghost use Rattle.file_lints.specs.Overlaps.{IsOverlap, placed_ranges};
 ghost use Rattle.file_lints.specs.declared.breach.PlacedRange.{PlacedRange};
 
-use crate::breach::{Place, PlacedRange};
+use crate::breach::{PlacedRange, TomlPath};
 use pmp_encoding::{PageRange, Perm};
 use std::alloc::{AllocError, Global};
 
@@ -59,13 +59,13 @@ pub(crate) fn placed_ranges(
     let mut all = Vec::new(alloc);
     for (i, range) in ram.iter().enumerate() {
         all.push(PlacedRange {
-            place: Place::Ram(i as u64 + 1),
+            place: TomlPath::Ram(i as u64 + 1),
             bounds: *range,
         })?;
     }
     for (i, device) in devices.iter().enumerate() {
         all.push(PlacedRange {
-            place: Place::Device(i as u64 + 1),
+            place: TomlPath::Device(i as u64 + 1),
             bounds: (device.0, device.1),
         })?;
     }

@@ -8,13 +8,13 @@ ghost use Rattle.platform_file.specs.Document.{device_of, has_only, is_known, nu
 ghost use Rattle.file_lints.specs.Breaches.{key_name, keys_of, needed_of, numbers_of, Breaks};
 ghost use Rattle.file_lints.specs.Order.{key_step, step_of, BreaksNoneBelow};
 
-use crate::breach::{Breach, Key, Place};
+use crate::breach::{Breach, Key, TomlPath};
 use platform_file::{number, perm_of, range_in, unknown_key, value_at};
 use pmp_encoding::{PAGE_SIZE, SPACE_SIZE};
 use toml::Table;
 
 /// What is wrong with the number at a key.
-fn number_breach<'a>(table: &'a Table, place: Place, key: Key) -> Option<Breach<'a>>
+fn number_breach<'a>(table: &'a Table, place: TomlPath, key: Key) -> Option<Breach<'a>>
     ensures some { is_known (key_name key) (needed_of place) ≡ true
         → is_known (key_name key) (numbers_of place) ≡ true
         → IfSome result (Breaks (table_view table.now) place) }
@@ -32,7 +32,7 @@ fn number_breach<'a>(table: &'a Table, place: Place, key: Key) -> Option<Breach<
 }
 
 /// What is wrong with the permission of a device.
-fn perm_breach<'a>(table: &'a Table, place: Place) -> Option<Breach<'a>>
+fn perm_breach<'a>(table: &'a Table, place: TomlPath) -> Option<Breach<'a>>
     ensures some { is_known (codes "perm") (needed_of place) ≡ true
         → IfSome result (Breaks (table_view table.now) place) }
     ensures step { IfSome result (λ breach. step_of breach ≡ 4) }
@@ -57,8 +57,8 @@ fn is_range(base: u64, size: u64) -> bool
 }
 
 /// What is wrong with the base and the size of a table.
-fn numbers_breach<'a>(table: &'a Table, place: Place) -> Option<Breach<'a>>
-    ensures some { place ≢ Place.File → IfSome result (Breaks (table_view table.now) place) }
+fn numbers_breach<'a>(table: &'a Table, place: TomlPath) -> Option<Breach<'a>>
+    ensures some { place ≢ TomlPath.File → IfSome result (Breaks (table_view table.now) place) }
     ensures first { BreaksNoneBelow (table_view table.now) place 1
         → IfSome result (λ breach.
         BreaksNoneBelow (table_view table.now) place (step_of breach)) }
@@ -84,8 +84,8 @@ fn numbers_breach<'a>(table: &'a Table, place: Place) -> Option<Breach<'a>>
 }
 
 /// What the table of the monitor, or of a range of memory, breaks.
-pub(crate) fn range_breach<'a>(table: &'a Table, place: Place) -> Option<Breach<'a>>
-    requires { keys_of place ≡ keys_of Place.Monitor }
+pub(crate) fn range_breach<'a>(table: &'a Table, place: TomlPath) -> Option<Breach<'a>>
+    requires { keys_of place ≡ keys_of TomlPath.Monitor }
     ensures some { IfSome result (Breaks (table_view table.now) place) }
     ensures first { IfSome result (λ breach.
         BreaksNoneBelow (table_view table.now) place (step_of breach)) }
@@ -100,8 +100,8 @@ pub(crate) fn range_breach<'a>(table: &'a Table, place: Place) -> Option<Breach<
 }
 
 /// What the table of a device breaks.
-pub(crate) fn device_breach<'a>(table: &'a Table, place: Place) -> Option<Breach<'a>>
-    requires { keys_of place ≡ keys_of (Place.Device 1) }
+pub(crate) fn device_breach<'a>(table: &'a Table, place: TomlPath) -> Option<Breach<'a>>
+    requires { keys_of place ≡ keys_of (TomlPath.Device 1) }
     ensures some { IfSome result (Breaks (table_view table.now) place) }
     ensures first { IfSome result (λ breach.
         BreaksNoneBelow (table_view table.now) place (step_of breach)) }

@@ -8,7 +8,7 @@ ghost use Rattle.text_lines.specs.Numbers.{number_of};
 ghost use Rattle.lint_texts.specs.Pieces.{quoted};
 
 use crate::forms::{EventKind, Slot};
-use crate::keywords::{is_text, keyword, near_kind};
+use crate::keywords::{keyword, near_kind};
 use crate::reason::{Finding, Reason};
 use crate::registers::meant_register;
 use lint_texts::{
@@ -16,7 +16,7 @@ use lint_texts::{
 };
 use pmp_match::Kind;
 use std::alloc::AllocError;
-use text_lines::number;
+use text_lines::{is_text, number};
 
 /// The form of an event.
 fn form_text(kind: EventKind) -> &'static str

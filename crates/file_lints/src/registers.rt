@@ -3,8 +3,7 @@
 ghost use Rattle.std.specs.Prelude.{◌≡◌, ◌<◌, IfSome, bytes_eq};
 ghost use Rattle.file_lints.specs.Registers.{meant_register, named_register, numbered_register};
 
-use crate::keywords::is_text;
-use text_lines::numeral;
+use text_lines::{is_text, numeral};
 
 /// The register that a letter and a number mean, as `a0`.
 fn numbered_register(letter: u8, n: u64) -> Option<u64>

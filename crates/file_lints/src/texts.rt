@@ -3,7 +3,7 @@
 ghost use Rattle.std.specs.Prelude.{◌≡◌, ◌++◌, OnOk, codes, decimal};
 ghost use Rattle.file_lints.specs.PlatformTexts.{about, breach_text, keys_text, place_text, range_text, rule_text, table_text};
 
-use crate::breach::{Breach, Place, PlacedRange};
+use crate::breach::{Breach, PlacedRange, TomlPath};
 use lint_texts::{push, push_address, push_number};
 use platforms::PlatformFault;
 use std::alloc::AllocError;
@@ -30,35 +30,36 @@ fn push_numbered(text: &mut Vec<u8>, name: &str, number: u64) -> Result<(), Allo
 }
 
 /// Appends the table that is spoken of: nothing for the file's own.
-fn push_place(text: &mut Vec<u8>, place: Place) -> Result<(), AllocError>
+fn push_place(text: &mut Vec<u8>, place: TomlPath) -> Result<(), AllocError>
     ensures { OnOk result (text.new.items ≡ text.old.items ++ place_text place) }
 {
     match place {
-        Place::File => Ok(()),
-        Place::Monitor => push(text, "monitor: "),
-        Place::Ram(n) => push_numbered(text, "ram ", n),
-        Place::Device(n) => push_numbered(text, "device ", n),
+        TomlPath::File => Ok(()),
+        TomlPath::Monitor => push(text, "monitor: "),
+        TomlPath::Ram(n) => push_numbered(text, "ram ", n),
+        TomlPath::Device(n) => push_numbered(text, "device ", n),
     }
 }
 
 /// What is said after a key that a table may not have: those that it may have.
-fn keys_text(place: Place) -> &'static str
+fn keys_text(place: TomlPath) -> &'static str
     ensures { result.now ≡ keys_text place }
 {
     match place {
-        Place::File => "'; the keys are monitor, ram, device, harts and entries",
-        Place::Monitor | Place::Ram(_) => "'; the keys are base and size",
-        Place::Device(_) => "'; the keys are base, size and perm",
+        TomlPath::File => "'; the keys are monitor, ram, device, harts and entries",
+        TomlPath::Monitor | TomlPath::Ram(_) => "'; the keys are base and size",
+        TomlPath::Device(_) => "'; the keys are base, size and perm",
     }
 }
 
 /// What is said of a value that is no table.
-fn table_text(place: Place) -> &'static str
+fn table_text(place: TomlPath) -> &'static str
     ensures { result.now ≡ table_text place }
 {
     match place {
-        Place::File | Place::Monitor | Place::Ram(_) => "this is no table of base and size",
-        Place::Device(_) => "this is no table of base, size and perm",
+        TomlPath::File | TomlPath::Monitor | TomlPath::Ram(_) =>
+            "this is no table of base and size",
+        TomlPath::Device(_) => "this is no table of base, size and perm",
     }
 }
 
@@ -78,7 +79,7 @@ fn rule_text(fault: PlatformFault) -> &'static str
 }
 
 /// Appends the table that is spoken of, and what is said of it.
-fn push_said(text: &mut Vec<u8>, place: Place, said: &str) -> Result<(), AllocError>
+fn push_said(text: &mut Vec<u8>, place: TomlPath, said: &str) -> Result<(), AllocError>
     ensures { OnOk result (text.new.items
         ≡ text.old.items ++ (place_text place ++ said.now)) }
 {
@@ -89,7 +90,7 @@ fn push_said(text: &mut Vec<u8>, place: Place, said: &str) -> Result<(), AllocEr
 /// Appends the table that is spoken of, and what is said of one of its keys.
 fn push_about(
     text: &mut Vec<u8>,
-    place: Place,
+    place: TomlPath,
     before: &str,
     key: &str,
     after: &str,
@@ -150,7 +151,7 @@ pub(crate) fn push_breach(text: &mut Vec<u8>, breach: Breach<'_>) -> Result<(), 
         Breach::NoPages(place) => push_said(text, place, PAGES),
         Breach::NoPerm(place) => push_said(text, place, PERMS),
         Breach::NoTable(place) => push_said(text, place, table_text(place)),
-        Breach::NoTables(key) => push_about(text, Place::File, "", key.name(), ARRAY),
+        Breach::NoTables(key) => push_about(text, TomlPath::File, "", key.name(), ARRAY),
         Breach::Overlap(one, other) => push_overlap(text, one, other),
         Breach::Rule(fault) => push(text, rule_text(fault)),
     }

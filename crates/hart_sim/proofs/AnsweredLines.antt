@@ -1,8 +1,8 @@
 -- What comes of a line whose event happened.
 use Rattle.std.proofs.Common.{◌≡◌, ◌≢◌, ℕ, ◌+◌, ◌<◌, ◌++◌, List, Bool, true, false, Some, Result, Ok, Err, decimal}
 use Rattle.std.specs.Prelude.{IfOk, IfErr}
-use Rattle.text_lines.specs.declared.line_loop.Refusal.{Refusal}
-use Rattle.text_lines.specs.declared.line_loop.Refusal.TheVariants.{Memory, NotUnderstood}
+use Rattle.text_lines.specs.declared.line_loop.LineRefusal.{LineRefusal}
+use Rattle.text_lines.specs.declared.line_loop.LineRefusal.TheVariants.{Memory, NotUnderstood}
 use Rattle.text_lines.specs.LineLoop.{Comes}
 use Rattle.hart_trace.specs.declared.event.Event.{Event}
 use Rattle.hart_trace.specs.Events.{meaning_of}
@@ -22,7 +22,7 @@ Replied old hart event new behind = (reply : Reply) × Happens old hart event re
     × ((n : ℕ) → decimal n ++ behind ≡ reply_text n reply)
 
 pub comes :
-    (old new : Machine) (harts hart count : ℕ) (line behind : List ℕ) (event : Event) (r : Result Bool Refusal) → harts ≡ (state_of old).table.layout.harts
+    (old new : Machine) (harts hart count : ℕ) (line behind : List ℕ) (event : Event) (r : Result Bool LineRefusal) → harts ≡ (state_of old).table.layout.harts
     → meaning_of harts line ≡ Some (Some (hart, event))
     → IfOk r (λ answered. answered ≡ true) → IfOk r (λ _. Replied old hart event new behind) → IfErr r (λ refusal. refusal ≡ Memory)
     → IfErr r (λ _. Happens old hart event NoMemory new)

@@ -24,7 +24,7 @@ impl MachineParts {
 
     /// The reply to a call with this answer.
     #[inline(always)]
-    pub(crate) fn told(&self, hart: u8, answer: Answer) -> Reply
+    pub(crate) fn reply_to_call(&self, hart: u8, answer: Answer) -> Reply
         requires { hart < 4 }
         ensures { RepliesWith (replies.Call answer.status answer.value) (state_in self.now) hart
             result }
@@ -40,7 +40,7 @@ impl MachineParts {
     }
 
     /// The reply to an interrupt.
-    pub(crate) fn told_of_irq(&self, hart: u8) -> Reply
+    pub(crate) fn reply_to_interrupt(&self, hart: u8) -> Reply
         requires { hart < 4 }
         ensures { RepliesWith replies.Irq (state_in self.now) hart result }
     {

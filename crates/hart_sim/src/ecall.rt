@@ -71,7 +71,7 @@ impl MachineParts {
             (with_running (core_of s) hart file) hart) s hart result (state_in self.new) }
     {
         let answer = self.serve(hart, words);
-        self.told(hart, answer)
+        self.reply_to_call(hart, answer)
     }
 
     /// A call on a hart, which loads the host's entries first where it is marked. Its words are lent.
@@ -97,6 +97,6 @@ impl MachineParts {
     {
         let load = self.monitor.interrupt(hart);
         self.load_where(hart, load);
-        self.told_of_irq(hart)
+        self.reply_to_interrupt(hart)
     }
 }

@@ -15,7 +15,7 @@ use byte_streams::{Sink, Source};
 use hart_trace::{
     Event, access_ahead, call_ahead, interrupt_ahead, parse_line, push_reply, setting_ahead,
 };
-use text_lines::{Interpreter, Line, NotUnderstood, Refusal, RunFault, interpret_lines};
+use text_lines::{Interpreter, Line, LineRefusal, NotUnderstood, RunFault, interpret_lines};
 
 impl Machine {
     ghost use Rattle.std.specs.Prelude.{◌≡◌, ◌≢◌, ◌<◌, [], ◌++◌, true, IfOk, IfErr, IfSome, ℕ, decimal};
@@ -43,7 +43,7 @@ impl Machine {
 
     /// An event happens on a hart, and what follows the number in its reply is written. It is refused where it wants memory that is.
     #[inline(always)]
-    fn answer(&mut self, hart: u8, event: Event, answer: &mut Line) -> Result<bool, Refusal>
+    fn answer(&mut self, hart: u8, event: Event, answer: &mut Line) -> Result<bool, LineRefusal>
         requires hart { hart < (state_of self.old).table.layout.harts }
         requires event { IsEvent event }
         requires empty { answer.old ≡ [] }
@@ -53,14 +53,14 @@ impl Machine {
             (reply : Reply) × Happens self.old hart event reply self.new
             × (reply ≢ NoMemory)
             × ((n : ℕ) → decimal n ++ answer.new ≡ reply_text n reply)) }
-        ensures refusal { IfErr result (λ refusal. refusal ≡ Refusal.Memory) }
+        ensures refusal { IfErr result (λ refusal. refusal ≡ LineRefusal.Memory) }
         ensures starved { KeepsBanksRight self.old
             → IfErr result (λ _. Happens self.old hart event NoMemory self.new) }
         ensures kept { KeepsBanksRight self.old → KeepsBanksRight self.new }
     {
         let reply = self.step(hart, event);
         if reply.wants_memory() {
-            return Err(Refusal::Memory);
+            return Err(LineRefusal::Memory);
         }
         push_reply(answer, &reply);
         Ok(true)
@@ -73,7 +73,7 @@ impl Machine {
         hart: u8,
         words: &ArrayVec<u64, 8>,
         answer: &mut Line,
-    ) -> Result<bool, Refusal>
+    ) -> Result<bool, LineRefusal>
         requires hart { hart < (state_of self.old).table.layout.harts }
         requires empty { answer.old ≡ [] }
         ensures answered { IfOk result (λ answered. answered ≡ true) }
@@ -82,14 +82,14 @@ impl Machine {
             (reply : Reply) × Happens self.old hart (Event.Ecall words.now) reply self.new
             × (reply ≢ NoMemory)
             × ((n : ℕ) → decimal n ++ answer.new ≡ reply_text n reply)) }
-        ensures refusal { IfErr result (λ refusal. refusal ≡ Refusal.Memory) }
+        ensures refusal { IfErr result (λ refusal. refusal ≡ LineRefusal.Memory) }
         ensures starved { KeepsBanksRight self.old
             → IfErr result (λ _. Happens self.old hart (Event.Ecall words.now) NoMemory self.new) }
         ensures kept { KeepsBanksRight self.old → KeepsBanksRight self.new }
     {
         let reply = self.call(hart, words);
         if reply.wants_memory() {
-            return Err(Refusal::Memory);
+            return Err(LineRefusal::Memory);
         }
         push_reply(answer, &reply);
         Ok(true)
@@ -106,9 +106,14 @@ impl Interpreter for Machine {
     ghost keeps = { KeepsBanksRight };
 
     #[inline(always)]
-    fn interpret(&mut self, line: &[u8], count: u64, answer: &mut Line) -> Result<bool, Refusal> {
+    fn interpret(
+        &mut self,
+        line: &[u8],
+        count: u64,
+        answer: &mut Line,
+    ) -> Result<bool, LineRefusal> {
         let Ok(said) = self.event_in(line) else {
-            return Err(Refusal::NotUnderstood);
+            return Err(LineRefusal::NotUnderstood);
         };
         let Some((hart, event)) = said else {
             return Ok(false);
@@ -122,7 +127,7 @@ impl Interpreter for Machine {
         ahead: &[u8],
         count: u64,
         answer: &mut Line,
-    ) -> Option<(usize, Result<bool, Refusal>)> {
+    ) -> Option<(usize, Result<bool, LineRefusal>)> {
         let harts = self.harts();
         if let Some((hart, access, value, len)) = access_ahead(ahead, harts) {
             let event = Event::Access(access, value);

@@ -11,7 +11,7 @@ use crate::{Event, access_ahead, is_wordless, parse_by_words, spaced_access};
 use byte_streams::{Sink, Source};
 use pmp_encoding::Bank;
 use pmp_match::{Access, Segments};
-use text_lines::{Interpreter, Line, NotUnderstood, Refusal, RunFault, interpret_lines};
+use text_lines::{Interpreter, Line, LineRefusal, NotUnderstood, RunFault, interpret_lines};
 
 /// The same access, field by field. As a whole it would be read in one piece while its fields, written just before, are on
 /// their way to memory, and the processor would wait for them.
@@ -65,9 +65,14 @@ impl<J: AccessJudge> Interpreter for LineJudge<'_, J> {
 
     ghost keeps = { λ now. Unit {0} };
 
-    fn interpret(&mut self, line: &[u8], count: u64, answer: &mut Line) -> Result<bool, Refusal> {
+    fn interpret(
+        &mut self,
+        line: &[u8],
+        count: u64,
+        answer: &mut Line,
+    ) -> Result<bool, LineRefusal> {
         let Ok(found) = access_in(line) else {
-            return Err(Refusal::NotUnderstood);
+            return Err(LineRefusal::NotUnderstood);
         };
         let Some(access) = found else {
             return Ok(false);
@@ -82,7 +87,7 @@ impl<J: AccessJudge> Interpreter for LineJudge<'_, J> {
         ahead: &[u8],
         count: u64,
         answer: &mut Line,
-    ) -> Option<(usize, Result<bool, Refusal>)> {
+    ) -> Option<(usize, Result<bool, LineRefusal>)> {
         let (_, found, _, len) = access_ahead(ahead, 0)?;
         let access = taken_apart(found);
         push_answer(answer, self.by.outcome(&access));

@@ -12,7 +12,7 @@ use crate::plain::hart_in;
 use crate::spaced::{is_wordless, spaced_access};
 use arrayvec::ArrayVec;
 use pmp_match::{Access, Kind, Mode};
-use text_lines::{NotUnderstood, Words, number, numeral};
+use text_lines::{NotUnderstood, Words, is_text, number, numeral};
 
 fn mode_of(word: &[u8]) -> Option<Mode>
     ensures { result ≡ mode_of word.now }
@@ -144,12 +144,6 @@ fn interrupt_of(mut words: Words<'_>) -> Option<Event>
         None => Some(Event::Irq),
         Some(_) => None,
     }
-}
-
-fn is_text(word: &[u8], text: &[u8]) -> bool
-    ensures { result ≡ bytes_eq word.now text.now }
-{
-    word == text
 }
 
 fn event_of(mut words: Words<'_>) -> Option<Event>

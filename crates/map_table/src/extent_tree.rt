@@ -23,7 +23,7 @@ fn hull_of(number: usize, extent: &Extent) -> Hull
 }
 
 /// What each extent has. The only error is out of memory.
-fn numbered(alloc: Global, extents: &[Extent]) -> Result<Vec<Hull>, Memory>
+fn number_extents(alloc: Global, extents: &[Extent]) -> Result<Vec<Hull>, Memory>
     ensures { IfOk result (λ all. all.items ≡ numbered 0 extents.now) }
 {
     let mut all = Vec::with_capacity(alloc, extents.len())?;
@@ -37,7 +37,7 @@ fn numbered(alloc: Global, extents: &[Extent]) -> Result<Vec<Hull>, Memory>
 fn leaves_of(alloc: Global, extents: &[Extent]) -> Result<Vec<Hull>, Memory>
     ensures { IfOk result (λ leaves. IsPermutation (numbered 0 extents.now) leaves.items) }
 {
-    let mut leaves = numbered(alloc, extents)?;
+    let mut leaves = number_extents(alloc, extents)?;
     leaves.sort_unstable_by_key(|leaf| leaf.base);
     Ok(leaves)
 }

@@ -20,7 +20,7 @@ use std::io::Write;
 
 /// Hands on the last of the output of a task of that status, and answers the program's status and the stream: 3 where that
 /// was refused with no trouble reported before. The stream has a front of it in any case.
-pub fn closed<T: Write + Drop, E: Sink>(status: u8, out: HeldSink<T>, err: &mut E) -> (u8, T)
+pub fn close_output<T: Write + Drop, E: Sink>(status: u8, out: HeldSink<T>, err: &mut E) -> (u8, T)
     ensures { IsClosed (held_in out) (T.contents (writer_of out)) (T.contents result.1)
         (err.new ≡ err.old)
         (Tells (writing E.contents E.failures E.stalls err.old err.new) (Err Output)) status
@@ -57,5 +57,5 @@ pub fn perform_and_close<R: Source, C: WholeSink, T: Write + Drop, E: Sink>(
 {
     let mut out = out;
     let status = perform_request(alloc, request, first, second, cert, &mut out, err);
-    closed(status, out, err)
+    close_output(status, out, err)
 }

@@ -47,7 +47,7 @@ mod sizes;
 mod words;
 
 pub use hart_trace::judge_trace;
-pub use held_output::{closed, perform_and_close};
+pub use held_output::{close_output, perform_and_close};
 pub use hints::tell_hints;
 pub use on_files::{Lent, perform_on_files};
 pub use platform_file::{TextFault, platform_of};

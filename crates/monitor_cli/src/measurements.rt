@@ -27,7 +27,7 @@ use std::alloc::Global;
 const ENCLAVES: u64 = 64;
 
 /// The machine of a platform.
-pub fn booted<'a>(alloc: Global, platform: Platform) -> Result<Machine, Trouble<'a>>
+pub fn boot_machine<'a>(alloc: Global, platform: Platform) -> Result<Machine, Trouble<'a>>
     ensures kept { IfOk result (λ machine. KeepsBanksRight machine) }
     ensures booted { IfOk result (IsBooted platform) }
     ensures refused { IfErr result (λ trouble.

@@ -52,7 +52,7 @@ pub(crate) fn table_bounds(at_most: Option<u64>) -> Bounds
 }
 
 /// What follows a number of entries.
-fn named<'a>(count: u64) -> &'a [u8]
+fn entries_text<'a>(count: u64) -> &'a [u8]
     ensures text { result.now ≡ entries_named count }
     ensures most { length result.now ≤ 10 }
 {
@@ -70,7 +70,7 @@ fn most_line(needed: u64, most: u64) -> Line
     let mut line = Line::new();
     push_text(&mut line, b": needs ");
     push_decimal(&mut line, needed);
-    push_text(&mut line, named(needed));
+    push_text(&mut line, entries_text(needed));
     push_text(&mut line, b"at most ");
     push_decimal(&mut line, most);
     push_text(&mut line, b"\n");
@@ -84,7 +84,7 @@ fn words_line(needed: u64, there: u64) -> Line
     let mut line = Line::new();
     push_text(&mut line, b": needs ");
     push_decimal(&mut line, needed);
-    push_text(&mut line, named(needed));
+    push_text(&mut line, entries_text(needed));
     push_decimal(&mut line, there);
     push_text(&mut line, b" are there: no configuration words\n");
     line

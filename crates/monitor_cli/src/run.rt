@@ -7,7 +7,7 @@ ghost use Rattle.hart_sim.specs.Reports.{DoesLine};
 ghost use Rattle.command_inputs.specs.Inputs.{reading};
 ghost use Rattle.monitor_cli.specs.Runs.{Runs, RunsExpecting, RunsExplaining, RunsTrace, RunsTraceAs};
 
-use crate::measurements::{booted, measure_where};
+use crate::measurements::{boot_machine, measure_where};
 use byte_streams::{DeviceFault, Sink, Source};
 use command_inputs::{Trouble, read_platform};
 use commands::tell_first;
@@ -145,6 +145,6 @@ pub fn do_run_as<'a, R: Source, W: Sink>(
         result }
 {
     let platform = read_platform(alloc, platform, first)?;
-    let machine = booted(alloc, platform)?;
+    let machine = boot_machine(alloc, platform)?;
     run_on(machine, answers, trace, measure, second, out)
 }

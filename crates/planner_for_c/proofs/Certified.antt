@@ -6,8 +6,8 @@ use Rattle.certificate_check.specs.Certificates.{HoldsFewest, RefusalStands}
 use Rattle.certificate_check.specs.declared.refusal.CheckRefusal.{CheckRefusal}
 use Rattle.planner_for_c.specs.declared.settings.Setting.{Setting as SettingOfC}
 use Rattle.planner_for_c.specs.declared.settings.SettingFault.{SettingFault}
-use Rattle.planner_for_c.specs.declared.settings.Refusal.{Refusal}
-use Rattle.planner_for_c.specs.declared.settings.Refusal.TheVariants.{Setting, Memory}
+use Rattle.planner_for_c.specs.declared.settings.NoMap.{NoMap}
+use Rattle.planner_for_c.specs.declared.settings.NoMap.TheVariants.{Setting, Memory}
 use Rattle.planner_for_c.specs.Checks.{IsChecked, accepted, check_code, no_map, no_room, rejected}
 use Rattle.planner_for_c.specs.Codes.{place_of, refusal_code}
 use Rattle.planner_for_c.specs.Settings.{FaultIn, LeadTo}
@@ -21,7 +21,7 @@ verdict_told settings bytes place runs (Ok n) led sound stands = accepted runs n
 verdict_told settings bytes place runs (Err refusal) led sound stands = rejected runs refusal led (stands refusal refl) refl
 
 pub no_map_told :
-    (settings : List SettingOfC) (bytes : List ℕ) (r : Refusal) (old new : ℕ)
+    (settings : List SettingOfC) (bytes : List ℕ) (r : NoMap) (old new : ℕ)
     → ((i : ℕ) (fault : SettingFault) → r ≡ Setting i fault → FaultIn [] settings i fault) → new ≡ place_of r old
     → IsChecked settings bytes old new (refusal_code r)
 no_map_told settings bytes (Setting i fault) old new known is = no_map fault (subst (λ k. FaultIn [] settings k fault) (sym is) (known i fault refl))

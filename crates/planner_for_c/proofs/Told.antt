@@ -13,8 +13,8 @@ use Rattle.pmp_match.proofs.Meant.{needs_one}
 use Rattle.planner_for_c.specs.declared.settings.Setting.{Setting as SettingOfC}
 use Rattle.planner_for_c.specs.declared.settings.SettingFault.{SettingFault}
 use Rattle.planner_for_c.specs.declared.settings.SettingFault.TheVariants.{UnalignedBase, UnalignedSize, UnknownPerm, PastEnd, TooManyRanges}
-use Rattle.planner_for_c.specs.declared.settings.Refusal.{Refusal}
-use Rattle.planner_for_c.specs.declared.settings.Refusal.TheVariants.{Setting, Memory}
+use Rattle.planner_for_c.specs.declared.settings.NoMap.{NoMap}
+use Rattle.planner_for_c.specs.declared.settings.NoMap.TheVariants.{Setting, Memory}
 use Rattle.planner_for_c.specs.declared.registers.Registers.{Registers}
 use Rattle.planner_for_c.specs.Codes.{fault_code, no_memory, place_of, refusal_code}
 use Rattle.planner_for_c.specs.Plans.{IsNumberOf, IsPlanOf, IsPlanned, no_number, number_without_memory, refused, memory}
@@ -32,7 +32,7 @@ fault_crosses UnknownPerm = refl
 fault_crosses PastEnd = refl
 fault_crosses TooManyRanges = refl
 
-pub code_crosses : (z : ℤ) (r : Refusal) → z ≡ refusal_code r → to_z w64 (of_z w64 z) ≡ refusal_code r
+pub code_crosses : (z : ℤ) (r : NoMap) → z ≡ refusal_code r → to_z w64 (of_z w64 z) ≡ refusal_code r
 code_crosses z (Setting i fault) is = ap (λ x. to_z w64 (of_z w64 x)) is ∙ fault_crosses fault
 code_crosses z Memory is = ap (λ x. to_z w64 (of_z w64 x)) is
 
@@ -52,11 +52,11 @@ module _ (settings : List SettingOfC) (entries : List Entry) (plan : IsPlanOf se
   not_refused i fault f = no_fault [] plan.runs settings i fault plan.made f
 
 -- where there is none
-module _ (settings : List SettingOfC) (r : Refusal) (known : (i : ℕ) (fault : SettingFault) → r ≡ Setting i fault → FaultIn [] settings i fault) where
+module _ (settings : List SettingOfC) (r : NoMap) (known : (i : ℕ) (fault : SettingFault) → r ≡ Setting i fault → FaultIn [] settings i fault) where
   pub given_refused : (runs : List Run) → LeadTo [] settings runs → refusal_code r ≡ no_memory
   given_refused runs led = at r known
     where
-      at : (q : Refusal) → ((i : ℕ) (fault : SettingFault) → q ≡ Setting i fault → FaultIn [] settings i fault) → refusal_code q ≡ no_memory
+      at : (q : NoMap) → ((i : ℕ) (fault : SettingFault) → q ≡ Setting i fault → FaultIn [] settings i fault) → refusal_code q ≡ no_memory
       at (Setting i fault) h = absurd (no_fault [] runs settings i fault led (h i fault refl))
       at Memory h = refl
 
@@ -64,7 +64,7 @@ module _ (settings : List SettingOfC) (r : Refusal) (known : (i : ℕ) (fault : 
       → ((refusal_code r ≡ fault_code fault) × (new ≡ i)) ⊎ (refusal_code r ≡ no_memory)
   fault_refused i old new fault is f = at r known is
     where
-      at : (q : Refusal) → ((j : ℕ) (g : SettingFault) → q ≡ Setting j g → FaultIn [] settings j g) → new ≡ place_of q old
+      at : (q : NoMap) → ((j : ℕ) (g : SettingFault) → q ≡ Setting j g → FaultIn [] settings j g) → new ≡ place_of q old
           → ((refusal_code q ≡ fault_code fault) × (new ≡ i)) ⊎ (refusal_code q ≡ no_memory)
       at (Setting j g) h e = let one = one_fault [] settings j i g fault (h j g refl) f in inl (ap fault_code one.1, e ∙ one.0)
       at Memory h e = inr refl
@@ -72,7 +72,7 @@ module _ (settings : List SettingOfC) (r : Refusal) (known : (i : ℕ) (fault : 
   pub number_refused : (old new : ℕ) → new ≡ place_of r old → IsNumberOf settings old new (refusal_code r)
   number_refused old new is = at r known is
     where
-      at : (q : Refusal) → ((j : ℕ) (g : SettingFault) → q ≡ Setting j g → FaultIn [] settings j g) → new ≡ place_of q old
+      at : (q : NoMap) → ((j : ℕ) (g : SettingFault) → q ≡ Setting j g → FaultIn [] settings j g) → new ≡ place_of q old
           → IsNumberOf settings old new (refusal_code q)
       at (Setting j g) h e = no_number g (subst (λ k. FaultIn [] settings k g) (sym e) (h j g refl))
       at Memory h e = number_without_memory e
@@ -81,7 +81,7 @@ module _ (settings : List SettingOfC) (r : Refusal) (known : (i : ℕ) (fault : 
       → IsPlanned settings room registers registers old new (refusal_code r)
   plan_refused room registers old new is = at r known is
     where
-      at : (q : Refusal) → ((j : ℕ) (g : SettingFault) → q ≡ Setting j g → FaultIn [] settings j g) → new ≡ place_of q old
+      at : (q : NoMap) → ((j : ℕ) (g : SettingFault) → q ≡ Setting j g → FaultIn [] settings j g) → new ≡ place_of q old
           → IsPlanned settings room registers registers old new (refusal_code q)
       at (Setting j g) h e = refused g (subst (λ k. FaultIn [] settings k g) (sym e) (h j g refl)) refl
       at Memory h e = memory refl e

@@ -11,8 +11,8 @@ use Rattle.planner_for_c.specs.declared.settings.SettingFault.TheVariants.{Unali
 use Rattle.planner_for_c.specs.declared.settings.SettingFault.TheVariants.{UnalignedSize}
 use Rattle.planner_for_c.specs.declared.settings.SettingFault.TheVariants.{UnknownPerm, PastEnd}
 use Rattle.planner_for_c.specs.declared.settings.SettingFault.TheVariants.{TooManyRanges}
-use Rattle.planner_for_c.specs.declared.settings.Refusal.{Refusal}
-use Rattle.planner_for_c.specs.declared.settings.Refusal.TheVariants.{Setting, Memory}
+use Rattle.planner_for_c.specs.declared.settings.NoMap.{NoMap}
+use Rattle.planner_for_c.specs.declared.settings.NoMap.TheVariants.{Setting, Memory}
 
 -- from -1 on, since negsuc n is -(n + 1)
 abbrev pub fault_code : SettingFault → ℤ
@@ -26,12 +26,12 @@ fault_code TooManyRanges = negsuc 4
 abbrev pub no_memory : ℤ
 no_memory = negsuc 5
 
-abbrev pub refusal_code : Refusal → ℤ
+abbrev pub refusal_code : NoMap → ℤ
 refusal_code (Setting i fault) = fault_code fault
 refusal_code Memory = no_memory
 
 -- the number of the refused setting, or what stood there
-abbrev pub place_of : Refusal → ℕ → ℕ
+abbrev pub place_of : NoMap → ℕ → ℕ
 place_of (Setting i fault) old = i
 place_of Memory old = old
 

@@ -69,6 +69,6 @@ pub extern "C" fn pmpmon_check(
 {
     match map_of(alloc, settings) {
         Ok(map) => number_of(check(&map, certificate)),
-        Err(refusal) => refusal.told(at_fault),
+        Err(refusal) => refusal.report(at_fault),
     }
 }

@@ -47,7 +47,7 @@ fn entries_of(registers: &Registers, count: usize) -> Result<ArrayVec<Entry, 64>
 }
 
 /// The outcome of the access under these entries.
-fn judged(entries: &[Entry], access: &Access) -> i64
+fn outcome_of(entries: &[Entry], access: &Access) -> i64
     requires { length entries.now ≤ 64 }
     ensures { (answer : Result (Unit {0}) Cause) × Judges entries.now access.now answer
         × (result ≡ answer_code answer) }
@@ -90,7 +90,7 @@ pub extern "C" fn pmpmon_judge(registers: &Registers, entries: u64, access: &Acc
         return -7;
     };
     match entries_of(registers, entries.min(64) as usize) {
-        Ok(list) => judged(&list, &access),
+        Ok(list) => outcome_of(&list, &access),
         Err(fault) => code_of(fault),
     }
 }

@@ -10,19 +10,19 @@ ghost use Rattle.planner_for_c.specs.Codes.{fault_code, no_memory};
 ghost use Rattle.planner_for_c.specs.Plans.{IsNumberOf, IsPlanOf, IsPlanned};
 
 use crate::registers::Registers;
-use crate::settings::{Refusal, Setting, map_of};
+use crate::settings::{NoMap, Setting, map_of};
 use entry_planner::{PackedPlan, plan_map};
 use std::alloc::Global;
 
 /// The plan of the map that the settings make.
-fn plan_of(alloc: Global, settings: &[Setting]) -> Result<PackedPlan, Refusal>
+fn plan_of(alloc: Global, settings: &[Setting]) -> Result<PackedPlan, NoMap>
     ensures plan { IfOk result (λ plan. IsPlanOf settings.now plan.entries) }
-    ensures fault { (i : ℕ) (fault : SettingFault) → result ≡ Err (Refusal.Setting i fault)
+    ensures fault { (i : ℕ) (fault : SettingFault) → result ≡ Err (NoMap.Setting i fault)
         → FaultIn [] settings.now i fault }
 {
     let map = map_of(alloc, settings)?;
     let Ok(plan) = plan_map(alloc, &map) else {
-        return Err(Refusal::Memory);
+        return Err(NoMap::Memory);
     };
     Ok(plan)
 }
@@ -47,7 +47,7 @@ pub extern "C" fn pmpmon_plan(
 {
     let plan = match plan_of(alloc, settings) {
         Ok(plan) => plan,
-        Err(refusal) => return refusal.told(at_fault),
+        Err(refusal) => return refusal.report(at_fault),
     };
     let needed = plan.needed();
     if u64::from(needed) <= entries.min(64) {
@@ -68,6 +68,6 @@ pub extern "C" fn pmpmon_needed(alloc: Global, settings: &[Setting], at_fault: &
 {
     match plan_of(alloc, settings) {
         Ok(plan) => i64::from(plan.needed()),
-        Err(refusal) => refusal.told(at_fault),
+        Err(refusal) => refusal.report(at_fault),
     }
 }

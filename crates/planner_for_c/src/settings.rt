@@ -48,25 +48,25 @@ enum Unset {
 
 /// Why settings make no map.
 #[derive(Clone, Copy)]
-pub(crate) enum Refusal {
+pub(crate) enum NoMap {
     /// The setting of this number, from 0, is refused.
     Setting(usize, SettingFault),
     /// Memory was refused.
     Memory,
 }
 
-impl Refusal {
+impl NoMap {
     /// The number that says it. The number of a refused setting goes to `at_fault`.
-    pub(crate) fn told(self, at_fault: &mut u64) -> i64
+    pub(crate) fn report(self, at_fault: &mut u64) -> i64
         ensures code { result ≡ refusal_code self }
         ensures place { at_fault.new ≡ place_of self at_fault.old }
     {
         match self {
-            Refusal::Setting(place, fault) => {
+            NoMap::Setting(place, fault) => {
                 *at_fault = place as u64;
                 fault.code()
             }
-            Refusal::Memory => -6,
+            NoMap::Memory => -6,
         }
     }
 }
@@ -120,9 +120,9 @@ fn set(map: &mut PermissionMap, setting: &Setting) -> Result<(), Unset>
 }
 
 /// The map that the settings make one after another, from one that gives no permission.
-pub(crate) fn map_of(alloc: Global, settings: &[Setting]) -> Result<PermissionMap, Refusal>
+pub(crate) fn map_of(alloc: Global, settings: &[Setting]) -> Result<PermissionMap, NoMap>
     ensures made { IfOk result (LeadTo [] settings.now) }
-    ensures fault { (i : ℕ) (fault : SettingFault) → result ≡ Err (Refusal.Setting i fault)
+    ensures fault { (i : ℕ) (fault : SettingFault) → result ≡ Err (NoMap.Setting i fault)
         → FaultIn [] settings.now i fault }
 {
     let mut map = PermissionMap::new(alloc);
@@ -131,9 +131,9 @@ pub(crate) fn map_of(alloc: Global, settings: &[Setting]) -> Result<PermissionMa
         match set(&mut map, setting) {
             Ok(()) => {}
             Err(Unset::Fault(fault)) => {
-                return Err(Refusal::Setting(settings.len() - rest.len(), fault));
+                return Err(NoMap::Setting(settings.len() - rest.len(), fault));
             }
-            Err(Unset::Memory) => return Err(Refusal::Memory),
+            Err(Unset::Memory) => return Err(NoMap::Memory),
         }
         rest = later;
     }

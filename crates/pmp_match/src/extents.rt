@@ -99,7 +99,7 @@ fn reserved_of(cfg: u8) -> Option<Reserved>
 }
 
 /// What an entry of the mode TOR matches.
-fn ranged(registers: &Registers, place: usize, cfg: u8, top: u64) -> Extent
+fn extent_of_range(registers: &Registers, place: usize, cfg: u8, top: u64) -> Extent
     requires place { place < 64 }
     requires cfg { cfg ≡ unlocked (cfg_at registers.now place) }
     requires top { top ≡ kept registers.now.xlen (address_at registers.now place) }
@@ -123,7 +123,7 @@ fn extent_at(registers: &Registers, place: usize) -> Extent
     let cfg = registers.cfgs[place] % 128;
     let top = kept(registers.xlen, registers.addresses[place]);
     if cfg / 8 == 1 {
-        return ranged(registers, place, cfg, top);
+        return extent_of_range(registers, place, cfg, top);
     }
     match decode(cfg, top) {
         Ok(Some(entry)) => within(registers.xlen, &extent_of(&entry)),

@@ -1,7 +1,7 @@
 //! The program: the words of its command line, done on real files.
 #![tactic(auto)]
 
-use command_line::{ended, may_be_done, request_in, standard_error, texts_in, words_in};
+use command_line::{exit_with_status, may_be_done, request_in, standard_error, texts_in, words_in};
 use monitor_cli::{Lent, perform_on_files};
 use program_tasks::Request;
 use std::alloc::AllocError;
@@ -9,7 +9,7 @@ use std::io::IsTerminal;
 use std::process::ExitCode;
 
 /// Does what is asked for on the task's files and on the program's streams, and answers its status.
-fn done(rt: &HostRuntime, request: &Request<'_>) -> Result<u8, AllocError> {
+fn perform_task(rt: &HostRuntime, request: &Request<'_>) -> Result<u8, AllocError> {
     let lent = Lent {
         alloc: rt.alloc(),
         files: rt,
@@ -26,7 +26,7 @@ fn perform(rt: &HostRuntime) -> Result<ExitCode, ExitCode> {
     let texts = texts_in(rt, words.as_slice())?;
     let request = request_in(rt, texts.as_slice())?;
     may_be_done(rt, &request.task)?;
-    Ok(ended(rt, done(rt, &request)))
+    Ok(exit_with_status(rt, perform_task(rt, &request)))
 }
 
 fn main(rt: HostRuntime) -> ExitCode {

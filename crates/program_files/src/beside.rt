@@ -59,7 +59,7 @@ pub(crate) fn permit<F: OpenFile>(file: &F, old: Option<Metadata>) {
 }
 
 /// To write to what is at a place, which is emptied first. Nothing is made.
-fn emptied() -> OpenOptions
+fn emptying_options() -> OpenOptions
     ensures { result ≡ with_truncate (with_write new_options true) true }
 {
     let mut options = OpenOptions::new();
@@ -69,7 +69,7 @@ fn emptied() -> OpenOptions
 
 /// What is there, to be written from its beginning on.
 pub(crate) fn straight<R: Files>(files: &R, place: &str) -> io::Result<R::File> {
-    emptied().open(files, place)
+    emptying_options().open(files, place)
 }
 
 /// The place of a file of that name: what it leads to, and otherwise the name itself.

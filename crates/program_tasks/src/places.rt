@@ -11,7 +11,7 @@ const STANDARD_INPUT: &str = "-";
 
 /// Where an input comes from.
 #[derive(Clone, Copy)]
-pub enum Place<'a> {
+pub enum InputName<'a> {
     /// Standard input.
     StandardInput,
     /// The file of that name.
@@ -19,24 +19,24 @@ pub enum Place<'a> {
 }
 
 /// The file of that name, or standard input under its word.
-fn place_of(name: &str) -> Place<'_>
+fn place_of(name: &str) -> InputName<'_>
     ensures { result ≡ place_of name.entry }
 {
     if name == STANDARD_INPUT {
-        return Place::StandardInput;
+        return InputName::StandardInput;
     }
-    Place::File(name)
+    InputName::File(name)
 }
 
 /// What a task reads first.
-pub fn first_of<'a>(task: &Task<'a>) -> Place<'a>
+pub fn first_of<'a>(task: &Task<'a>) -> InputName<'a>
     ensures { result ≡ first_of task.now }
 {
     place_of(files_of(task).first)
 }
 
 /// What a task reads after that, where it does.
-pub fn second_of<'a>(task: &Task<'a>) -> Option<Place<'a>>
+pub fn second_of<'a>(task: &Task<'a>) -> Option<InputName<'a>>
     ensures { result ≡ second_of task.now }
 {
     match files_of(task).second {
@@ -51,17 +51,17 @@ pub fn reads_twice(task: &Task<'_>) -> bool
 {
     matches!(
         (first_of(task), second_of(task)),
-        (Place::StandardInput, Some(Place::StandardInput))
+        (InputName::StandardInput, Some(InputName::StandardInput))
     )
 }
 
 /// A place that is read a second time: a file is opened anew, and standard input is not there again.
-pub fn again(place: Option<Place<'_>>) -> Option<Place<'_>>
+pub fn again(place: Option<InputName<'_>>) -> Option<InputName<'_>>
     ensures { result ≡ again place.entry }
 {
     match place {
-        Some(Place::File(name)) => Some(Place::File(name)),
-        Some(Place::StandardInput) | None => None,
+        Some(InputName::File(name)) => Some(InputName::File(name)),
+        Some(InputName::StandardInput) | None => None,
     }
 }
 

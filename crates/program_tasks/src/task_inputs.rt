@@ -5,7 +5,7 @@ ghost use Rattle.program_tasks.specs.Inputs.{reader_in, AreInputs, AreInputsAgai
 ghost use Rattle.program_tasks.specs.Places.{IsAt, IsAtAgain};
 
 use crate::Task;
-use crate::places::{Place, again, first_of, second_of};
+use crate::places::{InputName, again, first_of, second_of};
 use crate::task::NO_FILE;
 use byte_streams::Counted;
 use program_files::{Explained, InputToRead};
@@ -28,14 +28,14 @@ fn reading<'a, R: Files, S: Read>(input: InputToRead<'a, R, S>) -> Input<'a, R, 
 fn input_at<'a, R: Files, S: Read + Copy>(
     files: &'a R,
     stdin: S,
-    place: Option<Place<'a>>,
+    place: Option<InputName<'a>>,
 ) -> Input<'a, R, S>
     ensures place { IsAt stdin place.entry (reader_in result) }
     ensures fresh { IsFresh result }
 {
     match place {
-        Some(Place::StandardInput) => reading(InputToRead::of_stream(stdin)),
-        Some(Place::File(name)) => reading(InputToRead::of_file(files, name)),
+        Some(InputName::StandardInput) => reading(InputToRead::of_stream(stdin)),
+        Some(InputName::File(name)) => reading(InputToRead::of_file(files, name)),
         None => reading(InputToRead::of_file(files, NO_FILE)),
     }
 }
@@ -58,16 +58,16 @@ pub fn inputs<'a, R: Files, S: Read + Copy>(
 fn input_again<'a, R: Files, S: Read + Copy>(
     files: &'a R,
     stdin: S,
-    place: Option<Place<'a>>,
+    place: Option<InputName<'a>>,
 ) -> Input<'a, R, S>
     ensures place { IsAtAgain stdin place.entry (reader_in result) }
     ensures fresh { IsFresh result }
 {
-    let Some(Place::File(name)) = again(place) else {
+    let Some(InputName::File(name)) = again(place) else {
         return input_at(files, stdin, None);
     };
     match fs::metadata(files, name) {
-        Ok(stands) if stands.is_file() => input_at(files, stdin, Some(Place::File(name))),
+        Ok(stands) if stands.is_file() => input_at(files, stdin, Some(InputName::File(name))),
         _ => input_at(files, stdin, None),
     }
 }

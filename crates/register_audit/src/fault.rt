@@ -17,20 +17,20 @@ pub enum MapOfFault {
 
 /// Why there is no map of registers.
 #[derive(Clone, Copy)]
-pub(crate) enum Refusal {
+pub(crate) enum NoMapReason {
     /// The map would have more than 4096 ranges.
     TooManyRanges,
     /// Memory was refused.
     Memory,
 }
 
-impl From<AllocError> for Refusal {
+impl From<AllocError> for NoMapReason {
     ghost use Rattle.std.specs.Prelude.{◌≡◌};
-    ghost use Rattle.register_audit.specs.declared.fault.Refusal.TheVariants.{Memory};
+    ghost use Rattle.register_audit.specs.declared.fault.NoMapReason.TheVariants.{Memory};
 
     ghost from_gives = { λ error refusal. refusal ≡ Memory };
 
-    fn from(_: AllocError) -> Refusal {
-        Refusal::Memory
+    fn from(_: AllocError) -> NoMapReason {
+        NoMapReason::Memory
     }
 }

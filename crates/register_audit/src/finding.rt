@@ -47,7 +47,7 @@ fn first_odd(all: &[Stretch]) -> Option<Stretch>
 }
 
 /// Whether extents mean the map, or where they do not. The only error is out of memory.
-pub fn compared(alloc: Global, map: &PermissionMap, extents: &[Extent]) -> Result<Finding, Memory>
+pub fn compare(alloc: Global, map: &PermissionMap, extents: &[Extent]) -> Result<Finding, Memory>
     requires { All IsWords extents.now }
     ensures { IfOk result (IsFinding (view_of_runs map.now) extents.now) }
 {

@@ -2,7 +2,7 @@
 //!
 //! - `listing_audit`: [`audit`] reads a listing and writes one line: that the registers mean the map and with how many entries,
 //!   or the first stretch that differs, or the first access that an entry cuts, or the first entry that has a reserved value.
-//!   Where that is asked for, it writes a line for each stretch that differs. [`compared`] asks the same of a list of extents,
+//!   Where that is asked for, it writes a line for each stretch that differs. [`compare`] asks the same of a list of extents,
 //!   [`verdict_of`] of registers. [`count_on`] counts the entries that are not OFF.
 //! - `table`: [`print_registers`] writes the table of what the registers give, by the same rows as a map's.
 //! - `map`: [`print_map_of`] writes the map that they mean as the lines of a map file; or the first bytes at which no map of whole
@@ -41,7 +41,7 @@ mod texts;
 mod verdict;
 
 pub use fault::MapOfFault;
-pub use finding::{Finding, compared};
+pub use finding::{Finding, compare};
 pub use laws::{list_law, permits_law};
 pub use listing_audit::{AuditFault, audit};
 pub use listing_rules::{Ruled, RulesFault, rules_in};

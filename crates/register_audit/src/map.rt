@@ -10,15 +10,15 @@ ghost use Rattle.register_text.specs.declared.listing.Listing.{Listing};
 ghost use Rattle.register_text.specs.Listings.{IsFirstUnknown, listed};
 ghost use Rattle.register_text.specs.Texts.{passed_text};
 ghost use Rattle.register_audit.specs.declared.fault.MapOfFault as MapOfFault;
-ghost use Rattle.register_audit.specs.declared.fault.Refusal as Refusal;
+ghost use Rattle.register_audit.specs.declared.fault.NoMapReason as NoMapReason;
 ghost use Rattle.register_audit.specs.Maps.{AreTooFine, IsMapFile, IsMapOf, IsMapOfExtents};
 ghost use Rattle.register_audit.specs.Pages.{IsTooFine};
 ghost use Rattle.register_audit.specs.MapTexts.{map_text};
 
-use crate::fault::{MapOfFault, Refusal};
+use crate::fault::{MapOfFault, NoMapReason};
 use crate::map_texts::{below_line, cut_line, map_text};
 use crate::pages::first_bytes;
-use crate::{Finding, compared};
+use crate::{Finding, compare};
 use byte_streams::{Sink, write_whole};
 use permission_map::Memory;
 use pmp_encoding::Xlen;
@@ -34,14 +34,14 @@ struct Said {
 }
 
 /// What is said of extents.
-fn said_of_extents(alloc: Global, extents: &[Extent]) -> Result<Said, Refusal>
+fn said_of_extents(alloc: Global, extents: &[Extent]) -> Result<Said, NoMapReason>
     requires { All IsWords extents.now }
     ensures said { IfOk result (λ said.
         IsMapOfExtents extents.now said.text.items said.is_map) }
-    ensures many { result ≡ Err Refusal.TooManyRanges → IsTooFine extents.now }
+    ensures many { result ≡ Err NoMapReason.TooManyRanges → IsTooFine extents.now }
 {
     let map = first_bytes(alloc, extents)?;
-    match compared(alloc, &map, extents)? {
+    match compare(alloc, &map, extents)? {
         Finding::Means => {
             let text = map_text(alloc, &map)?;
             Ok(Said { text, is_map: true })
@@ -64,9 +64,9 @@ fn said_of_extents(alloc: Global, extents: &[Extent]) -> Result<Said, Refusal>
 }
 
 /// What is said of what a listing leaves.
-fn said_of(alloc: Global, listing: &Listing) -> Result<Said, Refusal>
+fn said_of(alloc: Global, listing: &Listing) -> Result<Said, NoMapReason>
     ensures said { IfOk result (λ said. IsMapOf listing.now said.text.items said.is_map) }
-    ensures many { result ≡ Err Refusal.TooManyRanges → AreTooFine listing.now }
+    ensures many { result ≡ Err NoMapReason.TooManyRanges → AreTooFine listing.now }
 {
     let extents = match extents_in(listing) {
         Ok(extents) => extents,
@@ -83,10 +83,10 @@ fn said_of(alloc: Global, listing: &Listing) -> Result<Said, Refusal>
 }
 
 /// The same with the comment on lines that are passed over.
-fn commented(alloc: Global, listing: &Listing) -> Result<Said, Refusal>
+fn commented(alloc: Global, listing: &Listing) -> Result<Said, NoMapReason>
     ensures said { IfOk result (λ all. (text : List ℕ) × IsMapOf listing.now text all.is_map
         × (all.text.items ≡ text ++ passed_text listing.now.passed)) }
-    ensures many { result ≡ Err Refusal.TooManyRanges → AreTooFine listing.now }
+    ensures many { result ≡ Err NoMapReason.TooManyRanges → AreTooFine listing.now }
 {
     let mut all = said_of(alloc, listing)?;
     let comment = passed_line(listing.passed);
@@ -132,8 +132,8 @@ pub fn print_map_of<W: Sink>(
     };
     let all = match commented(alloc, &listing) {
         Ok(all) => all,
-        Err(Refusal::TooManyRanges) => return Err(MapOfFault::TooManyRanges),
-        Err(Refusal::Memory) => return Err(MapOfFault::Memory),
+        Err(NoMapReason::TooManyRanges) => return Err(MapOfFault::TooManyRanges),
+        Err(NoMapReason::Memory) => return Err(MapOfFault::Memory),
     };
     let Ok(()) = write_whole(out, all.text.as_slice()) else {
         return Err(MapOfFault::Device);

@@ -3,10 +3,10 @@
 ghost use Rattle.std.specs.Prelude.{◌≡◌, ◌+◌, ◌*◌, ◌^◌, ◌<◌, ◌≤◌, All, Err, IfOk};
 ghost use Rattle.permission_map.specs.Runs.{view_of_runs};
 ghost use Rattle.pmp_match.specs.RegisterDecision.{IsWords};
-ghost use Rattle.register_audit.specs.declared.fault.Refusal as Refusal;
+ghost use Rattle.register_audit.specs.declared.fault.NoMapReason as NoMapReason;
 ghost use Rattle.register_audit.specs.Pages.{HasFirstBytes, IsTooFine};
 
-use crate::fault::Refusal;
+use crate::fault::NoMapReason;
 use map_table::stretches;
 use permission_map::{MapFault, PermissionMap};
 use pmp_encoding::PAGE_SIZE;
@@ -23,10 +23,10 @@ fn page_from(byte: u64) -> u64
 }
 
 /// The map that gives each page what the extents give its first byte.
-pub(crate) fn first_bytes(alloc: Global, extents: &[Extent]) -> Result<PermissionMap, Refusal>
+pub(crate) fn first_bytes(alloc: Global, extents: &[Extent]) -> Result<PermissionMap, NoMapReason>
     requires { All IsWords extents.now }
     ensures map { IfOk result (λ map. HasFirstBytes extents.now (view_of_runs map)) }
-    ensures many { result ≡ Err Refusal.TooManyRanges → IsTooFine extents.now }
+    ensures many { result ≡ Err NoMapReason.TooManyRanges → IsTooFine extents.now }
 {
     let mut map = PermissionMap::new(alloc);
     let all = stretches(alloc, &map, extents)?;
@@ -35,8 +35,8 @@ pub(crate) fn first_bytes(alloc: Global, extents: &[Extent]) -> Result<Permissio
         let to = page_from(stretch.end);
         match map.set_range(from, to - from, stretch.given) {
             Ok(()) => {}
-            Err(MapFault::TooManyRanges) => return Err(Refusal::TooManyRanges),
-            Err(MapFault::PastEnd | MapFault::Memory) => return Err(Refusal::Memory),
+            Err(MapFault::TooManyRanges) => return Err(NoMapReason::TooManyRanges),
+            Err(MapFault::PastEnd | MapFault::Memory) => return Err(NoMapReason::Memory),
         }
     }
     Ok(map)

@@ -5,7 +5,7 @@ ghost use Rattle.permission_map.specs.Runs.{view_of_runs};
 ghost use Rattle.register_audit.specs.Registers.{count_on, one_on};
 ghost use Rattle.register_audit.specs.Verdicts.{IsVerdict};
 
-use crate::finding::{Finding, compared};
+use crate::finding::{Finding, compare};
 use map_table::Stretch;
 use permission_map::{Memory, PermissionMap};
 use pmp_match::{Registers, ReservedAt, extents_of};
@@ -63,7 +63,7 @@ pub fn verdict_of(
         Ok(extents) => extents,
         Err(found) => return Ok(Verdict::NoMeaning(found)),
     };
-    match compared(alloc, map, extents.as_slice())? {
+    match compare(alloc, map, extents.as_slice())? {
         Finding::Means => Ok(Verdict::Means {
             count: count_on(registers),
         }),

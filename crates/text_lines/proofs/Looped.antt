@@ -9,7 +9,7 @@ use Rattle.byte_streams.specs.Writings.{TakesPart}
 use Rattle.text_lines.specs.declared.lines.LineReader.{LineReader}
 use Rattle.text_lines.specs.declared.fault.ReadFault.{ReadFault}
 use Rattle.text_lines.specs.declared.fault.ReadFault.TheVariants.{LongLine, TooManyBytes, Device}
-use Rattle.text_lines.specs.declared.line_loop.Refusal.{Refusal}
+use Rattle.text_lines.specs.declared.line_loop.LineRefusal.{LineRefusal}
 use Rattle.text_lines.specs.declared.fault.RunFault.TheVariants.{Line, TooLong, Read}
 use Rattle.text_lines.specs.Faults.{run_fault}
 use Rattle.text_lines.specs.Lines.{has_no_end, AreLines, IsShortLine, without_return}
@@ -411,5 +411,5 @@ few_more n count number next None is few e = omega arith
 few_more n count number next (Some text) is few e = omega arith
 
 -- a refusal that has its name
-pub is_refused : (said : Result Bool Refusal) (field refusal : Refusal) → said ≡ Err field → field ≡ refusal → said ≡ Err refusal
+pub is_refused : (said : Result Bool LineRefusal) (field refusal : LineRefusal) → said ≡ Err field → field ≡ refusal → said ≡ Err refusal
 is_refused said field refusal is named = is ∙ ap Err named

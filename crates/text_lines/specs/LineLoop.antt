@@ -8,8 +8,8 @@ use Rattle.byte_streams.specs.Streams.{WriteFails, one_failure_more}
 use Rattle.text_lines.specs.declared.fault.ReadFault.{ReadFault}
 use Rattle.text_lines.specs.declared.fault.RunFault.{RunFault}
 use Rattle.text_lines.specs.declared.fault.RunFault.TheVariants as faults
-use Rattle.text_lines.specs.declared.line_loop.Refusal.{Refusal}
-use Rattle.text_lines.specs.declared.line_loop.Refusal.TheVariants as refusals
+use Rattle.text_lines.specs.declared.line_loop.LineRefusal.{LineRefusal}
+use Rattle.text_lines.specs.declared.line_loop.LineRefusal.TheVariants as refusals
 use Rattle.text_lines.specs.Lines.{AreLines, BeginsLongLine, IsShortLine, without_return}
 
 -- what a line does, after so many answers: from one state to the next, with the text of its answer
@@ -38,7 +38,7 @@ text_of answered n behind = if answered then Some (decimal (n + 1) ++ behind) el
 
 -- what comes of a line: its answer, told by what stands behind its number, or why it has none
 abbrev pub Comes : {S : Type 0} → Meaning S → (S → List ℕ → Type 0) → (S → List ℕ → S → Type 0) → S
-    → ℕ → List ℕ → Result Bool Refusal → List ℕ → S → Type 0
+    → ℕ → List ℕ → Result Bool LineRefusal → List ℕ → S → Type 0
 Comes does refuses starves old n line (Ok answered) behind new =
     does old n line (text_of answered n behind) new
 Comes does refuses starves old n line (Err refusals.NotUnderstood) behind new = refuses old line
@@ -46,13 +46,13 @@ Comes does refuses starves old n line (Err refusals.NotUnderstood) behind new = 
 Comes does refuses starves old n line (Err refusals.Memory) behind new = starves old line new
 
 -- whether there was a line
-abbrev pub was_line : Result (Option (Result Bool Refusal)) ReadFault → Result Bool ReadFault
+abbrev pub was_line : Result (Option (Result Bool LineRefusal)) ReadFault → Result Bool ReadFault
 was_line (Ok None) = Ok false
 was_line (Ok (Some said)) = Ok true
 was_line (Err fault) = Err fault
 
 -- no line was interpreted
-abbrev pub IsNoLine : Result (Option (Result Bool Refusal)) ReadFault → Type 0
+abbrev pub IsNoLine : Result (Option (Result Bool LineRefusal)) ReadFault → Type 0
 IsNoLine (Ok (Some said)) = ⊥
 IsNoLine _ = Unit {0}
 

@@ -44,7 +44,7 @@ pub use lexical::{
     NotUnderstood, Words, behind_mark, behind_space, leading_hexadecimal, leading_numeral, number,
     numeral, word_len,
 };
-pub use line_loop::{Interpreter, Refusal, interpret_lines};
+pub use line_loop::{Interpreter, LineRefusal, interpret_lines};
 pub use lines::{LONGEST, LineReader, without_return};
 pub use whole_text::{AT_ONCE, next_line};
 pub use written::{Line, hex_digit, push_decimal, push_hex, push_text, push_word_line};

@@ -22,7 +22,7 @@ const AT_ONCE: usize = 65536;
 
 /// Why a line has no answer that should have one.
 #[derive(Clone, Copy, Debug, PartialEq, Eq, Error)]
-pub enum Refusal {
+pub enum LineRefusal {
     /// It fits no form.
     #[error("not understood")]
     NotUnderstood,
@@ -47,15 +47,15 @@ pub trait Interpreter {
 
     /// Does what a line says, which comes without its LF and its CR. Says whether there is an answer, the one after `count` others, and
     /// writes what comes after its number.
-    fn interpret(&mut self, line: &[u8], count: u64, answer: &mut Line) -> Result<bool, Refusal>
+    fn interpret(&mut self, line: &[u8], count: u64, answer: &mut Line) -> Result<bool, LineRefusal>
         requires count { count < 2 ^ 64 - 1 }
         requires empty { answer.old ≡ [] }
         ensures done { keeps self.old
             → IfOk result (λ answered.
             does self.old count line.now (text_of answered count answer.new) self.new) }
-        ensures unknown { result ≡ Err Refusal.NotUnderstood → refuses self.old line.now }
-        ensures untouched { result ≡ Err Refusal.NotUnderstood → self.new ≡ self.old }
-        ensures starved { result ≡ Err Refusal.Memory → keeps self.old
+        ensures unknown { result ≡ Err LineRefusal.NotUnderstood → refuses self.old line.now }
+        ensures untouched { result ≡ Err LineRefusal.NotUnderstood → self.new ≡ self.old }
+        ensures starved { result ≡ Err LineRefusal.Memory → keeps self.old
             → starves self.old line.now self.new }
         ensures keeps { keeps self.old → keeps self.new };
 
@@ -67,7 +67,7 @@ pub trait Interpreter {
         ahead: &[u8],
         count: u64,
         answer: &mut Line,
-    ) -> Option<(usize, Result<bool, Refusal>)>
+    ) -> Option<(usize, Result<bool, LineRefusal>)>
         requires count { count < 2 ^ 64 - 1 }
         requires empty { answer.old ≡ [] }
         requires few { length ahead.now ≤ 1024 }
@@ -142,7 +142,7 @@ fn interpret_next<I: Interpreter, R: Source, W: Sink>(
     sink: &mut W,
     count: u64,
     answer: &mut Line,
-) -> Result<Option<Result<bool, Refusal>>, ReadFault>
+) -> Result<Option<Result<bool, LineRefusal>>, ReadFault>
     requires count { count < 2 ^ 64 - 1 }
     requires empty { answer.old ≡ [] }
     ensures line { NextLine (was_line result) reader.old reader.new (R.remaining source.old)
@@ -217,8 +217,8 @@ pub fn interpret_lines<I: Interpreter, R: Source, W: Sink>(
         };
         let answered = match said {
             Ok(answered) => answered,
-            Err(Refusal::NotUnderstood) => return Err(RunFault::Line(reader.number())),
-            Err(Refusal::Memory) => return Err(RunFault::Memory),
+            Err(LineRefusal::NotUnderstood) => return Err(RunFault::Line(reader.number())),
+            Err(LineRefusal::Memory) => return Err(RunFault::Memory),
         };
         let Ok(told) = write_answer(answered, &answer, count, &mut number, sink) else {
             return Err(RunFault::Write);

@@ -7,7 +7,7 @@ ghost use Rattle.trace_answers.specs.Comparisons.{first_with, ComparesAll};
 use crate::comments::agrees;
 use crate::difference::{Difference, difference, numbered};
 use byte_streams::{Sink, Source};
-use text_lines::{Interpreter, Line, Refusal, RunFault, interpret_lines};
+use text_lines::{Interpreter, Line, LineRefusal, RunFault, interpret_lines};
 
 /// What interprets the lines, how many they were, and the first difference.
 #[derive(Drop)]
@@ -55,7 +55,12 @@ impl<I: Interpreter> Interpreter for Comparing<I> {
 
     ghost keeps = { λ now. I.keeps now.lines };
 
-    fn interpret(&mut self, line: &[u8], count: u64, answer: &mut Line) -> Result<bool, Refusal> {
+    fn interpret(
+        &mut self,
+        line: &[u8],
+        count: u64,
+        answer: &mut Line,
+    ) -> Result<bool, LineRefusal> {
         let answered = match self.lines.interpret(line, count, answer) {
             Ok(answered) => answered,
             Err(refusal) => return Err(refusal),

@@ -16,7 +16,7 @@ use arrayvec::ArrayVec;
 use byte_streams::{Sink, Source};
 use hart_trace::{AccessJudge, Event, LineJudge, parse_line};
 use pmp_match::Access;
-use text_lines::{Interpreter, Line, Refusal, RunFault, interpret_lines};
+use text_lines::{Interpreter, Line, LineRefusal, RunFault, interpret_lines};
 
 /// What answers the access of each line, and says what decided it.
 #[derive(Drop)]
@@ -66,7 +66,12 @@ impl<J: AccessJudge, D: Deciders> Interpreter for ExplainingJudge<'_, J, D> {
 
     ghost keeps = { λ now. Unit {0} };
 
-    fn interpret(&mut self, line: &[u8], count: u64, answer: &mut Line) -> Result<bool, Refusal> {
+    fn interpret(
+        &mut self,
+        line: &[u8],
+        count: u64,
+        answer: &mut Line,
+    ) -> Result<bool, LineRefusal> {
         let mut judge = LineJudge { by: self.by };
         let answered = match judge.interpret(line, count, answer) {
             Ok(answered) => answered,

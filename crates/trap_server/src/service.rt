@@ -129,7 +129,7 @@ fn keep_words(monitor: &Monitor, hosts: &mut HostWords, trap: &Trap)
 /// The digest of the pages of a creation that passes its checks, which are asked for and read; of another call there is none,
 /// and nothing is asked for.
 #[inline(never)]
-fn measured<R: Source, W: Sink>(
+fn measure_pages<R: Source, W: Sink>(
     monitor: &Monitor,
     trap: &Trap,
     source: &mut R,
@@ -173,7 +173,7 @@ fn serve_call<R: Source, W: Sink>(
     // (there are at most four: a fact for the proof)
     let _most = monitor.harts();
     keep_words(monitor, hosts, trap);
-    let digest = match measured(monitor, trap, source, sink) {
+    let digest = match measure_pages(monitor, trap, source, sink) {
         Ok(digest) => digest,
         Err(fault) => return Err(fault),
     };

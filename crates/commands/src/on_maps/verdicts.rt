@@ -14,7 +14,7 @@ use printed_lines::{accepted_line, accepted_of_line, refused_line};
 use text_lines::Line;
 
 /// The line for a yes: of a certificate of version 2 it names the limit.
-fn accepted(header: &Header) -> Line
+fn yes_line(header: &Header) -> Line
     ensures { result ≡ accepted_by header.now.version header.now.count }
 {
     match header.version {
@@ -27,7 +27,7 @@ fn accepted(header: &Header) -> Line
 
 /// The line for a no: the number and the name of the refusal.
 #[tactic(auto, using(crate::proofs::Names::name_fits))]
-fn refused(refusal: CheckRefusal) -> Line
+fn no_line(refusal: CheckRefusal) -> Line
     ensures { result ≡ refused_text (refusal_number refusal) (refusal_name refusal) }
 {
     refused_line(u64::from(refusal.number()), refusal.name())
@@ -46,7 +46,7 @@ pub fn verdict(found: &Result<Header, CheckRefusal>) -> (Line, u8)
         → IsVerdict view bytes result.0 result.1 }
 {
     match found {
-        Ok(header) => (accepted(header), 0),
-        Err(refusal) => (refused(*refusal), 1),
+        Ok(header) => (yes_line(header), 0),
+        Err(refusal) => (no_line(*refusal), 1),
     }
 }

@@ -15,4 +15,4 @@ returns-in-Ok-clause-request c = some_request _ _ _ c.in-Ok.request c.in_ok-prog
 
 pub returns-clause-refused : goal.returns-clause-refused
 returns-clause-refused c = no_request _ _ _ _ _ c.in_ok-program.ensures.app c.in_ok-matches.ensures.ok.2 c.in-Err.ensures.refused c.in-Err.ensures.fault
-    c.in_ok-explained-in-Err.ensures
+    c.in_ok-error_with_usage-in-Err.ensures

@@ -3,7 +3,7 @@ use Rattle.std.proofs.lemmas.Option.{same_Some}
 use Rattle.toml.specs.Data.{get_member, table}
 use Rattle.toml.specs.View.{table_view}
 use Rattle.platform_file.specs.Document.{number, number_told}
-use Rattle.file_lints.specs.declared.breach.Place.TheVariants as places
+use Rattle.file_lints.specs.declared.breach.TomlPath.TheVariants as places
 use Rattle.file_lints.specs.Breaches.{at_place}
 use Rattle.file_lints.proofs.Parts.{clear_count, first_count}
 use Rattle.file_lints.proofs.first_breach.count_breach.Goals as goal

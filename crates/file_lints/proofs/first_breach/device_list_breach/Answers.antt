@@ -2,7 +2,7 @@ use Rattle.std.proofs.Common.{ap, inr, refl, sym, ◌∙◌, ◌+◌}
 use Rattle.toml.specs.Data.{get_item}
 use Rattle.toml.specs.View.{items_view, table_view}
 use Rattle.file_lints.specs.declared.breach.Key.TheVariants as keys
-use Rattle.file_lints.specs.declared.breach.Place.TheVariants as places
+use Rattle.file_lints.specs.declared.breach.TomlPath.TheVariants as places
 use Rattle.file_lints.specs.Breaches.{at_place, no_array}
 use Rattle.file_lints.proofs.FoundInPlatforms.{carried, item_of, paired}
 use Rattle.file_lints.proofs.Parts.{clear_device, first_device, lowest, clear_no_device}

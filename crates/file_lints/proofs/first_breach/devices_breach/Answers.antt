@@ -4,7 +4,7 @@ use Rattle.toml.specs.Data.{as_table}
 use Rattle.toml.specs.View.{items_view, view}
 use Rattle.toml.proofs.Views.{get_item_within}
 use Rattle.platform_file.specs.Document.{device_of}
-use Rattle.file_lints.specs.declared.breach.Place.TheVariants.{Device}
+use Rattle.file_lints.specs.declared.breach.TomlPath.TheVariants.{Device}
 use Rattle.file_lints.proofs.Items.{makes_from}
 use Rattle.file_lints.proofs.Parts.{before_item, item_low, next_item}
 use Rattle.file_lints.proofs.Steps.{placed_at, step_small}

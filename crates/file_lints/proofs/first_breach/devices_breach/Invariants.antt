@@ -3,7 +3,7 @@ use Rattle.toml.specs.Data.{Data, get_item}
 use Rattle.toml.specs.View.{items_view}
 use Rattle.platform_file.specs.Document.{device_of}
 use Rattle.file_lints.specs.declared.breach.Breach.{Breach}
-use Rattle.file_lints.specs.declared.breach.Place.TheVariants.{Device}
+use Rattle.file_lints.specs.declared.breach.TomlPath.TheVariants.{Device}
 use Rattle.file_lints.specs.Breaches.{BreaksAt}
 use Rattle.file_lints.proofs.Items.{Makes}
 use Rattle.file_lints.proofs.first_breach.devices_breach.Given as goal

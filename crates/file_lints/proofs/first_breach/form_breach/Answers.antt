@@ -1,7 +1,7 @@
 use Rattle.std.proofs.Common.{refl, inr}
 use Rattle.toml.specs.Data.{table}
 use Rattle.toml.specs.View.{table_view}
-use Rattle.file_lints.specs.declared.breach.Place.TheVariants as places
+use Rattle.file_lints.specs.declared.breach.TomlPath.TheVariants as places
 use Rattle.file_lints.specs.Breaches.{at_place}
 use Rattle.file_lints.proofs.FoundInPlatforms.{carried, paired}
 use Rattle.file_lints.proofs.Parts.{NonePartBefore, at_least, clear_keys, first_of, lowest, none_before_first, part_up}

@@ -1,7 +1,7 @@
 use Rattle.std.proofs.Common.{inr, refl, sym}
 use Rattle.toml.specs.Data.{table}
 use Rattle.toml.specs.View.{table_view}
-use Rattle.file_lints.specs.declared.breach.Place.TheVariants as places
+use Rattle.file_lints.specs.declared.breach.TomlPath.TheVariants as places
 use Rattle.file_lints.specs.Breaches.{at_place}
 use Rattle.file_lints.proofs.FoundInPlatforms.{carried, paired}
 use Rattle.file_lints.proofs.Parts.{clear_monitor, first_monitor, lowest}

@@ -3,7 +3,7 @@ use Rattle.toml.specs.Data.{Data, get_item}
 use Rattle.toml.specs.View.{items_view}
 use Rattle.platform_file.specs.Document.{range_of}
 use Rattle.file_lints.specs.declared.breach.Breach.{Breach}
-use Rattle.file_lints.specs.declared.breach.Place.TheVariants.{Ram}
+use Rattle.file_lints.specs.declared.breach.TomlPath.TheVariants.{Ram}
 use Rattle.file_lints.specs.Breaches.{BreaksAt}
 use Rattle.file_lints.proofs.Items.{Makes}
 use Rattle.file_lints.proofs.first_breach.ram_breach.Given as goal

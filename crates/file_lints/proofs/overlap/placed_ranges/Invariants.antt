@@ -1,6 +1,6 @@
 use Rattle.std.proofs.Common.{◌≡◌, ◌++◌, ◌+◌, drop, map}
 use Rattle.platforms.specs.Ranges.{device_range}
-use Rattle.file_lints.specs.declared.breach.Place.TheVariants.{Ram, Device}
+use Rattle.file_lints.specs.declared.breach.TomlPath.TheVariants.{Ram, Device}
 use Rattle.file_lints.specs.Overlaps.{placed_from, placed_ranges}
 use Rattle.file_lints.proofs.overlap.placed_ranges.Given as goal
 

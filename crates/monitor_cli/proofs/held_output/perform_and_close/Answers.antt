@@ -6,5 +6,5 @@ returns g c = (
   c.perform_request-status.new.err,
   c.perform_request-status.result,
   c.perform_request-status.ensures,
-  c.closed.ensures,
+  c.close_output.ensures,
 )

@@ -33,22 +33,22 @@ returns-in-Ok-clause-refused c = λ i fault f. absurd (no_fault [] c.in-Ok.map c
 
 pub returns-in-Err-clause-checked : goal.returns-in-Err-clause-checked
 returns-in-Err-clause-checked c =
-    rw (crosses c.told.result (refusal_code c.in-Err.refusal) c.told.ensures.code c.told.type_inv)
-    (no_map_told c.args.settings.now c.args.certificate.now c.in-Err.refusal c.args.at_fault.now c.told.new.at_fault
-    (λ i fault e. c.in-Err.ensures.fault i fault (ap (λ x. Err x) e)) c.told.ensures.place)
+    rw (crosses c.report.result (refusal_code c.in-Err.refusal) c.report.ensures.code c.report.type_inv)
+    (no_map_told c.args.settings.now c.args.certificate.now c.in-Err.refusal c.args.at_fault.now c.report.new.at_fault
+    (λ i fault e. c.in-Err.ensures.fault i fault (ap (λ x. Err x) e)) c.report.ensures.place)
 
 pub returns-in-Err-clause-right : goal.returns-in-Err-clause-right
 returns-in-Err-clause-right c = λ runs n led right.
-    inr (crosses c.told.result (refusal_code c.in-Err.refusal) c.told.ensures.code c.told.type_inv
+    inr (crosses c.report.result (refusal_code c.in-Err.refusal) c.report.ensures.code c.report.type_inv
     ∙ given_refused c.args.settings.now c.in-Err.refusal (λ i fault e. c.in-Err.ensures.fault i fault (ap (λ x. Err x) e)) runs led)
 
 pub returns-in-Err-clause-wrong : goal.returns-in-Err-clause-wrong
 returns-in-Err-clause-wrong c = λ runs refusal led stands.
-    inr (crosses c.told.result (refusal_code c.in-Err.refusal) c.told.ensures.code c.told.type_inv
+    inr (crosses c.report.result (refusal_code c.in-Err.refusal) c.report.ensures.code c.report.type_inv
     ∙ given_refused c.args.settings.now c.in-Err.refusal (λ i fault e. c.in-Err.ensures.fault i fault (ap (λ x. Err x) e)) runs led)
 
 pub returns-in-Err-clause-refused : goal.returns-in-Err-clause-refused
 returns-in-Err-clause-refused c = λ i fault f.
-    rw (crosses c.told.result (refusal_code c.in-Err.refusal) c.told.ensures.code c.told.type_inv)
-    (fault_refused c.args.settings.now c.in-Err.refusal (λ j g e. c.in-Err.ensures.fault j g (ap (λ x. Err x) e)) i c.args.at_fault.now c.told.new.at_fault
-    fault c.told.ensures.place f)
+    rw (crosses c.report.result (refusal_code c.in-Err.refusal) c.report.ensures.code c.report.type_inv)
+    (fault_refused c.args.settings.now c.in-Err.refusal (λ j g e. c.in-Err.ensures.fault j g (ap (λ x. Err x) e)) i c.args.at_fault.now c.report.new.at_fault
+    fault c.report.ensures.place f)

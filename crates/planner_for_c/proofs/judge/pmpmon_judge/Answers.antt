@@ -15,18 +15,18 @@ pub returns-in-Ok-clause-judged : goal.returns-in-Ok-clause-judged
 returns-in-Ok-clause-judged c =
     let count : c.min.result ≡ min c.args.entries 64 = omega (arith, c.min.ensures) in
     let list = subst (λ n. MeansList (pairs_to c.args.registers.now n) c.in-Ok.list.items) count c.in-Ok.ensures.list in
-    let own = c.judged.ensures in
+    let own = c.outcome_of.ensures in
     let judges = subst (λ es. Judges es c.in-Some.access own.0) c.deref.ensures.0 own.1 in
-    rw (crosses c.judged.result (answer_code own.0) own.2 c.judged.type_inv)
+    rw (crosses c.outcome_of.result (answer_code own.0) own.2 c.outcome_of.type_inv)
     (judged c.in-Some.access c.in-Ok.list.items own.0 c.in-Some.ensures.some list judges)
 
 pub returns-in-Ok-clause-listed : goal.returns-in-Ok-clause-listed
 returns-in-Ok-clause-listed c = λ a entries answer says means judges.
     let count : c.min.result ≡ min c.args.entries 64 = omega (arith, c.min.ensures) in
     let list = subst (λ n. MeansList (pairs_to c.args.registers.now n) c.in-Ok.list.items) count c.in-Ok.ensures.list in
-    let own = c.judged.ensures in
+    let own = c.outcome_of.ensures in
     let known = subst (λ es. Judges es c.in-Some.access own.0) c.deref.ensures.0 own.1 in
-    crosses c.judged.result (answer_code own.0) own.2 c.judged.type_inv
+    crosses c.outcome_of.result (answer_code own.0) own.2 c.outcome_of.type_inv
     ∙ ap answer_code (one_judgement c.args.registers.now (min c.args.entries 64) c.args.access.now c.in-Some.access a c.in-Ok.list.items entries own.0 answer
     c.in-Some.ensures.some says list means known judges)
 

@@ -18,15 +18,15 @@ returns-in-Ok-clause-refused c = λ i fault f. absurd (not_refused c.args.settin
 
 pub returns-in-Err-clause-needed : goal.returns-in-Err-clause-needed
 returns-in-Err-clause-needed c =
-    rw (code_crosses c.told.result c.in-Err.refusal c.told.ensures.code) (number_refused c.args.settings.now c.in-Err.refusal
-    (λ i fault e. c.in-Err.ensures.fault i fault (ap (λ x. Err x) e)) c.args.at_fault.now c.told.new.at_fault c.told.ensures.place)
+    rw (code_crosses c.report.result c.in-Err.refusal c.report.ensures.code) (number_refused c.args.settings.now c.in-Err.refusal
+    (λ i fault e. c.in-Err.ensures.fault i fault (ap (λ x. Err x) e)) c.args.at_fault.now c.report.new.at_fault c.report.ensures.place)
 
 pub returns-in-Err-clause-given : goal.returns-in-Err-clause-given
 returns-in-Err-clause-given c = λ runs n led needs.
-    inr (code_crosses c.told.result c.in-Err.refusal c.told.ensures.code ∙ given_refused c.args.settings.now c.in-Err.refusal
+    inr (code_crosses c.report.result c.in-Err.refusal c.report.ensures.code ∙ given_refused c.args.settings.now c.in-Err.refusal
     (λ i fault e. c.in-Err.ensures.fault i fault (ap (λ x. Err x) e)) runs led)
 
 pub returns-in-Err-clause-refused : goal.returns-in-Err-clause-refused
 returns-in-Err-clause-refused c = λ i fault f.
-    rw (code_crosses c.told.result c.in-Err.refusal c.told.ensures.code) (fault_refused c.args.settings.now c.in-Err.refusal
-    (λ j g e. c.in-Err.ensures.fault j g (ap (λ x. Err x) e)) i c.args.at_fault.now c.told.new.at_fault fault c.told.ensures.place f)
+    rw (code_crosses c.report.result c.in-Err.refusal c.report.ensures.code) (fault_refused c.args.settings.now c.in-Err.refusal
+    (λ j g e. c.in-Err.ensures.fault j g (ap (λ x. Err x) e)) i c.args.at_fault.now c.report.new.at_fault fault c.report.ensures.place f)

@@ -1,7 +1,7 @@
 use Rattle.std.proofs.Common.{◌≡◌, ◌∙◌, Err, sym, refl, arith}
 use Rattle.std.proofs.lemmas.Result.{err_from_is_err_and}
 use Rattle.text_lines.specs.declared.fault.RunFault.TheVariants.{Line, TooLong, Read}
-use Rattle.text_lines.specs.declared.line_loop.Refusal.TheVariants as refusals
+use Rattle.text_lines.specs.declared.line_loop.LineRefusal.TheVariants as refusals
 use Rattle.text_lines.specs.Faults.{run_fault}
 use Rattle.text_lines.specs.LineLoop.{text_of}
 use Rattle.text_lines.proofs.Looped.{begins, ends, fault_is_long, fault_is_many, fault_is_device, few_by, few_more, finishes, goes_on, hands, is_refused}

@@ -8,7 +8,7 @@ use Rattle.commands.proofs.on_maps.verdicts.verdict.Goals as goal
 pub returns-in-Ok-clause-yes : goal.returns-in-Ok-clause-yes
 returns-in-Ok-clause-yes c = λ view bytes judged n right.
     let read : IsRightWith view bytes c.in-Ok.header = subst (IsJudged view bytes) c.in-Ok.is judged in
-    (c.accepted.ensures ∙ line_of_right view bytes c.in-Ok.header n read right, refl)
+    (c.yes_line.ensures ∙ line_of_right view bytes c.in-Ok.header n read right, refl)
 
 pub returns-in-Ok-clause-no : goal.returns-in-Ok-clause-no
 returns-in-Ok-clause-no c = λ view bytes judged refusal stands.
@@ -18,7 +18,7 @@ returns-in-Ok-clause-no c = λ view bytes judged refusal stands.
 pub returns-in-Ok-clause-verdict : goal.returns-in-Ok-clause-verdict
 returns-in-Ok-clause-verdict c = λ view bytes judged.
     let read : IsRightWith view bytes c.in-Ok.header = subst (IsJudged view bytes) c.in-Ok.is judged in
-    yes_with view bytes _ c.in-Ok.header c.accepted.ensures read
+    yes_with view bytes _ c.in-Ok.header c.yes_line.ensures read
 
 pub returns-in-Err-clause-yes : goal.returns-in-Err-clause-yes
 returns-in-Err-clause-yes c = λ view bytes judged n right.
@@ -28,9 +28,9 @@ returns-in-Err-clause-yes c = λ view bytes judged n right.
 pub returns-in-Err-clause-no : goal.returns-in-Err-clause-no
 returns-in-Err-clause-no c = λ view bytes judged refusal stands.
     let fault : RefusalStands view bytes c.in-Err.refusal = subst (IsJudged view bytes) c.in-Err.is judged in
-    (rw (refusal_once view bytes refusal c.in-Err.refusal stands fault) c.refused.ensures, refl)
+    (rw (refusal_once view bytes refusal c.in-Err.refusal stands fault) c.no_line.ensures, refl)
 
 pub returns-in-Err-clause-verdict : goal.returns-in-Err-clause-verdict
 returns-in-Err-clause-verdict c = λ view bytes judged.
     let fault : RefusalStands view bytes c.in-Err.refusal = subst (IsJudged view bytes) c.in-Err.is judged in
-    rw c.refused.ensures (no c.in-Err.refusal (λ n right. right_stands view bytes n _ right fault) fault)
+    rw c.no_line.ensures (no c.in-Err.refusal (λ n right. right_stands view bytes n _ right fault) fault)

@@ -13,7 +13,7 @@ returns-clause-step c =
       core,
       c.interrupt-load.ensures.step,
       ap₂ (λ m y. shown (state_by m) y) c.load_where.ensures.monitor c.load_where.ensures.memory,
-      c.told_of_irq.ensures,
+      c.reply_to_interrupt.ensures,
     )
 
 pub returns-clause-frame : goal.returns-clause-frame

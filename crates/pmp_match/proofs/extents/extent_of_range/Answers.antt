@@ -4,7 +4,7 @@ use Rattle.pmp_encoding.specs.Perms.{bits_of}
 use Rattle.pmp_match.specs.RegisterMatching.{tor, unlocked}
 use Rattle.pmp_match.specs.Registers.{cfg_at}
 use Rattle.pmp_match.proofs.Matched.{no_reserved}
-use Rattle.pmp_match.proofs.extents.ranged.Goals as goal
+use Rattle.pmp_match.proofs.extents.extent_of_range.Goals as goal
 
 pub unreachable-requires : goal.unreachable-requires
 unreachable-requires c = no_reserved (cfg_at c.args.registers.now c.args.place) c.requires.defined (rw c.requires.cfg at c.in-None.ensures.reserved.0 refl)

@@ -3,7 +3,7 @@ use Rattle.std.proofs.KnownBytes.{Appends-nil, Consumes-nil}
 use Rattle.monitor_core.specs.Monitors.{state_by}
 use Rattle.trap_server.specs.PageDigest.{question_of}
 use Rattle.trap_server.proofs.Served.{frame_reads, frame_writes, measure_stops}
-use Rattle.trap_server.proofs.service.measured.Goals as goal
+use Rattle.trap_server.proofs.service.measure_pages.Goals as goal
 
 pub returns-in_default-clause-digest : goal.returns-in_default-clause-digest
 returns-in_default-clause-digest g c = ([], [], inl (refl, refl, c.in_default.ensures.none), Consumes-nil _, Appends-nil _)

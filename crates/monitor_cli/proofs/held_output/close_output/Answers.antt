@@ -1,8 +1,8 @@
 use Rattle.std.proofs.Common.{arith, refl}
 use Rattle.monitor_cli.specs.HeldOutput.{whole, refused, stopped}
 use Rattle.monitor_cli.proofs.Ends.{tells}
-use Rattle.monitor_cli.proofs.held_output.closed.Goals as goal
-use Rattle.monitor_cli.proofs.held_output.closed.Goals.{then-is_whole-via-then-is_whole, then-is_whole-via-else-is_whole+then-status-ge2}
+use Rattle.monitor_cli.proofs.held_output.close_output.Goals as goal
+use Rattle.monitor_cli.proofs.held_output.close_output.Goals.{then-is_whole-via-then-is_whole, then-is_whole-via-else-is_whole+then-status-ge2}
 
 pub returns-then-is_whole : goal.returns-then-is_whole
 returns-then-is_whole g c = elim c.then-is_whole.branch [

@@ -1,7 +1,7 @@
 use Rattle.std.proofs.Common.{◌≡◌, ◌<◌, length, arith}
 use Rattle.pmp_encoding.specs.Limits.{limit_number}
 use Rattle.enclave_table.proofs.SameViews.{needs_of}
-use Rattle.enclave_table.proofs.fewest.listed.Goals as goal
+use Rattle.enclave_table.proofs.fewest.list_of_plan.Goals as goal
 
 pub returns-clause-list : goal.returns-clause-list
 returns-clause-list c = λ view fewest.

@@ -6,7 +6,7 @@ use Rattle.pmp_match.specs.RegisterDecision.{IsWords}
 use Rattle.pmp_match.proofs.RegistersUncut.{means_from_bytes}
 use Rattle.register_audit.proofs.Agreed.{agreed, difference}
 use Rattle.register_audit.proofs.Cut.{never_cut}
-use Rattle.register_audit.proofs.finding.compared.Goals as goal
+use Rattle.register_audit.proofs.finding.compare.Goals as goal
 
 pub returns-in-Some : goal.returns-in-Some
 returns-in-Some c = difference (view_of_runs c.args.map.now) c.args.extents.now (2 ^ 56) _ c.in-Some.stretch c.in_ok-all.ensures
