@@ -24,7 +24,8 @@ use Rattle.certificate_check.proofs.Entered.{listed_long}
 use Rattle.certificate_check.specs.declared.window.Inflow.{Inflow}
 use Rattle.certificate_check.specs.declared.window.Inflow.TheVariants.{Open, AtEnd, TooLarge, Failed}
 use Rattle.certificate_check.specs.Refusals.{refusal_of}
-use Rattle.certificate_check.specs.Windows.{counted, fault_of, found_of, stopped_by, StandsIn, AreLeft, HasEnough, IsSound, IsSoundAs, WindowState, Reads, Stays}
+use Rattle.certificate_check.specs.Windows.{counted, fault_of, found_of, stopped_by, StandsIn, AreLeft}
+use Rattle.certificate_check.specs.Windows.{HasEnough, IsSound, IsSoundAs, WindowState, Reads, Stays}
 
 -- ---- places one after the other
 
@@ -75,7 +76,8 @@ counts_soundly old new was_open same few many fits failures is =
 
 -- bytes that came to a window which was open stand behind those that it held, and what is left is the same
 pub came_behind :
-    (old new : WindowState) (bytes : List ℕ) → old.window.inflow ≡ Open → new.window.buffer ≡ old.window.buffer ++ bytes → Consumes old.remaining new.remaining bytes
+    (old new : WindowState) (bytes : List ℕ) → old.window.inflow ≡ Open → new.window.buffer ≡ old.window.buffer ++ bytes
+        → Consumes old.remaining new.remaining bytes
     → new.window.came ≡ counted old.window.came (length bytes)
     → new.window.most ≡ old.window.most → ((failures : ℕ) → IsSound failures old → IsSound failures new) → Reads old new Stays
 came_behind old new bytes was_open held came counts most sound = record {
@@ -137,7 +139,8 @@ passed mid new front behind held p = record {
 
 -- a part that stands at the front of what is there
 pub part_read :
-    (old mid new : WindowState) (front rest : List ℕ) (P : List ℕ → List ℕ → Type 0) → Reads old mid Stays → mid.window.buffer ≡ front ++ rest → IsPassed mid new rest
+    (old mid new : WindowState) (front rest : List ℕ) (P : List ℕ → List ℕ → Type 0) → Reads old mid Stays → mid.window.buffer ≡ front ++ rest
+        → IsPassed mid new rest
     → ((later : List ℕ) → P (front ++ later) later) → Reads old new P
 part_read old mid new front rest P held split p is =
     reads_then old mid new Stays (λ left later. left ≡ front ++ later) P held (passed mid new front rest split p)
@@ -397,7 +400,8 @@ few_told most bytes rest are short = record {
 }
 
 pub memory_from :
-    (old new : WindowState) (most : ℕ) → Reads old new (AreUnheld old.window.most) → IsFresh old most → most < 2 ^ 32 → stopped_by new.window.inflow ≡ faults.Memory
+    (old new : WindowState) (most : ℕ) → Reads old new (AreUnheld old.window.most) → IsFresh old most → most < 2 ^ 32
+        → stopped_by new.window.inflow ≡ faults.Memory
     → (bytes : List ℕ) × Consumes old.remaining new.remaining bytes × TellsOfFew most bytes
 memory_from old new most read fresh small is =
     let came = came_from old new (AreUnheld old.window.most) read fresh.empty fresh.zero in

@@ -84,7 +84,8 @@ item_found zero (Some value) one is = absurd (let h : None ≡ Some one = is in 
 item_found (suc i) None one is = absurd (let h : None ≡ Some one = is in cc)
 item_found (suc i) (Some value) one is = (i, value, (let same : suc i ≡ i + 1 = omega arith in same), refl, is)
 
-found_at : (document : Members) (place : TomlPath) (value : Data) (b : Breach) → value_of document place ≡ Some value → BreaksAt value place b → Found document b
+found_at : (document : Members) (place : TomlPath) (value : Data) (b : Breach) → value_of document place ≡ Some value → BreaksAt value place b
+    → Found document b
 found_at document File value b is (inl (none, told)) = absurd (let h : Some document ≡ None = ap as_table (same_Some _ _ is) ∙ none in cc)
 found_at document File value b is (inr (fields, there, broken)) = of_file document b
     (rw (same_Some fields document (sym there ∙ ap as_table (sym (same_Some _ _ is)))) at broken)
@@ -444,7 +445,8 @@ before_item items place i value b here item below before j earlier other is brok
 
 -- and where it breaks nothing, neither does any up to it
 pub next_item :
-    (items : Items) (place : ℕ → TomlPath) (i : ℕ) (value : Data) → get_item i items ≡ Some value → ((other : Breach) → BreaksAt value (place (i + 1)) other → ⊥)
+    (items : Items) (place : ℕ → TomlPath) (i : ℕ) (value : Data) → get_item i items ≡ Some value
+        → ((other : Breach) → BreaksAt value (place (i + 1)) other → ⊥)
     → ((j : ℕ) (earlier : Data) (other : Breach) → j < i → get_item j items ≡ Some earlier → BreaksAt earlier (place (j + 1)) other → ⊥)
     → (j : ℕ) (earlier : Data) (other : Breach) → j < i + 1 → get_item j items ≡ Some earlier → BreaksAt earlier (place (j + 1)) other → ⊥
 next_item items place i value here clear before j earlier other low is broken =

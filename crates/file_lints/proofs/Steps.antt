@@ -173,7 +173,8 @@ size_is fields place n is (Overlap one two) broken at_step = broken
 size_is fields place n is (Rule fault) broken at_step = broken
 
 -- whole pages break nothing at their step
-pub pages_are : (fields : Members) (place : TomlPath) (range : ℕ × ℕ) → range_in fields ≡ Some range → IsRange range → (other : Breach) → Breaks fields place other
+pub pages_are : (fields : Members) (place : TomlPath) (range : ℕ × ℕ) → range_in fields ≡ Some range → IsRange range → (other : Breach)
+    → Breaks fields place other
     → step_of other ≡ 3 → ⊥
 pages_are fields place range is whole (Unknown spot key) broken at_step = let h : 0 ≡ 3 = at_step in cc
 pages_are fields place range is whole (Missing spot keys.Monitor) broken at_step = let h : 0 ≡ 3 = at_step in cc

@@ -109,7 +109,8 @@ IsBroken fault ram devices _ = ⊥
 -- in common, or another rule is broken
 pub data IsBreach (document : Members) : Breach → Type 0 where
   at_place : (place : TomlPath) (value : Data) (breach : Breach)
-      → value_of document place ≡ Some value → BreaksAt value place breach → IsBreach document breach
+      → value_of document place ≡ Some value → BreaksAt value place breach
+      → IsBreach document breach
   no_array : (key : Key) (value : Data) → (key ≡ keys.Ram) ⊎ (key ≡ keys.Device)
       → get_member (key_name key) document ≡ Some value → as_array value ≡ None
       → IsBreach document (NoTables key)
