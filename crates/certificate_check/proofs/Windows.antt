@@ -77,7 +77,7 @@ counts_soundly old new was_open same few many fits failures is =
 -- bytes that came to a window which was open stand behind those that it held, and what is left is the same
 pub came_behind :
     (old new : WindowState) (bytes : List ℕ) → old.window.inflow ≡ Open → new.window.buffer ≡ old.window.buffer ++ bytes
-        → Consumes old.remaining new.remaining bytes
+    → Consumes old.remaining new.remaining bytes
     → new.window.came ≡ counted old.window.came (length bytes)
     → new.window.most ≡ old.window.most → ((failures : ℕ) → IsSound failures old → IsSound failures new) → Reads old new Stays
 came_behind old new bytes was_open held came counts most sound = record {
@@ -140,7 +140,7 @@ passed mid new front behind held p = record {
 -- a part that stands at the front of what is there
 pub part_read :
     (old mid new : WindowState) (front rest : List ℕ) (P : List ℕ → List ℕ → Type 0) → Reads old mid Stays → mid.window.buffer ≡ front ++ rest
-        → IsPassed mid new rest
+    → IsPassed mid new rest
     → ((later : List ℕ) → P (front ++ later) later) → Reads old new P
 part_read old mid new front rest P held split p is =
     reads_then old mid new Stays (λ left later. left ≡ front ++ later) P held (passed mid new front rest split p)
@@ -401,7 +401,7 @@ few_told most bytes rest are short = record {
 
 pub memory_from :
     (old new : WindowState) (most : ℕ) → Reads old new (AreUnheld old.window.most) → IsFresh old most → most < 2 ^ 32
-        → stopped_by new.window.inflow ≡ faults.Memory
+    → stopped_by new.window.inflow ≡ faults.Memory
     → (bytes : List ℕ) × Consumes old.remaining new.remaining bytes × TellsOfFew most bytes
 memory_from old new most read fresh small is =
     let came = came_from old new (AreUnheld old.window.most) read fresh.empty fresh.zero in

@@ -446,7 +446,7 @@ before_item items place i value b here item below before j earlier other is brok
 -- and where it breaks nothing, neither does any up to it
 pub next_item :
     (items : Items) (place : ℕ → TomlPath) (i : ℕ) (value : Data) → get_item i items ≡ Some value
-        → ((other : Breach) → BreaksAt value (place (i + 1)) other → ⊥)
+    → ((other : Breach) → BreaksAt value (place (i + 1)) other → ⊥)
     → ((j : ℕ) (earlier : Data) (other : Breach) → j < i → get_item j items ≡ Some earlier → BreaksAt earlier (place (j + 1)) other → ⊥)
     → (j : ℕ) (earlier : Data) (other : Breach) → j < i + 1 → get_item j items ≡ Some earlier → BreaksAt earlier (place (j + 1)) other → ⊥
 next_item items place i value here clear before j earlier other low is broken =
