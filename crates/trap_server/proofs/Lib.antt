@@ -8,6 +8,7 @@ mod Lists
 mod Lengths
 mod Appended
 mod Filling
+mod Past
 mod Read
 mod Traps
 mod WordsBack

@@ -1,6 +1,6 @@
 //! The frame of an answer: with what a hart goes on.
 
-ghost use Rattle.std.specs.Prelude.{◌≡◌, ◌<◌, ◌≤◌, ◌+◌, ◌++◌, length, take};
+ghost use Rattle.std.specs.Prelude.{◌≡◌, ◌<◌, ◌≤◌, ◌+◌, ◌-◌, ◌++◌, length, take, replicate};
 ghost use Rattle.monitor_core.specs.Answers.{world_number};
 ghost use Rattle.trap_server.specs.Answers.{address_at, address_bytes, answer_bytes, cfg_at, cfg_bytes, control_bytes, head_bytes, pages_of, register_bytes, wake_word};
 
@@ -108,24 +108,39 @@ fn address_at(entries: &[Entry], i: usize) -> u64
     address
 }
 
-/// Writes the configuration bytes of 64 entries after them. As words they are pmpcfg0, pmpcfg2, .. pmpcfg14.
+/// Makes the bytes from one on and before another zero. Those before them stay.
 #[inline(always)]
-fn put_configuration(frame: &mut AnswerBytes, entries: &[Entry])
-    ensures { take 392 frame.new ≡ take 328 frame.old ++ cfg_bytes entries.now 64 }
+fn clear(frame: &mut AnswerBytes, from: usize, end: usize)
+    requires order { from ≤ end }
+    requires inside { end ≤ 984 }
+    ensures { take end frame.new ≡ take from frame.old ++ replicate (end - from) 0 }
 {
-    for i in 0..64 {
-        frame[328 + i] = cfg_at(entries, i);
-    }
+    frame[from..end].fill(0);
 }
 
-/// Writes the address registers of 64 entries after them.
+/// Writes the configuration bytes of 64 entries after them, zero past the entries. As words they are pmpcfg0, pmpcfg2, ..
+/// pmpcfg14.
+#[inline(always)]
+fn put_configuration(frame: &mut AnswerBytes, entries: &[Entry])
+    requires { length entries.now ≤ 64 }
+    ensures { take 392 frame.new ≡ take 328 frame.old ++ cfg_bytes entries.now 64 }
+{
+    for i in 0..entries.len() {
+        frame[328 + i] = cfg_at(entries, i);
+    }
+    clear(frame, 328 + entries.len(), 392);
+}
+
+/// Writes the address registers of 64 entries after them, zero past the entries.
 #[inline(always)]
 fn put_addresses(frame: &mut AnswerBytes, entries: &[Entry])
+    requires { length entries.now ≤ 64 }
     ensures { take 904 frame.new ≡ take 392 frame.old ++ address_bytes entries.now 64 }
 {
-    for i in 0..64 {
+    for i in 0..entries.len() {
         put_word(frame, 49 + i, address_at(entries, i));
     }
+    clear(frame, 392 + 8 * entries.len(), 904);
 }
 
 /// Writes the control words after them, below a tag of their own.

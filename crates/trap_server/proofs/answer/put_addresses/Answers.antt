@@ -1,8 +1,9 @@
-use Rattle.std.proofs.Common.{◌≡◌, ◌∙◌, ◌+◌, ◌*◌, ◌++◌, take, ap, sym, arith}
+use Rattle.std.proofs.Common.{◌≡◌, ◌∙◌, ◌+◌, ◌-◌, ◌*◌, ◌++◌, take, length, replicate, ap, sym, append_assoc, arith}
 use Rattle.byteorder.specs.Endian.{little_bytes}
 use Rattle.trap_server.specs.Answers.{address_at, address_bytes}
 use Rattle.trap_server.proofs.Appended.{word_more}
 use Rattle.trap_server.proofs.Lengths.{address_step}
+use Rattle.trap_server.proofs.Past.{address_past}
 use Rattle.trap_server.proofs.answer.put_addresses.Goals as goal
 
 pub loop-i-preserved : goal.loop-i-preserved
@@ -16,6 +17,14 @@ loop-i-preserved c =
 
 pub returns : goal.returns
 returns c =
-    let last : c.loop-i.i ≡ 64 = omega (arith, c.loop-i-test.false, c.loop-i.auto.i-end) in
-    let whole : 392 + 8 * c.loop-i.i ≡ 904 = omega (arith, last) in
-    ap (λ n. take n c.loop-i.frame) (sym whole) ∙ c.loop-i.invariant ∙ ap (λ n. take 392 c.args.frame.now ++ address_bytes c.args.entries.now n) last
+    let entries = c.args.entries.now in
+    let start = take 392 c.args.frame.now in
+    let n = length entries in
+    let last : c.loop-i.i ≡ n = omega (arith, c.loop-i-test.false, c.loop-i.auto.i-end) in
+    let rest : 904 - (392 + 8 * n) ≡ 8 * (64 - n) = omega (arith, c.requires) in
+    let all : n + (64 - n) ≡ 64 = omega (arith, c.requires) in
+    c.clear.ensures ∙ ap (λ k. take (392 + 8 * k) c.loop-i.frame ++ replicate (904 - (392 + 8 * n)) 0) (sym last)
+    ∙ ap (λ xs. xs ++ replicate (904 - (392 + 8 * n)) 0) c.loop-i.invariant ∙ ap (λ k. (start ++ address_bytes entries c.loop-i.i) ++ replicate k 0) rest
+    ∙ ap (λ k. (start ++ address_bytes entries k) ++ replicate (8 * (64 - n)) 0) last
+    ∙ append_assoc start (address_bytes entries n) (replicate (8 * (64 - n)) 0)
+    ∙ ap (λ xs. start ++ xs) (sym (address_past entries (64 - n)) ∙ ap (address_bytes entries) all)
