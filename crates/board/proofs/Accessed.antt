@@ -1,7 +1,7 @@
 -- What holds of an access: it is a step of the model, whose verdict is the view's.
-use Rattle.std.proofs.Common.{◌≡◌, ◌≢◌, ◌∙◌, inl, inr, ℕ, ◌+◌, ◌-◌, ◌/◌, ◌%◌, ◌^◌, ◌<◌, ◌≤◌, nat_le, nat_lt, if◌then◌else◌, List, Result, Ok, Err, true, refl}
+use Rattle.std.proofs.Common.{◌≡◌, ◌≢◌, ◌∙◌, inl, inr, ℕ, ◌+◌, ◌-◌, ◌<◌, ◌≤◌, nat_le, nat_lt, if◌then◌else◌, List, Result, Ok, Err, true, refl}
 use Rattle.std.proofs.Common.{ap, sym, subst}
-use Rattle.std.proofs.lemmas.Bool.{and_parts, eq-eqb, leb-true, ltb-true, ne_eqb, le-ltb, lt-ltb, false_from_ne_true}
+use Rattle.std.proofs.lemmas.Bool.{and_parts, leb-true, ltb-true}
 use Rattle.pmp_encoding.specs.declared.perm.Perm.{Perm}
 use Rattle.pmp_encoding.specs.declared.region.Entry.{Entry}
 use Rattle.pmp_encoding.specs.Registers.{byte_of}
@@ -12,9 +12,10 @@ use Rattle.pmp_match.specs.declared.access.Kind.TheVariants.{Fetch, Load, Store}
 use Rattle.pmp_match.specs.declared.access.Mode.TheVariants.{Machine}
 use Rattle.pmp_match.specs.declared.cause.Cause.{Cause}
 use Rattle.pmp_match.specs.Accesses.{Reaches}
-use Rattle.pmp_match.specs.Judgement.{Judges, off_its_size, outside, denied, allowed}
+use Rattle.pmp_match.specs.Judgement.{Judges}
 use Rattle.pmp_match.specs.Kinds.{holds}
 use Rattle.pmp_match.specs.Meaning.{Means}
+use Rattle.pmp_match.proofs.Judged.{judgement_law_proof}
 use Rattle.enclave_table.specs.Enclaves.{Live}
 use Rattle.enclave_table.specs.Tables.{IsTable}
 use Rattle.enclave_table.specs.Views.{current_view}
@@ -32,21 +33,13 @@ use Rattle.hart_sim.specs.Steps.{Accesses, Step, TakesEffect, verdict}
 use Rattle.trap_server.specs.Firmware.{HasFewest}
 use Rattle.board.specs.Board.{Board, DoesAccess, memory_after, put_by}
 use Rattle.board.specs.Headline.{IsMonitorByte, IsOwnStore, KeepsAccess}
+use Rattle.board.proofs.Judged.{judged}
 
 -- what a list says that means a view, the view says
-verdict_is : (view : ℕ → Perm) (entries : List Entry) (a : Access) (said : Result (Unit {0}) Cause) → Means entries view → a.mode ≢ Machine
-    → Judges entries a said → verdict view a ≡ said
-verdict_is view entries a _ means mode (off_its_size off) = rw (ne_eqb (a.address % a.size) 0 off)
-verdict_is view entries a _ means mode (outside on out) = rw (eq-eqb (a.address % a.size) 0 on, le-ltb a.address (2 ^ 56) out)
-verdict_is view entries a _ means mode (denied on inside refused) =
-    rw (
-      eq-eqb (a.address % a.size) 0 on,
-      lt-ltb a.address (2 ^ 56) inside,
-      false_from_ne_true (holds (view (a.address / 4096)) a.kind)
-          (λ yes. refused ((means a on inside mode).1 yes)),
-    )
-verdict_is view entries a _ means mode (allowed on inside granted) =
-    rw (eq-eqb (a.address % a.size) 0 on, lt-ltb a.address (2 ^ 56) inside, (means a on inside mode).0 granted)
+said_by : (view : ℕ → Perm) (entries : List Entry) (a : Access) (said : Result (Unit {0}) Cause) → Means entries view → a.mode ≢ Machine
+    → Judges entries a said → said ≡ verdict view a
+said_by view entries a said means mode is =
+    sym ((judgement_law_proof entries a said).0 is) ∙ (judgement_law_proof entries a (verdict view a)).0 (judged view entries a means mode)
 
 -- the board as a state of the model, in which every page was written
 abbrev pub as_machine : Board → MachineState
@@ -164,7 +157,8 @@ pub access_kept : (law : StepsPromise) (old : Board) (hart : ℕ) (a : Access) (
 access_kept law old hart a value said new right fewest x =
     let view = current_view old.monitor.table (old.monitor.worlds hart) in
     let same : x.entries ≡ fewest.entries = one_list _ x.entries fewest.entries x.loaded fewest.list in
-    let is : said ≡ verdict view a = sym (verdict_is view fewest.entries a said fewest.fewest.means x.below (subst (λ es. Judges es a said) same x.judged)) in
+    let is : said ≡ verdict view a = said_by view fewest.entries a said fewest.fewest.means x.below
+    (subst (λ es. Judges es a said) same x.judged) in
     let s = awoken (as_machine old) hart in
     let p = promised law old hart a value said right is in
     let closed : (byte : ℕ) → IsMonitorByte old byte → Reaches a byte → (cause : Cause) × (said ≡ Err cause) = λ byte own reaches.

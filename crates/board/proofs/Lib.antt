@@ -4,3 +4,13 @@ mod Accessed
 mod Trapped
 mod Fresh
 mod Boards
+mod FrameWords
+mod PageFrames
+mod TrapFrames
+mod Judged
+mod Rooms
+mod Follows
+mod TrapsOn
+mod Asked
+mod ModelSteps
+mod Modelled

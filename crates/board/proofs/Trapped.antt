@@ -32,7 +32,7 @@ use Rattle.board.proofs.Made.{Absent, made_call, made_irq}
 use Rattle.board.proofs.Named.{named}
 
 -- no page is one of none
-none_in : (page : ℕ) → in_range 0 0 page ≡ false
+pub none_in : (page : ℕ) → in_range 0 0 page ≡ false
 none_in page = false_from_ne_true (in_range 0 0 page) (λ yes. absurd (grind (arith, yes)))
 
 -- a page that is private is a part

@@ -5,6 +5,7 @@ ghost use Rattle.platforms.specs.Platform.{IsLayout, PlatformLayout};
 ghost use Rattle.trap_server.specs.Boot.{IsFirstAnswer};
 ghost use Rattle.board.specs.Board.{Board, BoardEvent, BoardRun};
 ghost use Rattle.board.specs.Headline.{BoardHeadline};
+ghost use Rattle.board.specs.Model.{ModelRunsOnBoard};
 
 use hart_sim::step_law;
 use trap_server::firmware_law;
@@ -23,4 +24,14 @@ pub fn board_law()
 {
     firmware_law();
     step_law();
+}
+
+/// Each run of the model, from the opening state of a platform on, is a run of a board: each access that the model allows
+/// or denies is one of the board that is allowed or denied, each call and each interrupt is a trap with the same
+/// registers, and at the end the table, the worlds, memory and the registers of the worlds that wait are the same. So
+/// what [`board_law`] says of every board holds of the model.
+pub fn model_law()
+    ensures { ModelRunsOnBoard }
+{
+    board_law();
 }

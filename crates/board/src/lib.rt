@@ -17,4 +17,4 @@
 
 mod laws;
 
-pub use laws::board_law;
+pub use laws::{board_law, model_law};

@@ -1,2 +1,3 @@
 mod Entered
 mod InTurn
+mod Known

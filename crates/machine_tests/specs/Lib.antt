@@ -1,1 +1,2 @@
 pub mod Life
+pub mod Served

@@ -15,6 +15,7 @@ mod calls;
 mod digests;
 #[cfg(test)]
 mod failing_runs;
+mod firmware;
 mod headline;
 #[cfg(test)]
 mod machines;
@@ -29,6 +30,8 @@ mod runs;
 #[cfg(test)]
 mod served;
 #[cfg(test)]
+mod served_life;
+#[cfg(test)]
 mod switches;
 #[cfg(test)]
 mod table;
@@ -37,4 +40,5 @@ mod tallies;
 #[cfg(test)]
 mod two_harts;
 
+pub use firmware::{destroyed_on_board, serve_life};
 pub use headline::{life, runs_on};

@@ -1,5 +1,5 @@
-mod Waking
-mod Served
+pub mod Waking
+pub mod Served
 mod Looped
 mod Came
 mod ServedFrom

@@ -1,0 +1,437 @@
+-- Each step of the model on a board that is as its state.
+use Rattle.std.proofs.Common.{◌≡◌, ◌≢◌, ◌∙◌, inl, inr, ℕ, ◌+◌, ◌<◌, ◌≤◌, ◌^◌, ◌==◌, Bool, true, false, if◌then◌else◌, List, [], ◌∷◌, ◌++◌, length, Option, Some, None}
+use Rattle.std.proofs.Common.{IfSome, Result, Ok, Err, append-nil, refl, ap, sym, subst, arith}
+use Rattle.std.proofs.lemmas.Bool.{both_ways, eq-eqb, eqb-true}
+use Rattle.pmp_encoding.specs.Limits.{limit_number}
+use Rattle.pmp_encoding.specs.Lists.{MeansList}
+use Rattle.pmp_encoding.specs.declared.limit.Limit.{Limit}
+use Rattle.pmp_encoding.specs.declared.pages.PageRange.{PageRange}
+use Rattle.pmp_encoding.specs.declared.region.Entry.{Entry}
+use Rattle.pmp_match.specs.Judgement.{Judges}
+use Rattle.pmp_match.specs.Meaning.{IsFewest, View}
+use Rattle.pmp_match.specs.declared.access.Access.{Access}
+use Rattle.pmp_match.specs.declared.access.Kind.{Kind}
+use Rattle.pmp_match.specs.declared.access.Kind.TheVariants.{Fetch, Load, Store}
+use Rattle.pmp_match.specs.declared.access.Mode.TheVariants.{Machine}
+use Rattle.pmp_match.specs.declared.cause.Cause.{Cause}
+use Rattle.platforms.specs.Platform.{PlatformLayout}
+use Rattle.sbi_decode.specs.Calls.{call_of}
+use Rattle.sbi_decode.specs.Registers.{RegisterFile}
+use Rattle.sbi_decode.specs.Runners.{Runner, HostOf, EnclaveOf, runner_of}
+use Rattle.sbi_decode.specs.declared.world.World.{World}
+use Rattle.sbi_decode.specs.declared.world.World.TheVariants.{Host, Enclave as InEnclave}
+use Rattle.enclave_table.specs.Fewest.{FitsIn}
+use Rattle.enclave_table.specs.Tables.{IsCurrent, IsTable}
+use Rattle.enclave_table.specs.Views.{current_view}
+use Rattle.monitor_core.specs.Changes.{is_same, past_call, with_running}
+use Rattle.monitor_core.specs.Frames.{ClearsMemory}
+use Rattle.monitor_core.specs.Measured.{asked_in}
+use Rattle.monitor_core.specs.States.{MonitorState, running_registers}
+use Rattle.monitor_core.specs.Steps.{DoesCall, Interrupts}
+use Rattle.monitor_core.specs.Worlds.{ArePlaced}
+use Rattle.monitor_core.proofs.Cases.{both}
+use Rattle.monitor_core.proofs.Cleared.{call_clears_memory}
+use Rattle.monitor_core.proofs.Layouts.{call_keeps_layout, interrupt_keeps_layout}
+use Rattle.monitor_core.proofs.Put.{same_not, same_self}
+use Rattle.monitor_core.proofs.WorldsKept.{call_keeps_worlds, interrupt_keeps_worlds, putting_keeps_worlds}
+use Rattle.hart_trace.specs.declared.event.Event.{Event}
+use Rattle.hart_trace.specs.declared.event.Event.TheVariants as events
+use Rattle.hart_trace.specs.declared.reply.Reply.{Reply}
+use Rattle.hart_trace.specs.declared.reply.Reply.TheVariants as replies
+use Rattle.hart_sim.specs.Changes.{calling}
+use Rattle.hart_sim.specs.Memory.{measured_in}
+use Rattle.hart_sim.specs.Replies.{RepliesWith}
+use Rattle.hart_sim.specs.States.{MachineState, awoken, core_of, with_core}
+use Rattle.hart_sim.specs.Steps.{Accesses, Serves, TakesEffect, verdict}
+use Rattle.trap_server.specs.Answered.{AreAwake, no_answer}
+use Rattle.trap_server.specs.Firmware.{HasFewest, loaded_pairs}
+use Rattle.trap_server.specs.declared.trap.TrapEvent.TheVariants as traps
+use Rattle.trap_server.proofs.Waking.{marks_in_host}
+use Rattle.board.specs.Board.{BoardEvent, BoardRun, DoesAccess, access, happened, memory_after, put_by, trapped}
+use Rattle.board.specs.Model.{IsOneTrap, IsSeen}
+use Rattle.board.proofs.Asked.{asks, frames_of_memory, measures_known}
+use Rattle.board.proofs.Follows.{Follows, IsElsewhere, call_follows, digest_by, irq_follows}
+use Rattle.board.proofs.Judged.{judged}
+use Rattle.board.proofs.Rooms.{AllFit, call_fits, current_fits, irq_fits}
+use Rattle.board.proofs.TrapFrames.{trap_frame, trap_on}
+use Rattle.board.proofs.TrapsOn.{OnBoard, TrapLeaves, Waits, board_of, clears, monitor_of, trap_seen}
+
+-- what the theorem of a board says of one that is as a state
+pub record IsGood (layout : PlatformLayout) (s : MachineState) (registers : Runner → RegisterFile) (marked : ℕ → Bool) (loaded : ℕ → List ℕ) : Type 0 where
+  pub table : IsTable s.table
+  pub platform : s.table.layout ≡ layout
+  pub worlds : ArePlaced (monitor_of s registers marked)
+  pub awake : AreAwake (monitor_of s registers marked)
+  pub banks : (hart : ℕ) → hart < layout.harts → HasFewest (loaded hart) layout.limit (current_view s.table (s.worlds hart))
+
+-- what is seen of a step
+pub record Next (layout : PlatformLayout) (opened : List ℕ) (seen : List BoardEvent) (event : Event) (s : MachineState) (hart : ℕ) (reply : Reply)
+    (new : MachineState) : Type 0 where
+  pub now : List BoardEvent
+  pub is_seen : IsSeen event s hart reply now
+  pub on : OnBoard layout opened (seen ++ now) new
+
+module _ (layout : PlatformLayout) (opened : List ℕ) (seen : List BoardEvent) (s : MachineState) (hart : ℕ) (reply : Reply) (new : MachineState)
+    (known : hart < s.table.layout.harts) (on : OnBoard layout opened seen s) (good : IsGood layout s on.registers on.marked on.loaded) where
+  abbrev On : List BoardEvent → MachineState → Type 0
+  On events that = OnBoard layout opened events that
+
+  -- nothing was seen
+  nothing : (that : MachineState) → On seen that → On (seen ++ []) that
+  nothing that x = subst (λ events. On events that) (sym (append-nil seen)) x
+
+  -- an access, with what the view says of it
+  acts : (a : Access) (value : ℕ) (said : Result (Unit {0}) Cause) → a.mode ≢ Machine → said ≡ verdict (current_view s.table (s.worlds hart)) a
+      → (memory : ℕ → ℕ) → memory ≡ memory_after said s.bytes a value
+      → DoesAccess (board_of s on.registers on.marked on.hosts on.loaded) hart a value said
+      (record (board_of s on.registers on.marked on.hosts on.loaded) { memory = memory })
+  acts a value said below is memory same =
+      let fewest = good.banks hart (subst (λ l. hart < l.harts) good.platform known) in
+      record {
+        known = known;
+        below = below;
+        entries = fewest.entries;
+        loaded = subst (λ l. MeansList (loaded_pairs (on.loaded hart) 0 (limit_number l.limit)) fewest.entries) (sym good.platform) fewest.list;
+        judged = subst (Judges fewest.entries a) (sym is) (judged (current_view s.table (s.worlds hart)) fewest.entries a fewest.fewest.means below);
+        state = ap (λ m. record (board_of s on.registers on.marked on.hosts on.loaded) { memory = m }) same;
+      }
+
+  -- an access that leaves this state, which differs in memory alone
+  access_on : (a : Access) (value : ℕ) (said : Result (Unit {0}) Cause) → a.mode ≢ Machine → said ≡ verdict (current_view s.table (s.worlds hart)) a
+      → (that : MachineState) → that.table ≡ s.table → that.worlds ≡ s.worlds → that.registers ≡ s.registers
+      → that.bytes ≡ memory_after said s.bytes a value
+      → On (seen ++ access hart a value said ∷ []) that
+  access_on a value said below is that table worlds registers bytes =
+      let put = record (board_of s on.registers on.marked on.hosts on.loaded) { memory = that.bytes } in
+      let same : put ≡ board_of that on.registers on.marked on.hosts on.loaded = λ i. record {
+        monitor = record { table = sym table i; worlds = sym worlds i; registers = on.registers; marked = on.marked };
+        hosts = on.hosts;
+        memory = that.bytes;
+        loaded = on.loaded;
+      } in
+      record {
+        registers = on.registers;
+        marked = on.marked;
+        hosts = on.hosts;
+        loaded = on.loaded;
+        runs = subst (BoardRun layout opened (seen ++ access hart a value said ∷ [])) same
+            (happened on.runs (access hart a value said) (acts a value said below is that.bytes bytes));
+        waits = λ who off.
+            on.waits who (λ h low. subst (λ w. who ≢ runner_of h (w h)) worlds (off h (subst (λ t. h < t.layout.harts) (sym table) low)))
+            ∙ sym (ap (λ r. r who) registers);
+      }
+
+  takes : (a : Access) (value : ℕ) (kind : Kind) → a.kind ≡ kind → a.mode ≢ Machine → Ok tt ≡ verdict (current_view s.table (s.worlds hart)) a
+      → TakesEffect kind (awoken s hart) a value reply new → Next layout opened seen (events.Access a value) s hart reply new
+  takes a value Fetch kind below is x = record {
+    now = access hart a value (Ok tt) ∷ [];
+    is_seen = subst (λ r. IsSeen (events.Access a value) s hart r (access hart a value (Ok tt) ∷ [])) (sym x.0) refl;
+    on = access_on a value (Ok tt) below is new (ap (λ n. n.table) x.1) (ap (λ n. n.worlds) x.1) (ap (λ n. n.registers) x.1)
+        (ap (λ n. n.bytes) x.1 ∙ ap (λ k. put_by k s.bytes a value) (sym kind));
+  }
+  takes a value Load kind below is x = record {
+    now = access hart a value (Ok tt) ∷ [];
+    is_seen = subst (λ r. IsSeen (events.Access a value) s hart r (access hart a value (Ok tt) ∷ [])) (sym x.0) refl;
+    on = access_on a value (Ok tt) below is new (ap (λ n. n.table) x.1) (ap (λ n. n.worlds) x.1) (ap (λ n. n.registers) x.1)
+        (ap (λ n. n.bytes) x.1 ∙ ap (λ k. put_by k s.bytes a value) (sym kind));
+  }
+  takes a value Store kind below is (inl x) = record {
+    now = access hart a value (Ok tt) ∷ [];
+    is_seen = subst (λ r. IsSeen (events.Access a value) s hart r (access hart a value (Ok tt) ∷ [])) (sym x.0) refl;
+    on = access_on a value (Ok tt) below is new (ap (λ n. n.table) x.1) (ap (λ n. n.worlds) x.1) (ap (λ n. n.registers) x.1)
+        (ap (λ n. n.bytes) x.1 ∙ ap (λ k. put_by k s.bytes a value) (sym kind));
+  }
+  takes a value Store kind below is (inr x) = record {
+    now = [];
+    is_seen = subst (λ r. IsSeen (events.Access a value) s hart r []) (sym x.0) refl;
+    on = subst (On (seen ++ [])) (sym x.2) (nothing (awoken s hart) (record {
+      registers = on.registers;
+      marked = on.marked;
+      hosts = on.hosts;
+      loaded = on.loaded;
+      runs = on.runs;
+      waits = on.waits;
+    }));
+  }
+
+  pub access_next : (a : Access) (value : ℕ) (said : Result (Unit {0}) Cause) → a.mode ≢ Machine → said ≡ verdict (current_view s.table (s.worlds hart)) a
+      → Accesses said (awoken s hart) a value reply new → Next layout opened seen (events.Access a value) s hart reply new
+  access_next a value (Err cause) below is x = record {
+    now = access hart a value (Err cause) ∷ [];
+    is_seen = subst (λ r. IsSeen (events.Access a value) s hart r (access hart a value (Err cause) ∷ [])) (sym x.0) refl;
+    on = access_on a value (Err cause) below is new (ap (λ n. n.table) x.1) (ap (λ n. n.worlds) x.1) (ap (λ n. n.registers) x.1) (ap (λ n. n.bytes) x.1);
+  }
+  access_next a value (Ok done) below is x = takes a value a.kind refl below is x
+
+  -- a register is set of who runs, and of nobody who waits
+  pub reg_next : (n value : ℕ) (file : RegisterFile) → (reply ≡ replies.Done) × (new ≡ with_core (awoken s hart) (with_running (core_of (awoken s hart)) hart file))
+      → Next layout opened seen (events.Reg n value) s hart reply new
+  reg_next n value file x = record {
+    now = [];
+    is_seen = refl;
+    on = subst (On (seen ++ [])) (sym x.1) (nothing (with_core (awoken s hart) (with_running (core_of (awoken s hart)) hart file)) (record {
+      registers = on.registers;
+      marked = on.marked;
+      hosts = on.hosts;
+      loaded = on.loaded;
+      runs = on.runs;
+      waits = λ who off.
+          on.waits who off
+          ∙ sym (ap (λ b. if b then file else s.registers who) (same_not who (runner_of hart (s.worlds hart)) (off hart known)));
+    }));
+  }
+
+  -- who runs on the hart runs on no other
+  alone : IsElsewhere s.table.layout.harts s.worlds hart (runner_of hart (s.worlds hart))
+  alone other low differ is = by_worlds (s.worlds hart) (s.worlds other) refl refl is
+    where
+      number : Runner → ℕ
+      number (HostOf h) = h
+      number (EnclaveOf id) = id
+
+      by_worlds : (w v : World) → s.worlds hart ≡ w → s.worlds other ≡ v → runner_of hart w ≡ runner_of other v → ⊥
+      by_worlds Host Host here there is = differ (sym (ap number is))
+      by_worlds Host (InEnclave k) here there is = cc
+      by_worlds (InEnclave id) Host here there is = cc
+      by_worlds (InEnclave id) (InEnclave k) here there is =
+          let same : id ≡ k = ap number is in
+          differ (sym (good.worlds.alone hart other id known low here (there ∙ ap InEnclave (sym same))))
+
+  -- the same registers of all that run on no other hart, once those of the hart were put there
+  put_follows : (file : RegisterFile) → Follows s.table.layout.harts hart (with_running (core_of (awoken s hart)) hart file)
+      (with_running (monitor_of s on.registers on.marked) hart file)
+  put_follows file = record {
+    table = refl;
+    worlds = refl;
+    registers = λ who off.
+        let runs = runner_of hart (s.worlds hart) in
+        both (is_same who runs)
+        (λ yes. ap (λ b. if b then file else on.registers who) yes ∙ sym (ap (λ b. if b then file else s.registers who) yes))
+        (λ no.
+        let waits : Waits s who = λ h low is. both (h == hart)
+        (λ here.
+        let same : h ≡ hart = eqb-true h hart here in
+        let own : who ≡ runs = is ∙ ap (λ (n : ℕ). runner_of n (s.worlds n)) same in
+        both_ways (is_same who runs) no (ap (λ w. is_same w runs) own ∙ same_self runs))
+        (λ there. off h low (λ same. both_ways (h == hart) there (eq-eqb h hart same)) is) in
+        ap (λ b. if b then file else on.registers who) no ∙ on.waits who waits ∙ sym (ap (λ b. if b then file else s.registers who) no));
+  }
+
+  -- entries that are fewest for a view that fits are few enough
+  few : (limit : Limit) (view : View) (entries : List Entry) → IsFewest view entries → FitsIn limit view → length entries ≤ limit_number limit
+  few limit view entries fewest fits =
+      let least = fewest.least fits.1.entries fits.1.fewest.means in
+      let count = fits.1.count in
+      let most = fits.2 in
+      omega (arith, least, count, most)
+
+  -- a call
+  pub call_next : (file : RegisterFile) → AllFit s.table
+      → Serves (DoesCall (call_of (past_call file)) (measured_in s.bytes) (with_running (core_of (awoken s hart)) hart (past_call file)) hart) (awoken s hart)
+      hart reply new
+      → (x : TrapLeaves layout opened seen traps.Call s new hart file on) × AllFit new.table
+  call_next file fit x =
+      let call = call_of (past_call file) in
+      let gone = past_call file in
+      let digests = measured_in s.bytes in
+      let old = with_running (core_of (awoken s hart)) hart gone in
+      let base = monitor_of s on.registers on.marked in
+      let now = with_running base hart gone in
+      let answer = x.0 in
+      let pages = x.1 in
+      let core = x.2 in
+      let does = x.3 in
+      let is = x.4 in
+      let needs = x.5.1 in
+      let f = call_follows digests s.table s.worlds old.registers now.registers old.marked now.marked s.table.layout.harts hart answer pages core call alone
+      (put_follows gone) does in
+      let mid = f.0 in
+      let layout_is : new.table.layout ≡ s.table.layout = ap (λ n. n.table.layout) is ∙ call_keeps_layout call digests old hart answer pages core does in
+      let table : new.table ≡ mid.table = ap (λ n. n.table) is ∙ sym f.2.table in
+      let worlds : new.worlds ≡ mid.worlds = ap (λ n. n.worlds) is ∙ sym f.2.worlds in
+      let new_fit : AllFit new.table = subst AllFit (sym (ap (λ n. n.table) is)) (call_fits call digests old hart answer pages core good.table does fit) in
+      let placed = call_keeps_worlds call (λ parts. digest_by digests (asked_in call)) now hart answer pages mid known (good.awake hart known) f.1
+      (putting_keeps_worlds base hart gone good.worlds) in
+      let a = asks (asked_in call) base hart s.bytes (measures_known call digests old hart answer pages core does) in
+      let low : hart < new.table.layout.harts = subst (λ l. hart < l.harts) (sym layout_is) known in
+      let current : IsCurrent new.table (new.worlds hart) = subst (λ t. IsCurrent t (new.worlds hart)) (sym table)
+      (subst (λ w. IsCurrent mid.table (w hart)) (sym worlds) (placed.current hart (subst (λ t. hart < t.layout.harts) table low))) in (
+        record {
+          answer = answer;
+          cleared = pages;
+          mid = mid;
+          read = a.1;
+          question = a.0;
+          entries = needs.entries;
+          table = table;
+          worlds = worlds;
+          bytes = λ byte. ap (λ n. n.bytes byte) is ∙ clears pages s.bytes byte;
+          inside = in_space pages (call_clears_memory call digests old hart answer pages core good.table does);
+          waits = λ who off.
+              f.2.registers who (λ other under differ is_there.
+              off other (subst (λ l. other < l.harts) (sym layout_is) under)
+              (is_there ∙ ap (λ w. runner_of other (w other)) (sym (ap (λ n. n.worlds) is))))
+              ∙ sym (ap (λ n. n.registers who) is);
+          fewest = needs.fewest;
+          room = few new.table.layout.limit (current_view new.table (new.worlds hart)) needs.entries needs.fewest
+              (current_fits new.table (new.worlds hart) new_fit current);
+          marks = λ other under on_mark.
+              let old_low : other < s.table.layout.harts = subst (λ l. other < l.harts) layout_is under in
+              let here : mid.worlds hart ≡ Host = marks_in_host call (λ parts. digest_by digests (asked_in call)) now hart answer pages mid other
+              (good.awake other old_low) f.1 on_mark in
+              let there : mid.worlds other ≡ Host = placed.marked other (subst (λ t. other < t.layout.harts) table under) on_mark in
+              ap (λ w. w hart) worlds ∙ here ∙ sym there ∙ sym (ap (λ w. w other) worlds);
+          reads = a.3;
+          serves = λ given answered that same goes_on. record {
+            digest = digest_by digests (asked_in call);
+            answer = answer;
+            cleared = pages;
+            mid = mid;
+            asks = a.2;
+            step = f.1;
+            woken = same;
+            goes_on = goes_on;
+          };
+        },
+        new_fit,
+      )
+    where
+      in_space : (cleared : Option PageRange) → IfSome cleared (λ range. ClearsMemory s.table.layout range)
+          → IfSome cleared (λ range. range.first + range.count ≤ 2 ^ 44)
+      in_space None d = tt
+      in_space (Some range) d = d.inside
+
+  same_is : (a b : Runner) → is_same a b ≡ true → a ≡ b
+  same_is (HostOf h) (HostOf k) is = ap HostOf (eqb-true h k is)
+  same_is (HostOf h) (EnclaveOf k) is = let z : false ≡ true = is in absurd cc
+  same_is (EnclaveOf h) (HostOf k) is = let z : false ≡ true = is in absurd cc
+  same_is (EnclaveOf h) (EnclaveOf k) is = ap EnclaveOf (eqb-true h k is)
+
+  -- the registers of who runs on the hart
+  abbrev pub running : RegisterFile
+  running = running_registers (core_of s) hart
+
+  -- where those are put there the same are everywhere but on other harts
+  own_follows : Follows s.table.layout.harts hart (core_of (awoken s hart)) (with_running (monitor_of s on.registers on.marked) hart running)
+  own_follows = record {
+    table = refl;
+    worlds = refl;
+    registers = λ who off.
+        let runs = runner_of hart (s.worlds hart) in
+        both (is_same who runs)
+        (λ yes. ap (λ b. if b then running else on.registers who) yes ∙ sym (ap s.registers (same_is who runs yes)))
+        (λ no.
+        let waits : Waits s who = λ h low is. both (h == hart)
+        (λ here.
+        let same : h ≡ hart = eqb-true h hart here in
+        let own : who ≡ runs = is ∙ ap (λ (n : ℕ). runner_of n (s.worlds n)) same in
+        both_ways (is_same who runs) no (ap (λ w. is_same w runs) own ∙ same_self runs))
+        (λ there. off h low (λ same. both_ways (h == hart) there (eq-eqb h hart same)) is) in
+        ap (λ b. if b then running else on.registers who) no ∙ on.waits who waits);
+  }
+
+  -- an interrupt
+  pub irq_next : AllFit s.table
+      → (core : MonitorState) × Interrupts (s.worlds hart) (core_of (awoken s hart)) hart core × (new ≡ with_core (awoken s hart) core)
+      × RepliesWith replies.Irq new hart reply
+      → (x : TrapLeaves layout opened seen traps.Stop s new hart running on) × AllFit new.table
+  irq_next fit x =
+      let old = core_of (awoken s hart) in
+      let base = monitor_of s on.registers on.marked in
+      let now = with_running base hart running in
+      let world = s.worlds hart in
+      let core = x.0 in
+      let does = x.1 in
+      let is = x.2 in
+      let needs = x.3.1 in
+      let f = irq_follows (measured_in s.bytes) s.table s.worlds old.registers now.registers old.marked now.marked s.table.layout.harts hart no_answer None core
+      world own_follows does in
+      let mid = f.0 in
+      let layout_is : new.table.layout ≡ s.table.layout = ap (λ n. n.table.layout) is ∙ interrupt_keeps_layout world old hart core does in
+      let table : new.table ≡ mid.table = ap (λ n. n.table) is ∙ sym f.2.table in
+      let worlds : new.worlds ≡ mid.worlds = ap (λ n. n.worlds) is ∙ sym f.2.worlds in
+      let new_fit : AllFit new.table = subst AllFit (sym (ap (λ n. n.table) is)) (irq_fits world old hart core does fit) in
+      let placed = interrupt_keeps_worlds world now hart mid refl known (good.awake hart known) f.1 (putting_keeps_worlds base hart running good.worlds) in
+      let low : hart < new.table.layout.harts = subst (λ l. hart < l.harts) (sym layout_is) known in
+      let current : IsCurrent new.table (new.worlds hart) = subst (λ t. IsCurrent t (new.worlds hart)) (sym table)
+      (subst (λ w. IsCurrent mid.table (w hart)) (sym worlds) (placed.current hart (subst (λ t. hart < t.layout.harts) table low))) in (
+        record {
+          answer = no_answer;
+          cleared = None;
+          mid = mid;
+          read = [];
+          question = [];
+          entries = needs.entries;
+          table = table;
+          worlds = worlds;
+          bytes = λ byte. ap (λ n. n.bytes byte) is ∙ clears None s.bytes byte;
+          inside = tt;
+          waits = λ who off.
+              f.2.registers who (λ other under differ is_there.
+              off other (subst (λ l. other < l.harts) (sym layout_is) under)
+              (is_there ∙ ap (λ w. runner_of other (w other)) (sym (ap (λ n. n.worlds) is))))
+              ∙ sym (ap (λ n. n.registers who) is);
+          fewest = needs.fewest;
+          room = few new.table.layout.limit (current_view new.table (new.worlds hart)) needs.entries needs.fewest
+              (current_fits new.table (new.worlds hart) new_fit current);
+          marks = λ other under on_mark.
+              let old_low : other < s.table.layout.harts = subst (λ l. other < l.harts) layout_is under in
+              absurd (both_ways (mid.marked other) (unmarked_still world other mid f.1 old_low) on_mark);
+          reads = frames_of_memory s.bytes 0 0;
+          serves = λ given answered that same goes_on. record {
+            mid = mid;
+            nothing_asked = refl;
+            nothing_read = refl;
+            step = f.1;
+            woken = same;
+            goes_on = goes_on;
+          };
+        },
+        new_fit,
+      )
+    where
+      unmarked_still : (world : World) (other : ℕ) (mid : MonitorState)
+          → Interrupts world (with_running (monitor_of s on.registers on.marked) hart running) hart mid → other < s.table.layout.harts
+          → mid.marked other ≡ false
+      unmarked_still Host other mid x low = ap (λ m. m.marked other) x ∙ good.awake other low
+      unmarked_still (InEnclave id) other mid x low = ap (λ m. m.marked other) x.2 ∙ good.awake other low
+
+  -- what is seen of a trap
+  pub trap_next : (file : RegisterFile) (words : List ℕ) → past_call file ≡ calling s hart words → (x : TrapLeaves layout opened seen traps.Call s new hart file on)
+      → (now : List BoardEvent) × IsOneTrap traps.Call hart (λ file. past_call file ≡ calling s hart words) now × On (seen ++ now) new
+  trap_next file words came x =
+      let t = trap_seen layout opened seen traps.Call s new hart file on known x in (
+        trapped (trap_on traps.Call hart file) (trap_frame traps.Call hart file) x.read x.question t.0 ∷ [],
+        record {
+          trap = trap_on traps.Call hart file;
+          frame = trap_frame traps.Call hart file;
+          read = x.read;
+          question = x.question;
+          answered = t.0;
+          event = refl;
+          hart_is = refl;
+          came = came;
+          one = refl;
+        },
+        t.1,
+      )
+
+  pub stop_next : (x : TrapLeaves layout opened seen traps.Stop s new hart running on)
+      → Next layout opened seen events.Irq s hart reply new
+  stop_next x =
+      let t = trap_seen layout opened seen traps.Stop s new hart running on known x in
+      record {
+        now = trapped (trap_on traps.Stop hart running) (trap_frame traps.Stop hart running) x.read x.question t.0 ∷ [];
+        is_seen = record {
+          trap = trap_on traps.Stop hart running;
+          frame = trap_frame traps.Stop hart running;
+          read = x.read;
+          question = x.question;
+          answered = t.0;
+          event = refl;
+          hart_is = refl;
+          came = refl;
+          one = refl;
+        };
+        on = t.1;
+      }

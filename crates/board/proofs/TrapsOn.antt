@@ -1,0 +1,138 @@
+-- A trap on a board that is as a state of the model.
+use Rattle.std.proofs.Common.{◌≡◌, ◌≢◌, ◌∙◌, ℕ, ◌+◌, ◌/◌, ◌<◌, ◌≤◌, ◌^◌, Bool, true, false, if◌then◌else◌, List, [], ◌∷◌, ◌++◌}
+use Rattle.std.proofs.Common.{length, Option, Some, None, IfSome, option_map, unwrap_or, refl, ap, sym, subst}
+use Rattle.pmp_encoding.specs.Limits.{limit_number}
+use Rattle.pmp_encoding.specs.declared.pages.PageRange.{PageRange}
+use Rattle.pmp_encoding.specs.declared.region.Entry.{Entry}
+use Rattle.pmp_match.specs.Meaning.{IsFewest}
+use Rattle.platforms.specs.Platform.{PlatformLayout}
+use Rattle.sbi_decode.specs.Registers.{RegisterFile}
+use Rattle.sbi_decode.specs.Runners.{Runner, runner_of}
+use Rattle.enclave_table.specs.Views.{current_view}
+use Rattle.monitor_core.specs.States.{MonitorState, running_registers}
+use Rattle.monitor_core.specs.declared.answer.Answer.{Answer}
+use Rattle.monitor_core.proofs.Equal.{equal}
+use Rattle.hart_sim.specs.Memory.{in_range, zeroed}
+use Rattle.hart_sim.specs.States.{MachineState}
+use Rattle.trap_server.specs.Answered.{IsAnswer, head_of, marks_of, unmarked}
+use Rattle.trap_server.specs.Answers.{answer_bytes, pages_of}
+use Rattle.trap_server.specs.Firmware.{is_loaded}
+use Rattle.trap_server.specs.Given.{keeping, words_in}
+use Rattle.trap_server.specs.Service.{ServesAs}
+use Rattle.trap_server.specs.Words.{word_at}
+use Rattle.trap_server.specs.declared.trap.TrapEvent.{TrapEvent}
+use Rattle.trap_server.specs.declared.words.ControlWords.{ControlWords}
+use Rattle.trap_server.proofs.Served.{mark_at}
+use Rattle.board.specs.Board.{Board, BoardEvent, BoardRun, ReadsMemory, happened, trapped}
+use Rattle.board.proofs.Named.{named}
+use Rattle.board.proofs.TrapFrames.{frame_is, frame_size, trap_frame, trap_on}
+use Rattle.board.proofs.Trapped.{none_in}
+
+-- a board that is as a state, with these registers of those that wait
+abbrev pub monitor_of : MachineState → (Runner → RegisterFile) → (ℕ → Bool) → MonitorState
+monitor_of s registers marked = record {
+  table = s.table;
+  worlds = s.worlds;
+  registers = registers;
+  marked = marked;
+}
+
+abbrev pub board_of : MachineState → (Runner → RegisterFile) → (ℕ → Bool) → (ℕ → ControlWords) → (ℕ → List ℕ) → Board
+board_of s registers marked hosts loaded = record {
+  monitor = monitor_of s registers marked;
+  hosts = hosts;
+  memory = s.bytes;
+  loaded = loaded;
+}
+
+-- who runs on no hart
+abbrev pub Waits : MachineState → Runner → Type 0
+Waits s who = (hart : ℕ) → hart < s.table.layout.harts → who ≢ runner_of hart (s.worlds hart)
+
+pub record OnBoard (layout : PlatformLayout) (opened : List ℕ) (seen : List BoardEvent) (s : MachineState) : Type 0 where
+  pub registers : Runner → RegisterFile
+  pub marked : ℕ → Bool
+  pub hosts : ℕ → ControlWords
+  pub loaded : ℕ → List ℕ
+  pub runs : BoardRun layout opened seen (board_of s registers marked hosts loaded)
+  pub waits : (who : Runner) → Waits s who → registers who ≡ s.registers who
+
+-- what a trap on a hart leaves of the monitor, and what it does on the state of a board
+pub record TrapLeaves (layout : PlatformLayout) (opened : List ℕ) (seen : List BoardEvent) (kind : TrapEvent) (old new : MachineState) (hart : ℕ)
+    (file : RegisterFile) (on : OnBoard layout opened seen old) : Type 0 where
+  pub answer : Answer
+  pub cleared : Option PageRange
+  pub mid : MonitorState
+  pub read : List ℕ
+  pub question : List ℕ
+  pub entries : List Entry
+  pub table : new.table ≡ mid.table
+  pub worlds : new.worlds ≡ mid.worlds
+  pub bytes : (byte : ℕ) → new.bytes byte ≡ zeroed old.bytes (pages_of cleared).first (pages_of cleared).count byte
+  pub inside : IfSome cleared (λ range. range.first + range.count ≤ 2 ^ 44)
+  pub waits : (who : Runner) → Waits new who → mid.registers who ≡ new.registers who
+  pub fewest : IsFewest (current_view new.table (new.worlds hart)) entries
+  pub room : length entries ≤ limit_number new.table.layout.limit
+  pub marks : (other : ℕ) → other < new.table.layout.harts → mid.marked other ≡ true → new.worlds hart ≡ new.worlds other
+  pub reads : ReadsMemory old.bytes read
+  pub serves : (given : ControlWords) (answered : List ℕ) (that : MonitorState) → that ≡ unmarked 4 mid
+      → IsAnswer that given hart answer cleared (marks_of mid) answered
+      → ServesAs kind (monitor_of old on.registers on.marked) (trap_on kind hart file) given read question answered that
+
+pub trap_seen :
+    (layout : PlatformLayout) (opened : List ℕ) (seen : List BoardEvent) (kind : TrapEvent) (old new : MachineState) (hart : ℕ) (file : RegisterFile)
+    (on : OnBoard layout opened seen old) → hart < old.table.layout.harts → (x : TrapLeaves layout opened seen kind old new hart file on)
+    → (answered : List ℕ) × OnBoard layout opened (seen ++ trapped (trap_on kind hart file) (trap_frame kind hart file) x.read x.question answered ∷ []) new
+trap_seen layout opened seen kind old new hart file on known x =
+    let trap = trap_on kind hart file in
+    let that = monitor_of new x.mid.registers (unmarked 4 x.mid).marked in
+    let same : that ≡ unmarked 4 x.mid = equal (record {
+      table = x.table;
+      worlds = λ h. ap (λ w. w h) x.worlds;
+      registers = λ who. refl;
+      marked = λ h. refl;
+    }) in
+    let kept = keeping (old.worlds hart) on.hosts hart trap.control in
+    let given = words_in (new.worlds hart) (kept hart) in
+    let answered = answer_bytes (head_of that hart x.answer x.cleared (marks_of x.mid)) (running_registers that hart) x.entries given in
+    let is_answer : IsAnswer that given hart x.answer x.cleared (marks_of x.mid) answered = (
+      x.entries,
+      record {
+        here = x.fewest;
+        there = λ other low on. subst (λ w. IsFewest (current_view new.table w) x.entries) (x.marks other low (mark_at x.mid other on)) x.fewest;
+        room = x.room;
+      },
+      refl,
+    ) in
+    let words = named that given hart x.answer x.cleared (marks_of x.mid) answered is_answer x.inside in
+    let loaded : ℕ → List ℕ = λ h. if is_loaded answered h then answered else on.loaded h in (
+      answered,
+      record {
+        registers = x.mid.registers;
+        marked = (unmarked 4 x.mid).marked;
+        hosts = kept;
+        loaded = loaded;
+        runs = happened on.runs (trapped trap (trap_frame kind hart file) x.read x.question answered) (record {
+          size = frame_size kind hart file;
+          is_trap = frame_is kind hart old.table.layout.harts file known;
+          served = record {
+            given = given;
+            words = record { keeps = refl; gives = refl };
+            step = x.serves given answered that same is_answer;
+          };
+          pages = x.reads;
+          cleared = λ byte.
+              x.bytes byte ∙ sym (ap (λ first. zeroed old.bytes first (word_at answered 7) byte) words.0
+              ∙ ap (λ count. zeroed old.bytes (pages_of x.cleared).first count byte) words.1);
+          loads = λ h. refl;
+        });
+        waits = x.waits;
+      },
+    )
+
+-- memory as the model clears it
+pub clears : (pages : Option PageRange) (memory : ℕ → ℕ) (byte : ℕ)
+    → (if unwrap_or (option_map (λ (range : PageRange). in_range range.first range.count (byte / 4096)) pages) false then 0 else memory byte)
+    ≡ zeroed memory (pages_of pages).first (pages_of pages).count byte
+clears None memory byte = sym (ap (λ b. if b then 0 else memory byte) (none_in (byte / 4096)))
+clears (Some range) memory byte = refl

@@ -1,0 +1,139 @@
+//! The traps of an enclave that lives on two harts, served from one source to one sink.
+
+use crate::firmware::serve_life;
+use byte_streams::Counted;
+use byte_streams::fakes::PieceSource;
+use byteorder::{ByteOrder, LittleEndian};
+use std::alloc::Global;
+use std::process::Abort;
+
+/// The bytes of an answer.
+const ANSWER: usize = 984;
+
+/// The monitor's extension, in a7.
+const EXTENSION: u64 = 0x0845_4E43;
+
+/// The first page of the enclave.
+const PAGE: u64 = 0x8_0200;
+
+// The tags of frames: words in ASCII, the first letter in the lowest byte.
+
+const PLATFORM_TAG: u64 = 0x6d72_6f66_7461_6c70;
+
+const CALL_TAG: u64 = 0x6c6c_6163;
+
+const STOP_TAG: u64 = 0x706f_7473;
+
+const CONTROL_TAG: u64 = 0x006c_6f72_746e_6f63;
+
+const MEASURE_TAG: u64 = 0x0065_7275_7361_656d;
+
+const PAGE_TAG: u64 = 0x6567_6170;
+
+const ANSWER_TAG: u64 = 0x7265_7773_6e61;
+
+/// Words at the end of bytes, the lowest byte of each first.
+fn put_words(rt: &impl Abort, bytes: &mut Vec<u8>, words: &[u64]) {
+    for word in words {
+        let mut eight = [0; 8];
+        LittleEndian::write_u64(&mut eight, *word);
+        bytes.extend_from_slice(&eight).expect(rt, "memory");
+    }
+}
+
+/// A platform of two harts with sixteen entries: the monitor's 2 MiB at 0x80000000, in 128 MiB of memory, and a device.
+fn put_platform(rt: &impl Abort, frames: &mut Vec<u8>) {
+    let mut words = [0; 167];
+    words[0] = PLATFORM_TAG;
+    words[1] = 2;
+    words[2] = 16;
+    words[3] = 0x8000_0000;
+    words[4] = 0x20_0000;
+    words[5] = 1;
+    words[6] = 1;
+    words[7] = 0x8000_0000;
+    words[8] = 0x800_0000;
+    words[71] = 0x1000_0000;
+    words[72] = 0x1000;
+    words[73] = 3;
+    put_words(rt, frames, &words);
+}
+
+/// A trap on a hart: a call of a function with three arguments, or the timer.
+fn put_trap(
+    rt: &impl Abort,
+    frames: &mut Vec<u8>,
+    tag: u64,
+    hart: u64,
+    function: u64,
+    arguments: [u64; 3],
+) {
+    let mut words = [0; 44];
+    words[0] = tag;
+    words[1] = hart;
+    words[2] = 0x8040_0000;
+    words[12] = arguments[0];
+    words[13] = arguments[1];
+    words[14] = arguments[2];
+    words[18] = function;
+    words[19] = EXTENSION;
+    words[34] = CONTROL_TAG;
+    put_words(rt, frames, &words);
+}
+
+/// The first hart creates an enclave of one page and runs it, the timer stops it there, the second hart resumes it, it exits
+/// there with 7, and the first destroys it.
+fn put_life(rt: &impl Abort, frames: &mut Vec<u8>) {
+    put_platform(rt, frames);
+    put_trap(rt, frames, CALL_TAG, 0, 0, [PAGE * 4096, 1, 0]);
+    put_words(rt, frames, &[PAGE_TAG, PAGE]);
+    put_words(rt, frames, &[0; 512]);
+    put_trap(rt, frames, CALL_TAG, 0, 2, [1, 0, 0]);
+    put_trap(rt, frames, STOP_TAG, 0, 0, [0, 0, 0]);
+    put_trap(rt, frames, CALL_TAG, 1, 4, [1, 0, 0]);
+    put_trap(rt, frames, CALL_TAG, 1, 5, [7, 0, 0]);
+    put_trap(rt, frames, CALL_TAG, 0, 1, [1, 0, 0]);
+}
+
+/// Takes words from the front of what was written.
+fn after<'a>(rt: &impl Abort, alloc: Global, written: &'a [u8], words: &[u64]) -> &'a [u8] {
+    let mut front = Vec::new(alloc);
+    put_words(rt, &mut front, words);
+    assert!(rt; written.starts_with(front.as_slice()));
+    assert!(rt; written.len() >= front.len());
+    &written[front.len()..]
+}
+
+/// Takes an answer: its hart, its world, the status and the value, how many entries there are, the pages to make zero, and
+/// the harts that are woken.
+fn after_answer<'a>(rt: &impl Abort, alloc: Global, written: &'a [u8], head: [u64; 8]) -> &'a [u8] {
+    let rest = after(rt, alloc, written, &[ANSWER_TAG]);
+    let rest = after(rt, alloc, rest, &head);
+    assert!(rt; rest.len() >= ANSWER - 72);
+    &rest[ANSWER - 72..]
+}
+
+/// The answers in turn. The pages of the creation are asked for once, and those of the destruction named once.
+fn answers_a_life(rt: &impl Abort, alloc: Global, written: &[u8]) {
+    let rest = after_answer(rt, alloc, written, [0, 0, 0, 0, 3, 0, 0, 2]);
+    let rest = after(rt, alloc, rest, &[MEASURE_TAG, PAGE, 1]);
+    let rest = after_answer(rt, alloc, rest, [0, 0, 0, 1, 4, 0, 0, 2]);
+    let rest = after_answer(rt, alloc, rest, [0, 1, 0, 0, 1, 0, 0, 0]);
+    let rest = after_answer(rt, alloc, rest, [0, 0, 0, 0, 4, 0, 0, 0]);
+    let rest = after_answer(rt, alloc, rest, [1, 1, 0, 0, 1, 0, 0, 0]);
+    let rest = after_answer(rt, alloc, rest, [1, 0, 0, 7, 4, 0, 0, 0]);
+    let rest = after_answer(rt, alloc, rest, [0, 0, 0, 0, 3, PAGE, 1, 2]);
+    assert!(rt; rest.is_empty());
+}
+
+#[test]
+fn a_life_on_two_harts_is_served(rt: HostRuntime) {
+    let mut frames = Vec::new(rt.alloc());
+    put_life(&rt, &mut frames);
+    let mut source = PieceSource::new(frames.as_slice(), 4096, None);
+    let mut sink = Counted::new(Vec::new(rt.alloc()));
+    let served = serve_life(rt.alloc(), &mut source, &mut sink);
+    assert!(&rt; served == Ok(()));
+    let written = sink.into_inner();
+    answers_a_life(&rt, rt.alloc(), written.as_slice());
+}
