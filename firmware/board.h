@@ -35,7 +35,18 @@ extern uint64_t world_number[MOST_HARTS];
 /* Whether a hart's world, its entries or pages are others than when it last left machine mode, or the host asked for a fence.
    Then it loads its entries, and executes sfence.vma and fence.i, before it goes on. */
 extern uint8_t is_stale[MOST_HARTS];
+/* Makes pages of memory that are not the monitor's zero. */
+void make_zero(uint64_t first, uint64_t count);
 _Noreturn void serve(void);
+
+/* reset.c: pages were asked for, which a creation that is answered makes private; pages were made zero. */
+void private_asked(uint64_t first, uint64_t count);
+void private_answered(uint64_t status, uint64_t zero_first, uint64_t zero_count);
+/* Makes all private pages zero. */
+void forget_private(void);
+/* The board ends, or begins anew, and nothing private is left. */
+_Noreturn void end_board(uint64_t status);
+_Noreturn void begin_anew(void);
 
 /* traps.c: runs the hart's world until the monitor has to know of a trap, and says which it is: TAG_CALL or TAG_STOP. */
 uint64_t next_trap(void);
@@ -60,6 +71,7 @@ static inline unsigned this_hart(void)
     return (unsigned)hart;
 }
 unsigned hart_count(void);
+#define ALL_HARTS (~0ul)
 /* Stops each other hart of a set, hart h in bit h: none of them runs a world before this hart does. */
 void stop_harts(uint64_t harts);
 /* A started hart of the host will find its software interrupt. */
@@ -84,7 +96,7 @@ void host_timer_came(void);
 int board_call(struct world *world);
 extern uint64_t stop_cause[MOST_HARTS], stop_value[MOST_HARTS];
 
-/* uart.c, memory.c */
+/* uart.c, memory.c. What ends the board there leaves memory as it is. */
 void put(const char *text);
 void put_hex(uint64_t number);
 void put_number(int64_t number);

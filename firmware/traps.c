@@ -7,7 +7,6 @@
 
 #define CREATE 0
 #define DESTROY 1
-#define ALL_HARTS (~0ul)
 
 /* Where the host begins on hart 0, as OpenSBI's fw_jump has it: a0 is the hart, a1 the device tree. Others wait for its call. */
 #define HOST_ENTRY 0x80200000ul
@@ -103,13 +102,14 @@ _Noreturn void ended(const struct end_frame *end)
     put(", ");
     put_number((int64_t)end->detail);
     put("\n");
-    power_off(1);
+    end_board(1);
 }
 
 _Noreturn void boot(uint64_t hart, uint64_t tree)
 {
     (void)hart;
     device_tree = tree;
+    forget_private();
     find_board(tree);
     serve();
 }

@@ -11,6 +11,7 @@ from concurrent.futures import ThreadPoolExecutor
 from pathlib import Path
 
 from lives import Life
+from resets import resets
 from trees import trees
 
 TOP = Path(__file__).resolve().parents[2]
@@ -205,6 +206,8 @@ def worlds(folder, told):
     said = booted(folder / "with/pmpmon-virt.elf", host(folder / "two_hosts.elf", "sbi_host.S", "two_hosts.S", "two_hosts.c"), 2)
     told("two harts enter two enclaves, and each host has its own words", said == "both harts were in an enclave: 1\nwrong 0\n", said)
     sbi(folder / "with/pmpmon-virt.elf", folder, told)
+    payloads = [host(folder / f"reset-{it}.elf", "harts.S", "reset_enclave.S", "reset.c", flags=(f"-DHARTS={it}",)) for it in (1, 2)]
+    resets((FIRMWARE / "out/pmpmon-virt.elf", folder / "with/pmpmon-virt.elf"), payloads, told)
     hostile(folder, told)
 
 
