@@ -33,6 +33,16 @@ load_at:
     .option pop
     sd      t0, (a1)
     ret
+/* long word_at(uint64_t at): the same of a word of 32 bits, which is not told. */
+    .globl  word_at
+word_at:
+    mv      t1, a0
+    li      a0, 0
+    .option push
+    .option norvc
+    lw      t0, (t1)
+    .option pop
+    ret
 /* long store_at(uint64_t *at, uint64_t value) */
 store_at:
     mv      t1, a0

@@ -14,6 +14,7 @@
 #define KIND (*(volatile uint64_t *)0x86001000ul)
 
 long load_at(const uint64_t *at, uint64_t *value);
+long word_at(uint64_t at);
 long store_at(uint64_t *at, uint64_t value);
 long csr_cycle(uint64_t *value);
 long csr_time(uint64_t *value);

@@ -13,6 +13,7 @@ from pathlib import Path
 from lives import Life
 from resets import resets
 from trees import trees
+from wires import Wired
 
 TOP = Path(__file__).resolve().parents[2]
 HERE = Path(__file__).resolve().parent
@@ -207,6 +208,7 @@ def worlds(folder, told):
     told("two harts enter two enclaves, and each host has its own words", said == "both harts were in an enclave: 1\nwrong 0\n", said)
     sbi(folder / "with/pmpmon-virt.elf", folder, told)
     payloads = [host(folder / f"reset-{it}.elf", "harts.S", "reset_enclave.S", "reset.c", flags=(f"-DHARTS={it}",)) for it in (1, 2)]
+    devices(folder, told)
     resets((FIRMWARE / "out/pmpmon-virt.elf", folder / "with/pmpmon-virt.elf"), payloads, told)
     hostile(folder, told)
 
@@ -229,6 +231,39 @@ def boards(folder, told):
         done = subprocess.run([FIRMWARE / "build"], env={**os.environ, "POOL": pool}, capture_output=True, text=True)
         right = done.returncode == 2 and done.stderr.startswith("firmware: POOL is ")
         told(f"POOL={pool} is refused", right, "" if right else done.stderr)
+
+
+# Which devices a host does not reach, of the shipped platform and of the wide one.
+CLOSED = dict.fromkeys(("finisher", "clint", "virtio", "fw_cfg", "flash", "pcie"), 5) | dict.fromkeys(("rtc", "plic", "serial"), 0)
+WIDE = dict.fromkeys(CLOSED, 0) | {"finisher": 5, "clint": 5}
+OPEN_NODES = {"rtc@101000", "serial@10000000", "plic@c000000"}
+
+
+def host_tree(image, payload, harts):
+    """The device tree that a host gets, as its source: QEMU puts it into the last megabytes of memory."""
+    with Wired(image, payload, harts, kind=5) as board:
+        board.until("it waits\n")
+        memory = (board.place / "memory").read_bytes()
+    at = next(it for it in range(0x7E00000, 0x8000000, 4096) if memory[it : it + 4] == b"\xd0\x0d\xfe\xed")
+    return subprocess.run(["dtc", "-q", "-I", "dtb", "-O", "dts"], input=memory[at : at + int.from_bytes(memory[at + 4 : at + 8], "big")], capture_output=True).stdout.decode()
+
+
+def devices(folder, told):
+    """A host reaches what its platform gives it alone, and its tree says so."""
+    payload = host(folder / "closed.elf", "harts.S", "reset_enclave.S", "closed.c")
+    built(FIRMWARE / "platform-wide.toml", folder / "wide")
+    for name, image, want in (("the shipped", FIRMWARE / "out/pmpmon-virt.elf", CLOSED), ("the wide", folder / "wide/pmpmon-virt.elf", WIDE)):
+        said = booted(image, payload, 1)
+        found = {it.rsplit(" ", 1)[0]: int(it.rsplit(" ", 1)[1]) for it in said.splitlines()}
+        right = all(found.get(it) == cause for it, cause in want.items())
+        told(f"a host on {name} platform reaches {', '.join(it for it, cause in want.items() if not cause)} alone", right, "" if right else said)
+    if not shutil.which("dtc"):
+        return
+    tree = host_tree(folder / "with/pmpmon-virt.elf", folder / "reset-2.elf", 3)
+    nodes = re.findall(r"\n\t+([\w-]+@[0-9a-f]+|poweroff|reboot) \{((?:\n\t+[^\n{}]*;)*)", tree)
+    open_nodes = {name for name, body in nodes if 'status = "disabled"' not in body}
+    want = OPEN_NODES | {"memory@80000000", "platform-bus@4000000", "cpu@0", "cpu@1", "monitor@80000000"}
+    told("the tree of a host on two of three harts names these, its memory and its devices as its own alone", open_nodes == want and "cpu@2" in dict(nodes), str(open_nodes ^ want))
 
 
 def hostile(folder, told):

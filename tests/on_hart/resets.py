@@ -55,6 +55,7 @@ def resets(images, payloads, told):
         rows += [(f"a cold reboot, {harts} harts", asked_for, (image, payload, harts, COLD)), (f"the board is switched off, {harts} harts", off, (image, payload, harts))]
         rows += [(f"the reset button, {harts} harts", button, (image, payload, harts))]
     rows += [("a warm reboot", asked_for, (images[0], payloads[0], 1, WARM))]
+    rows += [("a store to the finisher", asked_for, (images[0], payloads[0], 1, FINISHER, "the finisher: fault 7\n"))]
     rows += [(f"a fatal end, {harts} harts", fatal, (images[harts - 1], payloads[harts - 1], harts)) for harts in (1, 2)]
     with ThreadPoolExecutor(max_workers=3) as boards:
         for (name, _, _), (right, why) in zip(rows, boards.map(lambda it: it[1](*it[2]), rows)):
