@@ -10,6 +10,7 @@ import tempfile
 from concurrent.futures import ThreadPoolExecutor
 from pathlib import Path
 
+from interleavings import interleavings
 from lives import Life
 from resets import resets
 from trees import trees
@@ -209,6 +210,7 @@ def worlds(folder, told):
     sbi(folder / "with/pmpmon-virt.elf", folder, told)
     payloads = [host(folder / f"reset-{it}.elf", "harts.S", "reset_enclave.S", "reset.c", flags=(f"-DHARTS={it}",)) for it in (1, 2)]
     devices(folder, told)
+    storm(folder, told)
     resets((FIRMWARE / "out/pmpmon-virt.elf", folder / "with/pmpmon-virt.elf"), payloads, told)
     hostile(folder, told)
 
@@ -236,6 +238,8 @@ def boards(folder, told):
 # Which devices a host does not reach, of the shipped platform and of the wide one.
 CLOSED = dict.fromkeys(("finisher", "clint", "virtio", "fw_cfg", "flash", "pcie"), 5) | dict.fromkeys(("rtc", "plic", "serial"), 0)
 WIDE = dict.fromkeys(CLOSED, 0) | {"finisher": 5, "clint": 5}
+# The counters: the time is read, and of the others the instruction is illegal.
+COUNTERS = "time 0\ncycle 2\ninstret 2\n"
 OPEN_NODES = {"rtc@101000", "serial@10000000", "plic@c000000"}
 
 
@@ -257,6 +261,7 @@ def devices(folder, told):
         found = {it.rsplit(" ", 1)[0]: int(it.rsplit(" ", 1)[1]) for it in said.splitlines()}
         right = all(found.get(it) == cause for it, cause in want.items())
         told(f"a host on {name} platform reaches {', '.join(it for it, cause in want.items() if not cause)} alone", right, "" if right else said)
+        told(f"a host on {name} platform reads no counter but the time", said.endswith(COUNTERS), "" if said.endswith(COUNTERS) else said)
     if not shutil.which("dtc"):
         return
     tree = host_tree(folder / "with/pmpmon-virt.elf", folder / "reset-2.elf", 3)
@@ -264,6 +269,19 @@ def devices(folder, told):
     open_nodes = {name for name, body in nodes if 'status = "disabled"' not in body}
     want = OPEN_NODES | {"memory@80000000", "platform-bus@4000000", "cpu@0", "cpu@1", "monitor@80000000"}
     told("the tree of a host on two of three harts names these, its memory and its devices as its own alone", open_nodes == want and "cpu@2" in dict(nodes), str(open_nodes ^ want))
+
+
+def storm(folder, told):
+    """Four harts of a host that do at random what may race, for STORM_SECONDS (3, or as the environment has it)."""
+    four = folder / "four.toml"
+    four.write_text((FIRMWARE / "platform.toml").read_text().replace("harts = 1\n", "harts = 4\n"))
+    built(four, folder / "four")
+    payload = host(folder / "storm.elf", "harts.S", "two_hosts.S", "storm.c", flags=("-DHARTS=4",))
+    seconds = int(os.environ.get("STORM_SECONDS", "3"))
+    said = booted(folder / "four/pmpmon-virt.elf", payload, 4, "-device", f"loader,addr=0x86001000,data={seconds},data-len=8", seconds=60 + 4 * seconds)
+    turns = [int(it) for it in re.findall(r"turns (\d+)", said)]
+    right = said.endswith("stood still 0\nwrong 0\nodd 0\n") and min(turns, default=0) and "made 0\n" not in said
+    told(f"a storm of {seconds} seconds on four harts: {' '.join(map(str, turns))} turns", right, "" if right else said)
 
 
 def hostile(folder, told):
@@ -309,6 +327,7 @@ def monitor(program, told):
     with tempfile.TemporaryDirectory() as place:
         folder = Path(place)
         header_is_read(told)
+        interleavings(told)
         examples(on_hart, program, told)
         trees(folder, told)
         worlds(folder, told)
