@@ -27,6 +27,10 @@ struct bank {
     uint64_t cfg[8], addr[64];
 };
 void load_bank(const struct bank *bank);
+void read_bank(struct bank *bank);
+uint64_t clear_beyond(void);
+/* entries.c: the board ends where the hart that calls has not the entries of the platform. */
+void check_entries(void);
 
 /* serve.c: the loop of the monitor, from its first frame on. It returns only where nothing can be served. */
 extern struct world worlds[MOST_HARTS];
@@ -35,6 +39,7 @@ extern uint64_t world_number[MOST_HARTS];
 /* Whether a hart's world, its entries or pages are others than when it last left machine mode, or the host asked for a fence.
    Then it loads its entries, and executes sfence.vma and fence.i, before it goes on. */
 extern uint8_t is_stale[MOST_HARTS];
+int differ(const uint64_t *a, const uint64_t *b, unsigned words);
 /* Makes pages of memory that are not the monitor's zero. */
 void make_zero(uint64_t first, uint64_t count);
 _Noreturn void serve(void);
@@ -74,6 +79,8 @@ unsigned hart_count(void);
 #define ALL_HARTS (~0ul)
 /* Stops each other hart of a set, hart h in bit h: none of them runs a world before this hart does. */
 void stop_harts(uint64_t harts);
+/* Whether they stopped in ten seconds. */
+int are_stopped(uint64_t harts);
 /* A started hart of the host will find its software interrupt. */
 void interrupt_supervisor(unsigned hart);
 /* What other harts asked this one for. */
@@ -121,6 +128,17 @@ void find_board(uint64_t tree);
 #define WRITE(csr, value) __asm__ volatile("csrw " #csr ", %0" ::"r"((uint64_t)(value)) : "memory")
 #define SET(csr, bits) __asm__ volatile("csrs " #csr ", %0" ::"r"((uint64_t)(bits)) : "memory")
 #define CLEAR(csr, bits) __asm__ volatile("csrc " #csr ", %0" ::"r"((uint64_t)(bits)) : "memory")
+
+/* Whether the hart has a register: reading one that it has not is an illegal instruction, which goes on after it. */
+#define IS_THERE(csr) IS_THERE_(csr)
+#define IS_THERE_(csr)                                                                                                 \
+    ({                                                                                                                 \
+        uint8_t is_there_;                                                                                             \
+        __asm__ volatile("la t0, 1f\n csrrw t0, mtvec, t0\n li %0, 0\n csrr t1, " #csr                                 \
+                         "\n li %0, 1\n .balign 4\n1: csrw mtvec, t0"                                                  \
+                         : "=&r"(is_there_)::"t0", "t1", "memory");                                                    \
+        is_there_;                                                                                                     \
+    })
 
 /* Bits of mip and mie. */
 #define SOFTWARE_OF_SUPERVISOR (1ul << 1)

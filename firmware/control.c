@@ -73,16 +73,6 @@ enum {
 /* Which of the registers a hart has. The others' words are zero, and not looked at. */
 static uint8_t has[MOST_HARTS][COUNT];
 
-/* Whether the hart has a register: reading one that it has not is an illegal instruction, which goes on after it. */
-#define IS_THERE(csr)                                                                                                  \
-    ({                                                                                                                 \
-        uint8_t is_there_;                                                                                             \
-        __asm__ volatile("la t0, 1f\n csrrw t0, mtvec, t0\n li %0, 0\n csrr t1, " #csr                                 \
-                         "\n li %0, 1\n .balign 4\n1: csrw mtvec, t0"                                                  \
-                         : "=&r"(is_there_)::"t0", "t1", "memory");                                                    \
-        is_there_;                                                                                                     \
-    })
-
 static void find_registers(unsigned hart)
 {
 #define FIND(word, csr, bits) has[hart][NUMBER_##word] = IS_THERE(csr);

@@ -65,7 +65,7 @@ static void forget(void)
     if (is_ending)
         return;
     is_ending = 1;
-    stop_harts(ALL_HARTS);
+    are_stopped(ALL_HARTS);
     forget_private();
 }
 

@@ -84,7 +84,7 @@ int64_t read(uint64_t descriptor, void *to, uint64_t n)
     return -1;
 }
 
-static int differ(const uint64_t *a, const uint64_t *b, unsigned words)
+int differ(const uint64_t *a, const uint64_t *b, unsigned words)
 {
     for (unsigned i = 0; i < words; i++)
         if (a[i] != b[i])

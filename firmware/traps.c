@@ -20,6 +20,7 @@ static void begin(unsigned hart)
         return;
     has_begun[hart] = 1;
     control_at_start();
+    check_entries();
 }
 
 /* This hart runs its world, or waits to be started. The hart that traps next comes back, and does what it was asked for. */
@@ -66,10 +67,21 @@ static int is_of_board(struct world *world, unsigned hart)
     return 1;
 }
 
+/* The stack has grown into its last 8 KiB. What lies below it is the monitor's memory. */
+static void check_stack(void)
+{
+    extern const uint64_t stack_guard;
+    if (stack_guard == STACK_MARK)
+        return;
+    put("monitor: the stack is full\n");
+    end_board(1);
+}
+
 uint64_t next_trap(void)
 {
     struct world *world;
     unsigned hart;
+    check_stack();
     do {
         leave_monitor();
         hart = this_hart();

@@ -12,7 +12,7 @@ from pathlib import Path
 
 from interleavings import interleavings
 from lives import Life
-from resets import resets
+from resets import resets, symbol
 from trees import trees
 from wires import Wired
 
@@ -211,6 +211,7 @@ def worlds(folder, told):
     payloads = [host(folder / f"reset-{it}.elf", "harts.S", "reset_enclave.S", "reset.c", flags=(f"-DHARTS={it}",)) for it in (1, 2)]
     devices(folder, told)
     storm(folder, told)
+    ends(folder, told)
     resets((FIRMWARE / "out/pmpmon-virt.elf", folder / "with/pmpmon-virt.elf"), payloads, told)
     hostile(folder, told)
 
@@ -282,6 +283,41 @@ def storm(folder, told):
     turns = [int(it) for it in re.findall(r"turns (\d+)", said)]
     right = said.endswith("stood still 0\nwrong 0\nodd 0\n") and min(turns, default=0) and "made 0\n" not in said
     told(f"a storm of {seconds} seconds on four harts: {' '.join(map(str, turns))} turns", right, "" if right else said)
+
+
+def earlier(folder, left):
+    """QEMU's flash with a stage before the monitor, which leaves an entry behind."""
+    elf, flash = folder / "earlier.elf", folder / f"earlier-{left:x}.bin"
+    subprocess.run([GCC, *FLAGS, f"-DLEFT={left:#x}", "-Wl,-Ttext=0x20000000", "-Wl,--build-id=none", "-o", elf, HERE / "earlier.S"], check=True)
+    subprocess.run([GCC.replace("gcc", "objcopy"), "-O", "binary", elf, flash], check=True)
+    with flash.open("r+b") as file:
+        file.truncate(32 << 20)
+    return "-drive", f"if=pflash,unit=0,format=raw,file={flash}"
+
+
+def ends(folder, told):
+    """Boards and stages that do not fit end with their reason: other entries, a hart that does not stop, a stack that is full."""
+    payload, image = FIRMWARE / "out/host.elf", FIRMWARE / "out/pmpmon-virt.elf"
+    other = "monitor: the entries of a hart are not those of the platform: hart 0\n"
+    wide = folder / "64.toml"
+    wide.write_text("entries = 64\n" + (FIRMWARE / "platform.toml").read_text())
+    built(wide, folder / "64")
+    rows = [("an entry that was left open", image, earlier(folder, 0x1F), HOST), ("an entry that was locked", image, earlier(folder, 0x9F), other)]
+    rows += [("a hart without entries", image, ("-cpu", "rv64,pmp=false"), other), ("sixteen entries where the platform has 64", folder / "64/pmpmon-virt.elf", (), other)]
+    for name, firmware, more, want in rows:
+        said = booted(firmware, payload, 1, *more)
+        told(f"{name}: {'the host runs' if want == HOST else 'the board ends and says so'}", said == want, "" if said == want else said)
+    built(folder / "two.toml", folder / "late", "-DTEN_SECONDS=0ul")
+    said = booted(folder / "late/pmpmon-virt.elf", folder / "race.elf", 2)
+    told("a hart that does not stop in time ends the board", said == "monitor: a hart does not stop\n", said)
+    with Wired(image, folder / "reset-1.elf", 1, kind=5) as board:
+        board.until("it waits\n")
+        board.written(symbol(image, "stack_guard"), bytes(8))
+        right = board.has_ended() and board.said.endswith("monitor: the stack is full\n")
+        told("a stack that has grown into its guard ends the board", right, "" if right else board.said)
+    said = subprocess.run(["riscv64-unknown-elf-readelf", "-lW", image], capture_output=True, text=True).stdout
+    flags = re.findall(r"  LOAD .*0x[0-9a-f]+ ([RWE ]{3}) 0x", said)
+    told("no segment of the image is both written and executed", flags == ["R E", "R  ", "RW "], str(flags))
 
 
 def hostile(folder, told):

@@ -37,7 +37,7 @@ static void end(void)
         put("it waits\n");
     }
     for (;;)
-        pmpmon_stop_cause();
+        pmpmon_resume(0); /* refused */
 }
 
 void host_main(void)
