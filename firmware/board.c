@@ -62,36 +62,31 @@ static void find_platform(const struct board_in_tree *board)
     platform = &found;
 }
 
-/* An operating system keeps off a range that its tree reserves. */
-static void reserve(uint64_t tree, const struct reserved *range)
-{
-    end_where(reserve_in_tree((uint8_t *)tree, host_memory_at(tree), range));
-}
-
 /* The pool that the build was given: memory of the host, which its kernel does not use but for enclaves. */
-static void reserve_pool(uint64_t tree)
-{
+static const struct reserved pool[] = {
 #ifdef POOL_BASE
-    static const struct reserved pool = {"enclaves", "pmpmon,pool", POOL_BASE, POOL_SIZE};
-    if (host_memory_at(POOL_BASE) < POOL_SIZE) {
-        put("monitor: the board has no memory for the pool of enclaves, ");
-        put_hex(POOL_BASE);
-        put("\n");
-        power_off(1);
-    }
-    reserve(tree, &pool);
-#else
-    (void)tree;
+    {"enclaves", "pmpmon,pool", POOL_BASE, POOL_SIZE},
 #endif
+};
+#define POOLS (sizeof pool / sizeof(struct reserved))
+
+static void find_pool(void)
+{
+    if (!POOLS || host_memory_at(pool->base) >= pool->size)
+        return;
+    put("monitor: the board has no memory for the pool of enclaves, ");
+    put_hex(pool->base);
+    put("\n");
+    power_off(1);
 }
 
 void find_board(uint64_t tree)
 {
     static struct board_in_tree board;
-    const struct reserved monitor = {"monitor", 0, platform->monitor_base, platform->monitor_size};
+    struct reserved ranges[1 + POOLS] = {{"monitor", 0, platform->monitor_base, platform->monitor_size}};
     end_where(read_board((const uint8_t *)tree, host_memory_at(tree), &board));
     find_platform(&board);
-    reserve(tree, &monitor);
-    reserve_pool(tree);
-    give_room_in_tree((uint8_t *)tree, host_memory_at(tree));
+    find_pool();
+    memcpy(ranges + 1, pool, sizeof pool);
+    end_where(write_tree((uint8_t *)tree, host_memory_at(tree), platform, ranges, 1 + POOLS));
 }

@@ -27,6 +27,10 @@ struct bank {
     uint64_t cfg[8], addr[64];
 };
 void load_bank(const struct bank *bank);
+void read_bank(struct bank *bank);
+uint64_t clear_beyond(void);
+/* entries.c: the board ends where the hart that calls has not the entries of the platform. */
+void check_entries(void);
 
 /* serve.c: the loop of the monitor, from its first frame on. It returns only where nothing can be served. */
 extern struct world worlds[MOST_HARTS];
@@ -35,7 +39,19 @@ extern uint64_t world_number[MOST_HARTS];
 /* Whether a hart's world, its entries or pages are others than when it last left machine mode, or the host asked for a fence.
    Then it loads its entries, and executes sfence.vma and fence.i, before it goes on. */
 extern uint8_t is_stale[MOST_HARTS];
+int differ(const uint64_t *a, const uint64_t *b, unsigned words);
+/* Makes pages of memory that are not the monitor's zero. */
+void make_zero(uint64_t first, uint64_t count);
 _Noreturn void serve(void);
+
+/* reset.c: pages were asked for, which a creation that is answered makes private; pages were made zero. */
+void private_asked(uint64_t first, uint64_t count);
+void private_answered(uint64_t status, uint64_t zero_first, uint64_t zero_count);
+/* Makes all private pages zero. */
+void forget_private(void);
+/* The board ends, or begins anew, and nothing private is left. */
+_Noreturn void end_board(uint64_t status);
+_Noreturn void begin_anew(void);
 
 /* traps.c: runs the hart's world until the monitor has to know of a trap, and says which it is: TAG_CALL or TAG_STOP. */
 uint64_t next_trap(void);
@@ -60,8 +76,11 @@ static inline unsigned this_hart(void)
     return (unsigned)hart;
 }
 unsigned hart_count(void);
+#define ALL_HARTS (~0ul)
 /* Stops each other hart of a set, hart h in bit h: none of them runs a world before this hart does. */
 void stop_harts(uint64_t harts);
+/* Whether they stopped in ten seconds. */
+int are_stopped(uint64_t harts);
 /* A started hart of the host will find its software interrupt. */
 void interrupt_supervisor(unsigned hart);
 /* What other harts asked this one for. */
@@ -84,7 +103,7 @@ void host_timer_came(void);
 int board_call(struct world *world);
 extern uint64_t stop_cause[MOST_HARTS], stop_value[MOST_HARTS];
 
-/* uart.c, memory.c */
+/* uart.c, memory.c. What ends the board there leaves memory as it is. */
 void put(const char *text);
 void put_hex(uint64_t number);
 void put_number(int64_t number);
@@ -109,6 +128,17 @@ void find_board(uint64_t tree);
 #define WRITE(csr, value) __asm__ volatile("csrw " #csr ", %0" ::"r"((uint64_t)(value)) : "memory")
 #define SET(csr, bits) __asm__ volatile("csrs " #csr ", %0" ::"r"((uint64_t)(bits)) : "memory")
 #define CLEAR(csr, bits) __asm__ volatile("csrc " #csr ", %0" ::"r"((uint64_t)(bits)) : "memory")
+
+/* Whether the hart has a register: reading one that it has not is an illegal instruction, which goes on after it. */
+#define IS_THERE(csr) IS_THERE_(csr)
+#define IS_THERE_(csr)                                                                                                 \
+    ({                                                                                                                 \
+        uint8_t is_there_;                                                                                             \
+        __asm__ volatile("la t0, 1f\n csrrw t0, mtvec, t0\n li %0, 0\n csrr t1, " #csr                                 \
+                         "\n li %0, 1\n .balign 4\n1: csrw mtvec, t0"                                                  \
+                         : "=&r"(is_there_)::"t0", "t1", "memory");                                                    \
+        is_there_;                                                                                                     \
+    })
 
 /* Bits of mip and mie. */
 #define SOFTWARE_OF_SUPERVISOR (1ul << 1)

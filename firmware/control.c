@@ -51,8 +51,8 @@
 #define HOSTS_EXCEPTIONS 0xf0b5fful
 #endif
 
-/* Cycles, time and instructions. The host's programs read them until it closes them: Linux's read the time. */
-#define COUNTERS 7ul
+/* The time alone, which Linux's programs read. Cycles and instructions go on in an enclave, and would tell its host each branch. */
+#define COUNTERS (1ul << 1)
 
 /* What a hart begins with: its first world is the host, in supervisor mode. */
 static const struct control_words at_start = {
@@ -72,16 +72,6 @@ enum {
 };
 /* Which of the registers a hart has. The others' words are zero, and not looked at. */
 static uint8_t has[MOST_HARTS][COUNT];
-
-/* Whether the hart has a register: reading one that it has not is an illegal instruction, which goes on after it. */
-#define IS_THERE(csr)                                                                                                  \
-    ({                                                                                                                 \
-        uint8_t is_there_;                                                                                             \
-        __asm__ volatile("la t0, 1f\n csrrw t0, mtvec, t0\n li %0, 0\n csrr t1, " #csr                                 \
-                         "\n li %0, 1\n .balign 4\n1: csrw mtvec, t0"                                                  \
-                         : "=&r"(is_there_)::"t0", "t1", "memory");                                                    \
-        is_there_;                                                                                                     \
-    })
 
 static void find_registers(unsigned hart)
 {
@@ -110,8 +100,16 @@ void control_write(const struct control_words *words)
     worlds[hart].mode = words->mode;
 }
 
-/* Of menvcfg: a hart that has stimecmp says so in its device tree (Sstc), and the host writes it. User mode never does. */
+/*
+ * Of menvcfg: what a hart has of Sstc, Svpbmt, Zicboz and Zicbom its device tree says, so it is the host's. User mode has no
+ * stimecmp, and of the other three what senvcfg lets in. cbo.inval writes blocks back (CBIE 1): dropped, a page that was made
+ * zero could be what it was before.
+ */
 #define STCE (1ul << 63)
+#define PBMTE (1ul << 62)
+#define CBZE (1ul << 7)
+#define CBCFE (1ul << 6)
+#define CBIE_FLUSH (1ul << 4)
 
 #define SIE (1ul << 1)
 #define SPIE (1ul << 5)
@@ -143,7 +141,7 @@ void control_at_start(void)
     control_write(&at_start);
     WRITE(mcounteren, COUNTERS);
     if (IS_THERE(0x30a)) /* menvcfg */
-        WRITE(0x30a, STCE);
+        WRITE(0x30a, STCE | PBMTE | CBZE | CBCFE | CBIE_FLUSH);
     CLEAR(mip, SOFTWARE_OF_SUPERVISOR | TIMER_OF_SUPERVISOR);
     host_timer_begin(IS_THERE(0x14d)); /* stimecmp */
 }

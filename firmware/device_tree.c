@@ -1,12 +1,11 @@
 /*
- * Reads harts and memory from the flattened device tree, and enters ranges into it, in place: a range's node is put before the
- * end of its parent, and the names of its properties after the other names. Each word is read inside the tree's own blocks.
+ * Reads harts and memory from the flattened device tree, and writes it anew as the host gets it: token by token, with what is
+ * put in and what is said otherwise. Each word is read inside the tree's own blocks.
  */
 #include "device_tree.h"
 #include <stddef.h>
 
 void *memcpy(void *to, const void *from, size_t n);
-void *memmove(void *to, const void *from, size_t n);
 
 /* Section 5.2: the header, in words of 32 bits with the highest byte first. */
 #define MAGIC 0xd00dfeedu
@@ -23,32 +22,34 @@ enum {
     WORD_STRUCT_SIZE,
     HEADER_WORDS
 };
+#define HEADER (4 * HEADER_WORDS)
 #define VERSION 17
-/* What a boot loader adds to the tree in place, as U-Boot does, has room in this many bytes. */
+/* What a boot loader adds to the tree in place, as U-Boot does, has room in so many bytes. */
 #define SLACK 4096u
 /* Section 5.4.1: the tokens of the structure block. */
 enum { BEGIN_NODE = 1, END_NODE = 2, PROP = 3, NOP = 4, END = 9 };
 
 static const char NOT_READ[] = "cannot be read";
 static const char NO_ROOM[] = "has no room";
-static const char NAMES[] = "#address-cells\0#size-cells\0ranges\0reg\0no-map\0compatible";
-enum { ADDRESS_CELLS = 0, SIZE_CELLS = 15, RANGES = 27, REG = 34, NO_MAP = 38, COMPATIBLE = 45 };
-_Static_assert(sizeof NAMES == 56, "the places of the names");
+/* The names of properties that are put in, which come after the tree's own. */
+static const char NAMES[] = "#address-cells\0#size-cells\0ranges\0reg\0no-map\0compatible\0status";
+enum { ADDRESS_CELLS = 0, SIZE_CELLS = 15, RANGES = 27, REG = 34, NO_MAP = 38, COMPATIBLE = 45, STATUS = 56 };
+_Static_assert(sizeof NAMES == 63, "the places of the names");
 
-struct tree {
-    uint8_t *at;
-    uint32_t size, nodes, nodes_size, names, names_size;
+/* A node's name and what its properties say: places in the tree, and numbers. The addresses of nodes below it are no addresses
+   of memory, or the same, or others (section 2.3.8). */
+struct node {
+    uint32_t name, reg, reg_size, address_cells, size_cells;
+    uint8_t has_reg, has_regmap;
+    enum { NONE, SAME, OTHER } ranges;
 };
 
-/* Where the node goes: before the end of /reserved-memory, or of the root where there is none; and the root's cells. */
-struct place {
-    uint32_t at, has_parent, address_cells, size_cells;
-};
-
-/* The words that are put in. */
-struct piece {
-    uint8_t bytes[192];
-    uint32_t size, names;
+/* A walk over the tokens: one is from `here` to `at`. Of the nodes around it the root and two below are kept. */
+#define KEPT 3
+struct walk {
+    const uint8_t *tree;
+    uint32_t size, reserved, nodes, nodes_end, names, names_size, here, at, depth;
+    struct node path[KEPT];
 };
 
 static uint32_t load(const uint8_t *at)
@@ -67,240 +68,124 @@ static int is_inside(uint32_t first, uint32_t size, uint32_t end)
     return first <= end && size <= end - first;
 }
 
-/* The blocks are in their order (section 5.1), each inside the tree. */
-static int read_header(struct tree *tree, uint64_t room)
+/* The blocks stand in their order (section 5.1), each inside the tree. */
+static int begin(struct walk *walk, const uint8_t *tree, uint64_t room)
 {
-    const uint8_t *at = tree->at;
-    if ((uintptr_t)at % 8 || room < 4 * HEADER_WORDS || load(at) != MAGIC)
+    uint32_t nodes_size;
+    *walk = (struct walk){.tree = tree, .path = {{.address_cells = 2, .size_cells = 1}}};
+    if ((uintptr_t)tree % 8 || room < HEADER || load(tree) != MAGIC)
         return 0;
-    if (load(at + 4 * WORD_VERSION) < VERSION || load(at + 4 * WORD_COMPATIBLE) > VERSION)
+    if (load(tree + 4 * WORD_VERSION) < VERSION || load(tree + 4 * WORD_COMPATIBLE) > VERSION)
         return 0;
-    if (load(at + 4 * WORD_RESERVED) > load(at + 4 * WORD_STRUCT))
+    walk->size = load(tree + 4 * WORD_SIZE);
+    walk->reserved = load(tree + 4 * WORD_RESERVED);
+    walk->at = walk->nodes = load(tree + 4 * WORD_STRUCT);
+    nodes_size = load(tree + 4 * WORD_STRUCT_SIZE);
+    walk->names = load(tree + 4 * WORD_STRINGS);
+    walk->names_size = load(tree + 4 * WORD_STRINGS_SIZE);
+    if (walk->size > room || walk->reserved < HEADER || walk->reserved > walk->nodes || walk->reserved % 8 || walk->nodes % 4)
         return 0;
-    tree->size = load(at + 4 * WORD_SIZE);
-    tree->nodes = load(at + 4 * WORD_STRUCT);
-    tree->nodes_size = load(at + 4 * WORD_STRUCT_SIZE);
-    tree->names = load(at + 4 * WORD_STRINGS);
-    tree->names_size = load(at + 4 * WORD_STRINGS_SIZE);
-    if (tree->size > room || tree->nodes < 4 * HEADER_WORDS || tree->nodes % 4)
+    if (!is_inside(walk->names, walk->names_size, walk->size) || !is_inside(walk->nodes, nodes_size, walk->names))
         return 0;
-    if (!is_inside(tree->names, tree->names_size, tree->size))
-        return 0;
-    return is_inside(tree->nodes, tree->nodes_size, tree->names);
-}
-
-/* Whether the text from `at` on, which ends before `end`, is this one. */
-static int is_text(const struct tree *tree, uint32_t at, uint32_t end, const char *text)
-{
-    for (; at < end && tree->at[at] == (uint8_t)*text; at++, text++)
-        if (!*text)
-            return 1;
-    return 0;
-}
-
-/* The word after the text from `at` on, or `end` where none ends there. */
-static uint32_t after_text(const struct tree *tree, uint32_t at, uint32_t end)
-{
-    while (at < end && tree->at[at])
-        at++;
-    return at < end ? (at + 4) & ~3u : end;
-}
-
-/* A property of the root: its cells are kept. `at` is at its length; the next token's place, or 0. */
-static uint32_t read_property(const struct tree *tree, uint32_t at, uint32_t end, int is_root, struct place *place)
-{
-    uint32_t length, name, names_end = tree->names + tree->names_size;
-    if (!is_inside(at, 8, end))
-        return 0;
-    length = load(tree->at + at);
-    name = load(tree->at + at + 4);
-    if (!is_inside(at + 8, length, end) || name >= tree->names_size)
-        return 0;
-    if (is_root && length == 4) {
-        if (is_text(tree, tree->names + name, names_end, NAMES + ADDRESS_CELLS))
-            place->address_cells = load(tree->at + at + 8);
-        if (is_text(tree, tree->names + name, names_end, NAMES + SIZE_CELLS))
-            place->size_cells = load(tree->at + at + 8);
-    }
-    return at + 8 + ((length + 3) & ~3u);
-}
-
-/* Walks the tokens up to the end of /reserved-memory, or of the root; whether it came there. */
-static int find_place(const struct tree *tree, struct place *place)
-{
-    uint32_t at = tree->nodes, end = tree->nodes + tree->nodes_size, depth = 0;
-    while (at && is_inside(at, 4, end)) {
-        uint32_t token = load(tree->at + at), here = at;
-        at += 4;
-        if (token == BEGIN_NODE) {
-            place->has_parent |= depth == 1 && is_text(tree, at, end, "reserved-memory");
-            depth++;
-            at = after_text(tree, at, end);
-        } else if (token == PROP) {
-            at = depth ? read_property(tree, at, end, depth == 1, place) : 0;
-        } else if (token == END_NODE && depth) {
-            depth--;
-            place->at = here;
-            if (depth == 0 || (depth == 1 && place->has_parent))
-                return 1;
-        } else if (token != NOP) {
-            return 0;
-        }
-    }
-    return 0;
-}
-
-static void put_word(struct piece *piece, uint32_t word)
-{
-    store(piece->bytes + piece->size, word);
-    piece->size += 4;
-}
-
-static void put_text(struct piece *piece, const char *text)
-{
-    do
-        piece->bytes[piece->size++] = (uint8_t)*text;
-    while (*text++);
-    while (piece->size % 4)
-        piece->bytes[piece->size++] = 0;
-}
-
-static void put_node(struct piece *piece, const char *name)
-{
-    put_word(piece, BEGIN_NODE);
-    put_text(piece, name);
-}
-
-static void put_property(struct piece *piece, uint32_t name, uint32_t length)
-{
-    put_word(piece, PROP);
-    put_word(piece, length);
-    put_word(piece, piece->names + name);
-}
-
-static void put_cells(struct piece *piece, uint64_t number, uint32_t cells)
-{
-    if (cells == 2)
-        put_word(piece, (uint32_t)(number >> 32));
-    put_word(piece, (uint32_t)number);
-}
-
-/* A name, `@` and the base: its unit address (section 2.2.1). */
-static void put_name(struct piece *piece, const char *name, uint64_t base)
-{
-    char text[MOST_NAME + 18];
-    char *at = text;
-    while (*name)
-        *at++ = *name++;
-    *at++ = '@';
-    for (int shift = 60; shift >= 0; shift -= 4)
-        if (base >> shift || shift == 0)
-            *at++ = "0123456789abcdef"[base >> shift & 15];
-    *at = 0;
-    put_node(piece, text);
-}
-
-static uint32_t length_of(const char *text)
-{
-    uint32_t n = 0;
-    while (text[n])
-        n++;
-    return n;
-}
-
-static void put_range(struct piece *piece, const struct place *place, const struct reserved *range)
-{
-    put_name(piece, range->name, range->base);
-    if (range->compatible) {
-        put_property(piece, COMPATIBLE, length_of(range->compatible) + 1);
-        put_text(piece, range->compatible);
-    }
-    put_property(piece, REG, 4 * (place->address_cells + place->size_cells));
-    put_cells(piece, range->base, place->address_cells);
-    put_cells(piece, range->size, place->size_cells);
-    put_property(piece, NO_MAP, 0);
-    put_word(piece, END_NODE);
-}
-
-/* The node with its parent, where there is none: its cells are the root's, and its `ranges` are empty (section 3.5.1). */
-static void put_all(struct piece *piece, const struct place *place, const struct reserved *range)
-{
-    if (!place->has_parent) {
-        put_node(piece, "reserved-memory");
-        put_property(piece, ADDRESS_CELLS, 4);
-        put_word(piece, place->address_cells);
-        put_property(piece, SIZE_CELLS, 4);
-        put_word(piece, place->size_cells);
-        put_property(piece, RANGES, 0);
-    }
-    put_range(piece, place, range);
-    if (!place->has_parent)
-        put_word(piece, END_NODE);
-}
-
-/* Makes room for the piece in the nodes, which moves the names, and for its names after them. */
-static void put_in(struct tree *tree, uint32_t place, const struct piece *piece)
-{
-    uint8_t *at = tree->at;
-    uint32_t names_end;
-    memmove(at + tree->names + piece->size, at + tree->names, tree->names_size);
-    memmove(at + place + piece->size, at + place, tree->names - place);
-    memcpy(at + place, piece->bytes, piece->size);
-    memcpy(at + tree->names + piece->size + tree->names_size, NAMES, sizeof NAMES);
-    store(at + 4 * WORD_STRUCT_SIZE, tree->nodes_size + piece->size);
-    store(at + 4 * WORD_STRINGS, tree->names + piece->size);
-    store(at + 4 * WORD_STRINGS_SIZE, tree->names_size + (uint32_t)sizeof NAMES);
-    names_end = tree->names + piece->size + tree->names_size + (uint32_t)sizeof NAMES;
-    if (tree->size < names_end)
-        store(at + 4 * WORD_SIZE, names_end);
-}
-
-/* Whether a number fits into that many cells, one or two. */
-static int fits(uint64_t number, uint32_t cells)
-{
-    return cells == 2 || (cells == 1 && number >> 32 == 0);
-}
-
-const char *reserve_in_tree(uint8_t *at, uint64_t room, const struct reserved *range)
-{
-    struct tree tree = {.at = at};
-    struct place place = {.address_cells = 2, .size_cells = 1};
-    struct piece piece = {.size = 0};
-    if (!read_header(&tree, room) || !find_place(&tree, &place))
-        return NOT_READ;
-    if (!fits(range->base, place.address_cells) || !fits(range->size, place.size_cells))
-        return NOT_READ;
-    piece.names = tree.names_size;
-    put_all(&piece, &place, range);
-    if ((uint64_t)tree.names + tree.names_size + piece.size + sizeof NAMES > room)
-        return NO_ROOM;
-    put_in(&tree, place.at, &piece);
-    return 0;
-}
-
-void give_room_in_tree(uint8_t *at, uint64_t room)
-{
-    uint32_t size = load(at + 4 * WORD_SIZE);
-    if (size <= ~0u - SLACK && size + SLACK <= room)
-        store(at + 4 * WORD_SIZE, size + SLACK);
-}
-
-/* What the node is that a walk is in: one of memory, or of a hart below /cpus. */
-enum kind { OTHER, MEMORY, HART };
-
-static int begins_with(const struct tree *tree, uint32_t at, uint32_t end, const char *text)
-{
-    for (; *text; at++, text++)
-        if (at >= end || tree->at[at] != (uint8_t)*text)
-            return 0;
+    walk->nodes_end = walk->nodes + nodes_size;
     return 1;
 }
 
-static enum kind kind_of(const struct tree *tree, uint32_t at, uint32_t end, uint32_t depth, int is_in_cpus)
+/* Whether the text from `at` on is this one: all of it, or its front. */
+static int is_text(const struct walk *walk, uint32_t at, uint32_t end, const char *text, int is_front)
 {
-    if (depth == 1 && (begins_with(tree, at, end, "memory@") || is_text(tree, at, end, "memory")))
-        return MEMORY;
-    return depth == 2 && is_in_cpus && begins_with(tree, at, end, "cpu@") ? HART : OTHER;
+    for (; at < end && walk->tree[at] == (uint8_t)*text; at++, text++)
+        if (!*text)
+            return 1;
+    return is_front && !*text;
+}
+
+static int is_named(const struct walk *walk, const struct node *node, const char *name, int is_front)
+{
+    return is_text(walk, node->name, walk->nodes_end, name, is_front);
+}
+
+/* The token after a property whose length is at `at`, or 0. */
+static uint32_t after_property(const struct walk *walk, uint32_t at)
+{
+    if (!is_inside(at, 8, walk->nodes_end) || load(walk->tree + at + 4) >= walk->names_size)
+        return 0;
+    uint32_t length = load(walk->tree + at), next = at + 8 + ((length + 3) & ~3u);
+    return is_inside(at + 8, length, walk->nodes_end) && next <= walk->nodes_end ? next : 0;
+}
+
+/* Whether the property whose length is at `at` has this name. */
+static int has_name(const struct walk *walk, uint32_t at, const char *name)
+{
+    return is_text(walk, walk->names + load(walk->tree + at + 4), walk->names + walk->names_size, name, 0);
+}
+
+static void note(const struct walk *walk, uint32_t at, struct node *node)
+{
+    uint32_t length = load(walk->tree + at);
+    if (length == 4 && has_name(walk, at, NAMES + ADDRESS_CELLS))
+        node->address_cells = load(walk->tree + at + 8);
+    if (length == 4 && has_name(walk, at, NAMES + SIZE_CELLS))
+        node->size_cells = load(walk->tree + at + 8);
+    if (has_name(walk, at, NAMES + RANGES))
+        node->ranges = length ? OTHER : SAME;
+    if (has_name(walk, at, "regmap"))
+        node->has_regmap = 1;
+    if (has_name(walk, at, NAMES + REG)) {
+        node->has_reg = 1;
+        node->reg = at + 8;
+        node->reg_size = length;
+    }
+}
+
+/* The node whose name is at `at`: its properties come before its nodes (section 5.4.2). The token after its name, or 0. */
+static uint32_t read_node(const struct walk *walk, uint32_t at, struct node *node)
+{
+    uint32_t end = walk->nodes_end, after;
+    *node = (struct node){.name = at, .address_cells = 2, .size_cells = 1};
+    while (at < end && walk->tree[at])
+        at++;
+    after = at = (at + 4) & ~3u;
+    if (after > end)
+        return 0;
+    while (is_inside(at, 4, end)) {
+        uint32_t token = load(walk->tree + at), next = at + 4;
+        if (token == PROP && (next = after_property(walk, at + 4)))
+            note(walk, at + 4, node);
+        else if (token != NOP)
+            break;
+        at = next;
+    }
+    return after;
+}
+
+/* Goes on by a token and says which it is, or 0 where none can be read. After END_NODE the depth is that of what is around it. */
+static uint32_t step(struct walk *walk)
+{
+    struct node other;
+    uint32_t token, at = walk->at;
+    if (!is_inside(at, 4, walk->nodes_end))
+        return 0;
+    token = load(walk->tree + at);
+    walk->here = at;
+    at += 4;
+    if (token == BEGIN_NODE) {
+        at = read_node(walk, at, walk->depth < KEPT ? &walk->path[walk->depth] : &other);
+        walk->depth++;
+    } else if (token == PROP && walk->depth) {
+        at = after_property(walk, at);
+    } else if (token == END_NODE && walk->depth) {
+        walk->depth--;
+    } else if (token != NOP) {
+        return 0;
+    }
+    walk->at = at;
+    return at ? token : 0;
+}
+
+static int has_cells(const struct node *node)
+{
+    return node->address_cells - 1 < 2 && node->size_cells - 1 < 2;
 }
 
 static uint64_t load_cells(const uint8_t *at, uint32_t cells)
@@ -308,79 +193,264 @@ static uint64_t load_cells(const uint8_t *at, uint32_t cells)
     return cells == 2 ? (uint64_t)load(at) << 32 | load(at + 4) : load(at);
 }
 
-/* The value of `reg` from `at` on: pairs of a base and a size, in the cells of the root. */
-static void read_memory(const struct tree *tree, uint32_t at, uint32_t length, const struct place *root, struct board_in_tree *board)
+/* The i-th base and size of a node's `reg`, in the cells of the node around it; whether there is one. */
+static int range_of(const struct walk *walk, const struct node *node, const struct node *around, uint32_t i, uint64_t *range)
 {
-    uint32_t each = 4 * (root->address_cells + root->size_cells);
-    for (; length >= each && board->ram_count < MOST_MEMORY; at += each, length -= each) {
-        uint64_t base = load_cells(tree->at + at, root->address_cells);
-        uint64_t size = load_cells(tree->at + at + 4 * root->address_cells, root->size_cells);
-        if (!size || base + size < base)
-            continue;
-        board->ram[board->ram_count].base = base;
-        board->ram[board->ram_count++].size = size;
-    }
+    uint32_t each = 4 * (around->address_cells + around->size_cells);
+    if (i >= node->reg_size / each)
+        return 0;
+    const uint8_t *at = walk->tree + node->reg + i * each;
+    range[0] = load_cells(at, around->address_cells);
+    range[1] = load_cells(at + 4 * around->address_cells, around->size_cells);
+    return 1;
+}
+
+static int is_memory(const struct walk *walk)
+{
+    return walk->depth == 2 && (is_named(walk, &walk->path[1], "memory@", 1) || is_named(walk, &walk->path[1], "memory", 0));
+}
+
+static int is_hart(const struct walk *walk)
+{
+    return walk->depth == 3 && is_named(walk, &walk->path[1], "cpus", 0) && is_named(walk, &walk->path[2], "cpu@", 1);
 }
 
 /* A hart's number is the last of its cells: those beyond 63 are not looked at. */
-static void read_hart(const struct tree *tree, uint32_t at, uint32_t length, struct board_in_tree *board)
+static uint64_t hart_bit(const struct walk *walk)
 {
-    if (length != 4 && length != 8)
-        return;
-    uint64_t hart = load_cells(tree->at + at, length / 4);
-    if (hart < 64)
-        board->harts |= 1ul << hart;
+    const struct node *node = &walk->path[2];
+    if (node->reg_size != 4 && node->reg_size != 8)
+        return 0;
+    uint64_t hart = load_cells(walk->tree + node->reg, node->reg_size / 4);
+    return hart < 64 ? 1ul << hart : 0;
 }
 
-/* A property of a node of memory or of a hart. read_property has looked that it is inside. */
-static void read_reg(const struct tree *tree, uint32_t at, enum kind kind, const struct place *root, struct board_in_tree *board)
+static void read_memory(const struct walk *walk, struct board_in_tree *board)
 {
-    uint32_t length = load(tree->at + at), name = tree->names + load(tree->at + at + 4);
-    if (!is_text(tree, name, tree->names + tree->names_size, NAMES + REG))
-        return;
-    if (kind == MEMORY)
-        read_memory(tree, at + 8, length, root, board);
-    if (kind == HART)
-        read_hart(tree, at + 8, length, board);
+    uint64_t range[2];
+    for (uint32_t i = 0; range_of(walk, &walk->path[1], &walk->path[0], i, range) && board->ram_count < MOST_MEMORY; i++) {
+        if (!range[1] || range[0] + range[1] < range[0])
+            continue;
+        board->ram[board->ram_count].base = range[0];
+        board->ram[board->ram_count++].size = range[1];
+    }
 }
 
-/* Walks all tokens up to the end of the root; whether it came there. The root's cells come before its nodes (section 5.4.2). */
-static int find_harts_and_memory(const struct tree *tree, struct board_in_tree *board)
+const char *read_board(const uint8_t *tree, uint64_t room, struct board_in_tree *board)
 {
-    struct place root = {.address_cells = 2, .size_cells = 1};
-    uint32_t at = tree->nodes, end = tree->nodes + tree->nodes_size, depth = 0;
-    enum kind kind = OTHER;
-    int is_in_cpus = 0;
-    while (at && is_inside(at, 4, end)) {
-        uint32_t token = load(tree->at + at);
-        at += 4;
-        if (token == BEGIN_NODE) {
-            kind = kind_of(tree, at, end, depth, is_in_cpus);
-            if (depth == 1)
-                is_in_cpus = is_text(tree, at, end, "cpus");
-            depth++;
-            at = after_text(tree, at, end);
-        } else if (token == PROP) {
-            uint32_t here = at;
-            at = depth ? read_property(tree, at, end, depth == 1, &root) : 0;
-            if (root.address_cells - 1 > 1 || root.size_cells - 1 > 1)
-                return 0;
-            if (at && kind != OTHER)
-                read_reg(tree, here, kind, &root, board);
-        } else if (token == END_NODE && depth) {
-            kind = OTHER;
-            if (--depth == 0)
-                return 1;
-        } else if (token != NOP) {
+    struct walk walk;
+    uint32_t token;
+    *board = (struct board_in_tree){.harts = 0};
+    if (!begin(&walk, tree, room))
+        return NOT_READ;
+    while ((token = step(&walk)) && has_cells(&walk.path[0])) {
+        if (token == END_NODE && walk.depth == 0)
             return 0;
+        if (token == BEGIN_NODE && is_memory(&walk))
+            read_memory(&walk, board);
+        if (token == BEGIN_NODE && is_hart(&walk))
+            board->harts |= hart_bit(&walk);
+    }
+    return NOT_READ;
+}
+
+/* Whether all of some bytes are in a range of the platform's devices or memory. */
+static int is_hosts(const struct platform_frame *platform, uint64_t base, uint64_t size)
+{
+    for (uint64_t i = 0; i < platform->device_count; i++)
+        if (base - platform->device[i].base < platform->device[i].size && size <= platform->device[i].size - (base - platform->device[i].base))
+            return 1;
+    for (uint64_t i = 0; i < platform->ram_count; i++)
+        if (base - platform->ram[i].base < platform->ram[i].size && size <= platform->ram[i].size - (base - platform->ram[i].base))
+            return 1;
+    return 0;
+}
+
+/*
+ * Whether the node that begins is not the host's: a hart that the platform has not; a device with registers that the host does
+ * not reach, on the root or on a bus that has its addresses; or one whose registers are another node's (`regmap`), which on
+ * QEMU's virt are those that end the board.
+ */
+static int is_closed(const struct walk *walk, const struct platform_frame *platform)
+{
+    uint32_t depth = walk->depth - 1;
+    uint64_t range[2];
+    if (is_hart(walk))
+        return !(hart_bit(walk) & ((1ul << platform->harts) - 1));
+    if (depth == 0 || depth >= KEPT || is_memory(walk) || is_named(walk, &walk->path[1], "reserved-memory", 0))
+        return 0;
+    const struct node *node = &walk->path[depth], *around = &walk->path[depth - 1];
+    if (depth == 2 && around->ranges == NONE)
+        return 0;
+    if (node->has_regmap || (node->has_reg && (around->ranges == OTHER || !has_cells(around))))
+        return 1;
+    for (uint32_t i = 0; node->has_reg && range_of(walk, node, around, i, range); i++)
+        if (!is_hosts(platform, range[0], range[1]))
+            return 1;
+    return 0;
+}
+
+/* What is written, first into bytes of the monitor's own. */
+struct out {
+    uint32_t size, names;
+    int is_full, is_unfit;
+};
+static uint8_t written[MOST_TREE] __attribute__((aligned(8)));
+
+static void put_bytes(struct out *out, const void *bytes, uint32_t size)
+{
+    out->is_full |= !is_inside(out->size, size, sizeof written);
+    if (out->is_full)
+        return;
+    memcpy(written + out->size, bytes, size);
+    out->size += size;
+}
+
+static void put_word(struct out *out, uint32_t word)
+{
+    uint8_t bytes[4];
+    store(bytes, word);
+    put_bytes(out, bytes, sizeof bytes);
+}
+
+static void put_text(struct out *out, const char *text)
+{
+    uint32_t n = 0;
+    while (text[n++])
+        ;
+    put_bytes(out, text, n);
+    put_bytes(out, "\0\0\0", -n & 3);
+}
+
+static void put_property(struct out *out, uint32_t name, uint32_t length)
+{
+    put_word(out, PROP);
+    put_word(out, length);
+    put_word(out, out->names + name);
+}
+
+static void put_text_property(struct out *out, uint32_t name, const char *text)
+{
+    uint32_t length = 1;
+    while (text[length - 1])
+        length++;
+    put_property(out, name, length);
+    put_text(out, text);
+}
+
+static void put_cells(struct out *out, uint64_t number, uint32_t cells)
+{
+    out->is_unfit |= cells == 1 && number >> 32;
+    if (cells == 2)
+        put_word(out, (uint32_t)(number >> 32));
+    put_word(out, (uint32_t)number);
+}
+
+/* The node's name is with `@` and the base: its unit address (section 2.2.1). */
+static void put_range(struct out *out, const struct node *root, const struct reserved *range)
+{
+    char text[MOST_NAME + 18], *at = text;
+    for (const char *name = range->name; *name; name++)
+        *at++ = *name;
+    *at++ = '@';
+    for (int shift = 60; shift >= 0; shift -= 4)
+        if (range->base >> shift || shift == 0)
+            *at++ = "0123456789abcdef"[range->base >> shift & 15];
+    *at = 0;
+    put_word(out, BEGIN_NODE);
+    put_text(out, text);
+    if (range->compatible)
+        put_text_property(out, COMPATIBLE, range->compatible);
+    put_property(out, REG, 4 * (root->address_cells + root->size_cells));
+    put_cells(out, range->base, root->address_cells);
+    put_cells(out, range->size, root->size_cells);
+    put_property(out, NO_MAP, 0);
+    put_word(out, END_NODE);
+}
+
+/* /reserved-memory, where there is none: its cells are the root's, and its `ranges` are empty (section 3.5.1). */
+static void put_parent(struct out *out, const struct node *root)
+{
+    put_word(out, BEGIN_NODE);
+    put_text(out, "reserved-memory");
+    put_property(out, ADDRESS_CELLS, 4);
+    put_word(out, root->address_cells);
+    put_property(out, SIZE_CELLS, 4);
+    put_word(out, root->size_cells);
+    put_property(out, RANGES, 0);
+}
+
+/* The ranges, before the end of /reserved-memory, or of the root where there is none. */
+static int put_ranges(struct out *out, const struct walk *walk, const struct reserved *ranges, uint32_t count)
+{
+    int is_parent = walk->depth == 1 && is_named(walk, &walk->path[1], "reserved-memory", 0);
+    if (!is_parent && walk->depth)
+        return 0;
+    if (!is_parent)
+        put_parent(out, &walk->path[0]);
+    for (uint32_t i = 0; i < count; i++)
+        put_range(out, &walk->path[0], &ranges[i]);
+    if (!is_parent)
+        put_word(out, END_NODE);
+    return 1;
+}
+
+static int is_status(const struct walk *walk)
+{
+    return has_name(walk, walk->here + 4, NAMES + STATUS);
+}
+
+/* The tokens up to the end of the root; whether it came there. */
+static int put_nodes(struct out *out, struct walk *walk, const struct platform_frame *platform, const struct reserved *ranges, uint32_t count)
+{
+    int is_put = 0;
+    uint32_t token, closed = 0; /* the depth in a node that is closed, or 0 */
+    while ((token = step(walk)) && has_cells(&walk->path[0])) {
+        if (token == END_NODE && !is_put)
+            is_put = put_ranges(out, walk, ranges, count);
+        if (token != PROP || closed != walk->depth || !is_status(walk))
+            put_bytes(out, walk->tree + walk->here, walk->at - walk->here);
+        if (token == BEGIN_NODE && is_closed(walk, platform)) {
+            closed = walk->depth;
+            put_text_property(out, STATUS, "disabled");
+        } else if (token == BEGIN_NODE || token == END_NODE) {
+            closed = 0;
         }
+        if (token == END_NODE && walk->depth == 0)
+            return 1;
     }
     return 0;
 }
 
-const char *read_board(const uint8_t *at, uint64_t room, struct board_in_tree *board)
+/* The header of what is written, and the names. The list of reserved memory came after the header. */
+static void put_ends(struct out *out, const struct walk *walk)
 {
-    struct tree tree = {.at = (uint8_t *)(uintptr_t)at};
-    *board = (struct board_in_tree){.harts = 0};
-    return read_header(&tree, room) && find_harts_and_memory(&tree, board) ? 0 : NOT_READ;
+    uint32_t nodes = HEADER + walk->nodes - walk->reserved;
+    put_word(out, END);
+    memcpy(written, walk->tree, HEADER);
+    store(written + 4 * WORD_RESERVED, HEADER);
+    store(written + 4 * WORD_STRUCT, nodes);
+    store(written + 4 * WORD_STRUCT_SIZE, out->size - nodes);
+    store(written + 4 * WORD_STRINGS, out->size);
+    store(written + 4 * WORD_STRINGS_SIZE, walk->names_size + (uint32_t)sizeof NAMES);
+    put_bytes(out, walk->tree + walk->names, walk->names_size);
+    put_bytes(out, NAMES, sizeof NAMES);
+}
+
+const char *write_tree(uint8_t *tree, uint64_t room, const struct platform_frame *platform, const struct reserved *ranges, uint32_t count)
+{
+    struct walk walk;
+    struct out out = {.size = HEADER};
+    if (!begin(&walk, tree, room))
+        return NOT_READ;
+    out.names = walk.names_size;
+    put_bytes(&out, tree + walk.reserved, walk.nodes - walk.reserved);
+    if (!put_nodes(&out, &walk, platform, ranges, count) || out.is_unfit)
+        return NOT_READ;
+    put_ends(&out, &walk);
+    if (out.is_full || out.size > room)
+        return NO_ROOM;
+    store(written + 4 * WORD_SIZE, out.size + SLACK <= room ? out.size + SLACK : out.size);
+    memcpy(tree, written, out.size);
+    return 0;
 }

@@ -1,14 +1,25 @@
-/* The monitor and its firmware stand at the start of the range that the platform gives the monitor. */
+/*
+ * The monitor and its firmware stand at the start of the range that the platform gives the monitor. Code, constants and data have
+ * pages and a segment each: none is both written and executed. Nothing holds a hart to it, since no entry binds machine mode.
+ */
 ENTRY(_start)
+PHDRS
+{
+    code PT_LOAD FLAGS(5);
+    constants PT_LOAD FLAGS(4);
+    data PT_LOAD FLAGS(6);
+}
 SECTIONS
 {
     . = MONITOR_BASE;
-    .text : { *(.text.start) *(.text .text.*) }
-    .rodata : ALIGN(16) { *(.rodata .rodata.*) *(.srodata .srodata.*) }
-    .data : ALIGN(16) { *(.data .data.*) *(.sdata .sdata.*) }
-    .bss (NOLOAD) : ALIGN(16) { bss_start = .; *(.sbss .sbss.*) *(.bss .bss.*) *(COMMON) . = ALIGN(8); bss_end = .; }
-    .stack (NOLOAD) : ALIGN(16) { *(.stack) }
-    ASSERT(. <= MONITOR_BASE + 0x80000, "the monitor has the first 512 KiB, and a host's boot loader has its stack after them")
-    ASSERT(. <= MONITOR_BASE + MONITOR_SIZE, "the monitor has no room in the range that the platform gives it")
+    .text : { *(.text.start) *(.text .text.*) } :code
+    .rodata : ALIGN(4096) { *(.rodata .rodata.*) *(.srodata .srodata.*) } :constants
+    .data : ALIGN(4096) { *(.data .data.*) *(.sdata .sdata.*) } :data
+    .bss (NOLOAD) : ALIGN(16) { bss_start = .; *(.sbss .sbss.*) *(.bss .bss.*) *(COMMON) . = ALIGN(8); bss_end = .; } :data
+    .stack (NOLOAD) : ALIGN(16) { *(.stack) } :data
+    /* The last page of the first 512 KiB, or of a smaller range, is in no segment: nothing clears it at a reset (reset.c). */
+    private_ranges = MONITOR_BASE + (MONITOR_SIZE < 0x80000 ? MONITOR_SIZE : 0x80000) - 0x1000;
+    ASSERT(. <= MONITOR_BASE + 0x7f000, "the monitor has the first 512 KiB, and a host's boot loader has its stack after them")
+    ASSERT(. <= private_ranges, "the monitor has no room in the range that the platform gives it")
     /DISCARD/ : { *(.comment) *(.eh_frame) *(.riscv.attributes) }
 }

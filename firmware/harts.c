@@ -9,6 +9,10 @@ extern volatile uint32_t harts_run;
 extern volatile uint8_t arrived[MOST_HARTS];
 static volatile uint32_t *const software_interrupt = (volatile uint32_t *)0x2000000;
 
+#ifndef TEN_SECONDS
+#define TEN_SECONDS 100000000ul
+#endif
+
 volatile enum hart_state hart_state[MOST_HARTS] = {STARTED, STOPPED, STOPPED, STOPPED};
 
 unsigned hart_count(void)
@@ -16,22 +20,33 @@ unsigned hart_count(void)
     return (unsigned)platform->harts;
 }
 
-void stop_harts(uint64_t harts)
+int are_stopped(uint64_t harts)
 {
+    uint64_t last = timer_now() + TEN_SECONDS;
     unsigned self = this_hart();
 #ifdef NO_STOP
-    return; /* so that a test sees what comes of it */
+    return 1; /* so that a test sees what comes of it */
 #endif
     if (!harts_run)
-        return;
+        return 1;
     harts &= ~(1ul << self);
     for (unsigned hart = 0; hart < hart_count(); hart++)
         if (harts >> hart & 1)
             software_interrupt[hart] = 1;
     for (unsigned hart = 0; hart < hart_count(); hart++)
         while (harts >> hart & 1 && !halted[hart])
-            ;
+            if (timer_now() > last)
+                return 0;
     __asm__ volatile("fence rw, rw" ::: "memory");
+    return 1;
+}
+
+void stop_harts(uint64_t harts)
+{
+    if (are_stopped(harts))
+        return;
+    put("monitor: a hart does not stop\n");
+    end_board(1);
 }
 
 static volatile uint8_t is_interrupted[MOST_HARTS];
@@ -70,7 +85,7 @@ void unpark(unsigned hart)
 /* A platform that names a hart which the board has not would wait for it at the first stop. */
 static void wait_for(unsigned hart)
 {
-    uint64_t last = timer_now() + 100000000; /* ten seconds */
+    uint64_t last = timer_now() + TEN_SECONDS;
     while (!arrived[hart])
         if (timer_now() > last) {
             put("monitor: the platform has a hart that does not come: ");

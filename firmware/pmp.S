@@ -1,38 +1,66 @@
 /*
+ * The entries of a hart, in the words of a struct bank. ENTRIES is how many the platform says; pmpcfg0 is 0x3a0, and pmpaddr0 0x3b0
+ * (Privileged Architecture, "Physical Memory Protection CSRs").
+ */
+    .macro  each_word what
+    .set    n, 0
+    .rept   ENTRIES
+    \what   (64 + 8 * n), 0x3b0 + n
+    .set    n, n + 1
+    .endr
+    .set    n, 0
+    .rept   ENTRIES / 8
+    \what   (8 * n), 0x3a0 + 2 * n
+    .set    n, n + 1
+    .endr
+    .endm
+    .macro  put at, csr
+    ld      t0, \at(a0)
+    csrw    \csr, t0
+    .endm
+    .macro  get at, csr
+    csrr    t0, \csr
+    sd      t0, \at(a0)
+    .endm
+
+/*
  * void load_bank(const struct bank *): the addresses first, then the configuration, so that no entry is in force with
- * another's address; in machine mode none of them binds meanwhile, since none is locked. ENTRIES is how many the hart has.
- * Translations that may hold the old permissions are dropped, those of a guest too where the hart has guests.
+ * another's address; in machine mode none of them binds meanwhile, since none is locked. Translations that may hold the old
+ * permissions are dropped, those of a guest too where the hart has guests.
  */
     .text
     .globl  load_bank
 load_bank:
-    .irp    n, 0, 1, 2, 3, 4, 5, 6, 7, 8, 9, 10, 11, 12, 13, 14, 15
-    ld      t0, 64 + 8 * \n(a0)
-    csrw    pmpaddr\n, t0
-    .endr
-#if ENTRIES == 64
-    .irp    n, 16, 17, 18, 19, 20, 21, 22, 23, 24, 25, 26, 27, 28, 29, 30, 31, 32, 33, 34, 35, 36, 37, 38, 39
-    ld      t0, 64 + 8 * \n(a0)
-    csrw    pmpaddr\n, t0
-    .endr
-    .irp    n, 40, 41, 42, 43, 44, 45, 46, 47, 48, 49, 50, 51, 52, 53, 54, 55, 56, 57, 58, 59, 60, 61, 62, 63
-    ld      t0, 64 + 8 * \n(a0)
-    csrw    pmpaddr\n, t0
-    .endr
-#endif
-    ld      t0, 0(a0)
-    csrw    pmpcfg0, t0
-    ld      t0, 8(a0)
-    csrw    pmpcfg2, t0
-#if ENTRIES == 64
-    .irp    n, 4, 6, 8, 10, 12, 14
-    ld      t0, 4 * \n(a0)
-    csrw    pmpcfg\n, t0
-    .endr
-#endif
+    each_word put
     sfence.vma
     csrr    t0, misa
     andi    t0, t0, 1 << 7      # H
     beqz    t0, 1f
     .insn   r 0x73, 0, 0x31, x0, x0, x0 # hfence.gvma
 1:  ret
+
+/* void read_bank(struct bank *): what the registers have. */
+    .globl  read_bank
+read_bank:
+    each_word get
+    ret
+
+/*
+ * uint64_t clear_beyond(void): makes the entries beyond those of the platform zero, up to the first that the hart has not, and says
+ * which bits of their configuration are not.
+ */
+    .globl  clear_beyond
+clear_beyond:
+    la      t0, 1f
+    csrrw   t1, mtvec, t0
+    li      a0, 0
+    .set    n, ENTRIES / 8
+    .rept   8 - ENTRIES / 8
+    csrw    0x3a0 + 2 * n, zero
+    csrr    t0, 0x3a0 + 2 * n
+    or      a0, a0, t0
+    .set    n, n + 1
+    .endr
+    .balign 4
+1:  csrw    mtvec, t1
+    ret

@@ -17,6 +17,6 @@ struct sbiret sbi_srst(uint64_t function, const uint64_t *a)
     if (reset_type >= VENDORS_TYPE)
         return (struct sbiret){SBI_ERR_NOT_SUPPORTED, 0};
     if (reset_type != SHUTDOWN)
-        start_again();
-    power_off(reset_reason);
+        begin_anew();
+    end_board(reset_reason);
 }

@@ -84,7 +84,7 @@ int64_t read(uint64_t descriptor, void *to, uint64_t n)
     return -1;
 }
 
-static int differ(const uint64_t *a, const uint64_t *b, unsigned words)
+int differ(const uint64_t *a, const uint64_t *b, unsigned words)
 {
     for (unsigned i = 0; i < words; i++)
         if (a[i] != b[i])
@@ -104,7 +104,7 @@ static void keep_bank(unsigned hart, const struct answer_frame *answer)
 }
 
 /* Pages that are made zero may have been code: each hart fences before it goes on. */
-static void make_zero(uint64_t first, uint64_t count)
+void make_zero(uint64_t first, uint64_t count)
 {
     for (uint64_t page = first; page < first + count; page++)
         if (is_worlds(page))
@@ -118,6 +118,7 @@ static int64_t written_answer(const struct answer_frame *answer)
     uint64_t hart = answer->hart;
     struct world *world = &worlds[hart];
     make_zero(answer->zero_first, answer->zero_count);
+    private_answered(answer->status, answer->zero_first, answer->zero_count);
     for (unsigned other = 0; other < hart_count(); other++)
         if (other == hart || (answer->wake >> other & 1))
             keep_bank(other, answer);
@@ -135,6 +136,7 @@ static int64_t written_measure(const struct measure_frame *asked)
     next = PAGES;
     next_page = asked->first;
     pages_left = asked->count;
+    private_asked(asked->first, asked->count);
     return sizeof *asked;
 }
 
@@ -171,7 +173,7 @@ _Noreturn void trapped(uint64_t cause, uint64_t pc, uint64_t value)
     put(" ");
     put_hex(value);
     put("\n");
-    power_off(1);
+    end_board(1);
 }
 
 _Noreturn void serve(void)
@@ -180,5 +182,5 @@ _Noreturn void serve(void)
     put("monitor: the loop ended with ");
     put_number(told);
     put("\n");
-    power_off(1);
+    end_board(1);
 }

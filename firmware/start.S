@@ -17,7 +17,7 @@ _start:
     bltu    t0, t1, 1b
     la      t0, stack_start
     la      sp, stack_end
-    li      t1, 0x5a5a5a5a5a5a5a5a
+    li      t1, STACK_MARK
 1:  sd      t1, (t0)
     addi    t0, t0, 8
     bltu    t0, sp, 1b
@@ -55,9 +55,11 @@ harts_run:
 
     .section .stack, "aw", @nobits
     .balign 16
-    .globl  stack_start, stack_end
+    .globl  stack_start, stack_guard, stack_end
 stack_start:
-    .skip   STACK_SIZE
+    .skip   8192
+stack_guard:
+    .skip   STACK_SIZE - 8192
 stack_end:
     .skip   2048
 last_stack_end:

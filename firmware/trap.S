@@ -23,6 +23,24 @@
     .endr
     .endm
 
+/* The lock is two numbers: who comes takes the next, and goes in when it is called. So each comes in before who came later. */
+    .macro  lock
+    la      t0, tickets
+    li      t1, 1
+    amoadd.w.aq t1, t1, (t0)
+1:  lw      t3, 4(t0)
+    bne     t1, t3, 1b
+    fence   r, rw
+    .endm
+/* Before it the hart is done with memory, and with what it said to the CLINT, which a release alone does not order. */
+    .macro  unlock
+    fence
+    la      t0, tickets
+    lw      t5, 4(t0)
+    addiw   t5, t5, 1
+    sw      t5, 4(t0)
+    .endm
+
     .text
     .globl  instructions
 instructions:
@@ -56,9 +74,7 @@ run_world:
     add     t0, t0, t1
     lw      t1, (t0)
     sw      zero, (t0)
-    fence                       # the release below orders memory alone, and not what was said to the CLINT
-    la      t0, lock
-    amoswap.w.rl zero, zero, (t0)
+    unlock
 /* Software interrupts for other harts of the host: each of them comes for the lock, so this hart lets go of it first. */
     li      t0, CLINT
     li      t3, 1
@@ -79,6 +95,7 @@ run_world:
     ld      t0, 33 * 8(s0)
     or      t2, t2, t0
     csrw    mstatus, t2         # at once: a mode that changes meanwhile costs QEMU its translations
+    sc.d    zero, zero, (s0)    # into the place of x0, so that no reservation of another world is left
     mv      x31, s0
     all     ld, x31
     ld      x31, 8 * 31(x31)
@@ -105,8 +122,7 @@ park:
     li      t1, 1
     fence   rw, rw
     sw      t1, (t2)
-    la      t0, lock
-    amoswap.w.rl zero, zero, (t0)
+    unlock
 1:  sw      zero, (t4)
     fence
     lw      t1, (t3)
@@ -154,10 +170,7 @@ take_monitor:
     li      t1, 1
     fence   rw, rw
     sw      t1, (t2)
-    la      t0, lock
-1:  li      t1, 1
-    amoswap.w.aq t1, t1, (t0)
-    bnez    t1, 1b
+    lock
     sw      zero, (t2)
     fence   rw, rw
     la      t0, monitor_sp
@@ -168,9 +181,9 @@ take_monitor:
 
     .section .sdata, "aw"
     .balign 8
-/* Hart 0 has the monitor first. */
-lock:
-    .word   1
+/* Hart 0 has the monitor first: the next number, and the one that is called. */
+tickets:
+    .word   1, 0
     .section .sbss, "aw", @nobits
     .balign 8
 monitor_sp:

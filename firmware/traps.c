@@ -7,7 +7,6 @@
 
 #define CREATE 0
 #define DESTROY 1
-#define ALL_HARTS (~0ul)
 
 /* Where the host begins on hart 0, as OpenSBI's fw_jump has it: a0 is the hart, a1 the device tree. Others wait for its call. */
 #define HOST_ENTRY 0x80200000ul
@@ -21,6 +20,7 @@ static void begin(unsigned hart)
         return;
     has_begun[hart] = 1;
     control_at_start();
+    check_entries();
 }
 
 /* This hart runs its world, or waits to be started. The hart that traps next comes back, and does what it was asked for. */
@@ -67,10 +67,21 @@ static int is_of_board(struct world *world, unsigned hart)
     return 1;
 }
 
+/* The stack has grown into its last 8 KiB. What lies below it is the monitor's memory. */
+static void check_stack(void)
+{
+    extern const uint64_t stack_guard;
+    if (stack_guard == STACK_MARK)
+        return;
+    put("monitor: the stack is full\n");
+    end_board(1);
+}
+
 uint64_t next_trap(void)
 {
     struct world *world;
     unsigned hart;
+    check_stack();
     do {
         leave_monitor();
         hart = this_hart();
@@ -103,13 +114,14 @@ _Noreturn void ended(const struct end_frame *end)
     put(", ");
     put_number((int64_t)end->detail);
     put("\n");
-    power_off(1);
+    end_board(1);
 }
 
 _Noreturn void boot(uint64_t hart, uint64_t tree)
 {
     (void)hart;
     device_tree = tree;
+    forget_private();
     find_board(tree);
     serve();
 }

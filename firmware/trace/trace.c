@@ -88,7 +88,7 @@ static void note(const char *name, uint64_t value)
 static void put_notes(void)
 {
     const uint64_t *at = stack_start;
-    while (*at == 0x5a5a5a5a5a5a5a5a)
+    while (*at == STACK_MARK)
         at++;
     note("stack", (uint64_t)(stack_end - at) * 8);
     note("heap", heap_most);

@@ -10,8 +10,11 @@ import tempfile
 from concurrent.futures import ThreadPoolExecutor
 from pathlib import Path
 
+from interleavings import interleavings
 from lives import Life
+from resets import resets, symbol
 from trees import trees
+from wires import Wired
 
 TOP = Path(__file__).resolve().parents[2]
 HERE = Path(__file__).resolve().parent
@@ -205,6 +208,11 @@ def worlds(folder, told):
     said = booted(folder / "with/pmpmon-virt.elf", host(folder / "two_hosts.elf", "sbi_host.S", "two_hosts.S", "two_hosts.c"), 2)
     told("two harts enter two enclaves, and each host has its own words", said == "both harts were in an enclave: 1\nwrong 0\n", said)
     sbi(folder / "with/pmpmon-virt.elf", folder, told)
+    payloads = [host(folder / f"reset-{it}.elf", "harts.S", "reset_enclave.S", "reset.c", flags=(f"-DHARTS={it}",)) for it in (1, 2)]
+    devices(folder, told)
+    storm(folder, told)
+    ends(folder, told)
+    resets((FIRMWARE / "out/pmpmon-virt.elf", folder / "with/pmpmon-virt.elf"), payloads, told)
     hostile(folder, told)
 
 
@@ -226,6 +234,90 @@ def boards(folder, told):
         done = subprocess.run([FIRMWARE / "build"], env={**os.environ, "POOL": pool}, capture_output=True, text=True)
         right = done.returncode == 2 and done.stderr.startswith("firmware: POOL is ")
         told(f"POOL={pool} is refused", right, "" if right else done.stderr)
+
+
+# Which devices a host does not reach, of the shipped platform and of the wide one.
+CLOSED = dict.fromkeys(("finisher", "clint", "virtio", "fw_cfg", "flash", "pcie"), 5) | dict.fromkeys(("rtc", "plic", "serial"), 0)
+WIDE = dict.fromkeys(CLOSED, 0) | {"finisher": 5, "clint": 5}
+# The counters: the time is read, and of the others the instruction is illegal.
+COUNTERS = "time 0\ncycle 2\ninstret 2\n"
+OPEN_NODES = {"rtc@101000", "serial@10000000", "plic@c000000"}
+
+
+def host_tree(image, payload, harts):
+    """The device tree that a host gets, as its source: QEMU puts it into the last megabytes of memory."""
+    with Wired(image, payload, harts, kind=5) as board:
+        board.until("it waits\n")
+        memory = (board.place / "memory").read_bytes()
+    at = next(it for it in range(0x7E00000, 0x8000000, 4096) if memory[it : it + 4] == b"\xd0\x0d\xfe\xed")
+    return subprocess.run(["dtc", "-q", "-I", "dtb", "-O", "dts"], input=memory[at : at + int.from_bytes(memory[at + 4 : at + 8], "big")], capture_output=True).stdout.decode()
+
+
+def devices(folder, told):
+    """A host reaches what its platform gives it alone, and its tree says so."""
+    payload = host(folder / "closed.elf", "harts.S", "reset_enclave.S", "closed.c")
+    built(FIRMWARE / "platform-wide.toml", folder / "wide")
+    for name, image, want in (("the shipped", FIRMWARE / "out/pmpmon-virt.elf", CLOSED), ("the wide", folder / "wide/pmpmon-virt.elf", WIDE)):
+        said = booted(image, payload, 1)
+        found = {it.rsplit(" ", 1)[0]: int(it.rsplit(" ", 1)[1]) for it in said.splitlines()}
+        right = all(found.get(it) == cause for it, cause in want.items())
+        told(f"a host on {name} platform reaches {', '.join(it for it, cause in want.items() if not cause)} alone", right, "" if right else said)
+        told(f"a host on {name} platform reads no counter but the time", said.endswith(COUNTERS), "" if said.endswith(COUNTERS) else said)
+    if not shutil.which("dtc"):
+        return
+    tree = host_tree(folder / "with/pmpmon-virt.elf", folder / "reset-2.elf", 3)
+    nodes = re.findall(r"\n\t+([\w-]+@[0-9a-f]+|poweroff|reboot) \{((?:\n\t+[^\n{}]*;)*)", tree)
+    open_nodes = {name for name, body in nodes if 'status = "disabled"' not in body}
+    want = OPEN_NODES | {"memory@80000000", "platform-bus@4000000", "cpu@0", "cpu@1", "monitor@80000000"}
+    told("the tree of a host on two of three harts names these, its memory and its devices as its own alone", open_nodes == want and "cpu@2" in dict(nodes), str(open_nodes ^ want))
+
+
+def storm(folder, told):
+    """Four harts of a host that do at random what may race, for STORM_SECONDS (3, or as the environment has it)."""
+    four = folder / "four.toml"
+    four.write_text((FIRMWARE / "platform.toml").read_text().replace("harts = 1\n", "harts = 4\n"))
+    built(four, folder / "four")
+    payload = host(folder / "storm.elf", "harts.S", "two_hosts.S", "storm.c", flags=("-DHARTS=4",))
+    seconds = int(os.environ.get("STORM_SECONDS", "3"))
+    said = booted(folder / "four/pmpmon-virt.elf", payload, 4, "-device", f"loader,addr=0x86001000,data={seconds},data-len=8", seconds=60 + 4 * seconds)
+    turns = [int(it) for it in re.findall(r"turns (\d+)", said)]
+    right = said.endswith("stood still 0\nwrong 0\nodd 0\n") and min(turns, default=0) and "made 0\n" not in said
+    told(f"a storm of {seconds} seconds on four harts: {' '.join(map(str, turns))} turns", right, "" if right else said)
+
+
+def earlier(folder, left):
+    """QEMU's flash with a stage before the monitor, which leaves an entry behind."""
+    elf, flash = folder / "earlier.elf", folder / f"earlier-{left:x}.bin"
+    subprocess.run([GCC, *FLAGS, f"-DLEFT={left:#x}", "-Wl,-Ttext=0x20000000", "-Wl,--build-id=none", "-o", elf, HERE / "earlier.S"], check=True)
+    subprocess.run([GCC.replace("gcc", "objcopy"), "-O", "binary", elf, flash], check=True)
+    with flash.open("r+b") as file:
+        file.truncate(32 << 20)
+    return "-drive", f"if=pflash,unit=0,format=raw,file={flash}"
+
+
+def ends(folder, told):
+    """Boards and stages that do not fit end with their reason: other entries, a hart that does not stop, a stack that is full."""
+    payload, image = FIRMWARE / "out/host.elf", FIRMWARE / "out/pmpmon-virt.elf"
+    other = "monitor: the entries of a hart are not those of the platform: hart 0\n"
+    wide = folder / "64.toml"
+    wide.write_text("entries = 64\n" + (FIRMWARE / "platform.toml").read_text())
+    built(wide, folder / "64")
+    rows = [("an entry that was left open", image, earlier(folder, 0x1F), HOST), ("an entry that was locked", image, earlier(folder, 0x9F), other)]
+    rows += [("a hart without entries", image, ("-cpu", "rv64,pmp=false"), other), ("sixteen entries where the platform has 64", folder / "64/pmpmon-virt.elf", (), other)]
+    for name, firmware, more, want in rows:
+        said = booted(firmware, payload, 1, *more)
+        told(f"{name}: {'the host runs' if want == HOST else 'the board ends and says so'}", said == want, "" if said == want else said)
+    built(folder / "two.toml", folder / "late", "-DTEN_SECONDS=0ul")
+    said = booted(folder / "late/pmpmon-virt.elf", folder / "race.elf", 2)
+    told("a hart that does not stop in time ends the board", said == "monitor: a hart does not stop\n", said)
+    with Wired(image, folder / "reset-1.elf", 1, kind=5) as board:
+        board.until("it waits\n")
+        board.written(symbol(image, "stack_guard"), bytes(8))
+        right = board.has_ended() and board.said.endswith("monitor: the stack is full\n")
+        told("a stack that has grown into its guard ends the board", right, "" if right else board.said)
+    said = subprocess.run(["riscv64-unknown-elf-readelf", "-lW", image], capture_output=True, text=True).stdout
+    flags = re.findall(r"  LOAD .*0x[0-9a-f]+ ([RWE ]{3}) 0x", said)
+    told("no segment of the image is both written and executed", flags == ["R E", "R  ", "RW "], str(flags))
 
 
 def hostile(folder, told):
@@ -271,6 +363,7 @@ def monitor(program, told):
     with tempfile.TemporaryDirectory() as place:
         folder = Path(place)
         header_is_read(told)
+        interleavings(told)
         examples(on_hart, program, told)
         trees(folder, told)
         worlds(folder, told)

@@ -1,8 +1,8 @@
 /*
  * Tries firmware/device_tree.c on Linux, where a sanitizer sees each byte that it reads or writes.
  *
- *   trees one IN ROOM BASE SIZE OUT    the tree of IN with the monitor's range, or why not; OUT has its bytes
- *   trees pool IN ROOM BASE SIZE OUT   the same with the range of a pool, and then with room for more
+ *   trees one IN ROOM BASE SIZE OUT    the tree of IN as a host gets it, with the monitor's range, or why not; OUT has its bytes
+ *   trees pool IN ROOM BASE SIZE OUT   the same with the range of a pool too
  *   trees board IN                     the harts, as bits, and the memory that a tree has, or why they are not read
  *   trees random IN ROOM COUNT         so many times with some bytes changed: how many were taken, and how many refused trees were changed
  */
@@ -29,14 +29,23 @@ static uint8_t *copy(const uint8_t *from, size_t size, size_t room)
     return to;
 }
 
+/* Two harts, memory, and two devices of a page each. */
+static const struct platform_frame platform = {
+    .harts = 2,
+    .monitor_base = 0x80000000,
+    .monitor_size = 0x80000,
+    .ram_count = 1,
+    .device_count = 2,
+    .ram = {{0x80000000, 0x8000000}},
+    .device = {{0x10000000, 0x1000, 3}, {0x101000, 0x1000, 3}},
+};
+
 static int one(const uint8_t *tree, size_t size, char **words, int is_pool)
 {
     size_t room = strtoul(words[0], 0, 0);
     uint8_t *at = copy(tree, size, room);
-    struct reserved range = {is_pool ? "enclaves" : "monitor", is_pool ? "pmpmon,pool" : 0, strtoul(words[1], 0, 0), strtoul(words[2], 0, 0)};
-    const char *why = reserve_in_tree(at, room, &range);
-    if (is_pool && !why)
-        give_room_in_tree(at, room);
+    struct reserved ranges[] = {{"monitor", 0, strtoul(words[1], 0, 0), strtoul(words[2], 0, 0)}, {"enclaves", "pmpmon,pool", 0x83000000, 0x1000000}};
+    const char *why = write_tree(at, room, &platform, ranges, 1 + (uint32_t)is_pool);
     FILE *out = fopen(words[3], "wb");
     fwrite(at, 1, room, out);
     fclose(out);
@@ -72,7 +81,7 @@ static int many(const uint8_t *tree, size_t size, char **words)
             at[chance(chance(4) ? (uint32_t)size : 40)] ^= (uint8_t)(1u << chance(8));
         before = copy(at, room, room);
         read_board(at, room, &found);
-        if (!reserve_in_tree(at, room, &range))
+        if (!write_tree(at, room, &platform, &range, 1))
             taken++;
         else
             changed += memcmp(at, before, room) != 0;

@@ -59,9 +59,10 @@ def trees(folder, told):
             told(f"a device tree with {name}, {slack} bytes free: the range is in it, and nothing else is changed", right, "" if right else said)
     refusals(folder, told, answer)
     pools(folder, told, program)
+    closed(folder, told, program)
     boards(folder, told, program)
-    tree = compiled(folder, "in", next(pairs())[1])
-    for room in (tree.stat().st_size, tree.stat().st_size + 400):
+    tree = compiled(folder, "in", WITHOUT.format(more=BOARD.format(off="", on=""), **TWO))
+    for room in (tree.stat().st_size, tree.stat().st_size + 700):
         done = subprocess.run([program, "random", tree, str(room), str(RANDOM)], capture_output=True, text=True)
         told(f"{RANDOM} trees with changed bytes and room of {room}: nothing beside them is touched, and no refused one",
              done.stdout.endswith(" 0\n") and (room == tree.stat().st_size or not done.stdout.startswith("0 ")), done.stdout + done.stderr[-500:])
@@ -93,15 +94,41 @@ def refusals(folder, told, answer):
 
 
 def pools(folder, told, program):
-    """The range of a pool says what it is, and after the last range the tree has room for a boot loader, where there is some."""
+    """The range of a pool says what it is, and after all the tree has room for a boot loader, where there is some."""
     tree = compiled(folder, "in", WITHOUT.format(more="", **TWO))
     node = 'enclaves@83000000 { compatible = "pmpmon,pool"; reg = <0 0x83000000 0 0x1000000>; no-map; };'
-    want = compiled(folder, "want", WITHOUT.format(more=PARENT.format(nodes=node, **TWO), **TWO))
-    for room, slack in ((tree.stat().st_size + 400, 0), (tree.stat().st_size + 5000, 4096)):
-        subprocess.run([program, "pool", tree, str(room), str(0x83000000), str(0x1000000), folder / "out.dtb"], check=True, capture_output=True)
+    want = compiled(folder, "want", WITHOUT.format(more=PARENT.format(nodes=RANGE.format(**TWO) + node, **TWO), **TWO))
+    for room, slack in ((tree.stat().st_size + 500, 0), (tree.stat().st_size + 5000, 4096)):
+        subprocess.run([program, "pool", tree, str(room), str(BASE), str(SIZE), folder / "out.dtb"], check=True, capture_output=True)
         size = struct.unpack_from(">I", (folder / "out.dtb").read_bytes(), 4)[0]
-        right = listed(folder / "out.dtb") == listed(want) and tree.stat().st_size + 400 > size - slack > tree.stat().st_size
+        right = listed(folder / "out.dtb") == listed(want) and tree.stat().st_size + 500 > size - slack > tree.stat().st_size
         told(f"a pool in a tree with room of {room}: it is in it, and {slack} bytes are free after it", right, "" if right else str(size))
+
+
+# What the host has not is marked: {off} is put where a node gets the status, {on} where one keeps its own.
+BOARD = """
+cpus {{ #address-cells = <1>; #size-cells = <0>;
+    cpu@0 {{ reg = <0>; {on} intc {{ reg = <9>; }}; }}; cpu@1 {{ reg = <1>; }}; cpu@2 {{ reg = <2>; {off} intc {{ reg = <9>; }}; }}; cpu@3 {{ {off} reg = <3>; }}; }};
+soc {{ #address-cells = <2>; #size-cells = <2>; ranges;
+    rtc@101000 {{ reg = <0 0x101000 0 0x1000>; {on} }}; test@100000 {{ reg = <0 0x100000 0 0x1000>; {off} }};
+    serial@10000000 {{ reg = <0 0x10000000 0 0x100>; }}; two@10000000 {{ reg = <0 0x10000000 0 0x100 0 0x10001000 0 0x100>; {off} }};
+    long@10000000 {{ reg = <0 0x10000000 0 0x2000>; {off} child {{ {on} }}; }}; before@ff000 {{ reg = <0 0x100800 0 0x1000>; {off} }};
+    wraps@1 {{ reg = <0 0x10000800 0xffffffff 0xfffffa00>; {off} }}; group {{ inner@5 {{ reg = <5 5>; }}; }}; }};
+other {{ #address-cells = <1>; #size-cells = <1>; ranges = <0 0 0x4000000 0x1000>; at@101000 {{ reg = <0x101000 0x1000>; {off} }}; none {{ }}; }};
+wire {{ #address-cells = <1>; #size-cells = <0>; chip@50 {{ reg = <0x50>; }}; }};
+flash@20000000 {{ reg = <0 0x20000000 0 0x2000000>; {off} }}; poweroff {{ regmap = <6>; {off} }}; thermal {{ {on} }};
+"""
+
+
+def closed(folder, told, program):
+    """Harts and devices that are not the host's are marked as disabled, and keep all else."""
+    off, on = 'status = "disabled";', 'status = "okay";'
+    for was in ("", on, off):
+        tree = compiled(folder, "in", WITHOUT.format(more=BOARD.format(off=was, on=on), **TWO))
+        want = compiled(folder, "want", WITHOUT.format(more=BOARD.format(off=off, on=on) + PARENT.format(nodes=RANGE.format(**TWO), **TWO), **TWO))
+        done = subprocess.run([program, "one", tree, "8192", str(BASE), str(SIZE), folder / "out.dtb"], capture_output=True, text=True)
+        right = done.stdout == "taken\n" and listed(folder / "out.dtb") == listed(want)
+        told(f"what is not the host's is marked where its status was {was or 'not said'}", right, "" if right else done.stdout + done.stderr[-300:])
 
 
 def boards(folder, told, program):

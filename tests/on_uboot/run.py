@@ -112,12 +112,12 @@ def digest_of(code):
 def guide(programs):
     """The session of the guide, on one hart."""
     rows = session()
-    with Prompt(TOP / "firmware/out/pmpmon-virt.elf", programs, "-device", f"loader,file={UBOOT},addr=0x80200000") as prompt:
+    with Prompt(programs / "pmpmon-virt.elf", programs, "-device", f"loader,file={UBOOT},addr=0x80200000") as prompt:
         told("U-Boot comes to its prompt", any(it.startswith("U-Boot 20") for it in prompt.until_prompt()))
         for line, want in rows:
             got = prompt.answer(line)
             told(line, matches(want, got), "" if matches(want, got) else repr(got))
-    with Prompt(TOP / "firmware/out/pmpmon-virt.elf", programs, "-kernel", str(UBOOT)) as prompt:
+    with Prompt(programs / "pmpmon-virt.elf", programs, "-kernel", str(UBOOT)) as prompt:
         prompt.until_prompt()
         told("the same with -kernel", prompt.answer("go 84000000 peek 80000000") == ["load access fault"])
     digest = digest_of((programs / "enclave.bin").read_bytes())
@@ -135,13 +135,13 @@ def parts_of(file):
     return *(-(-parts[name][3] // 4096) for name in ("text", "data", "shared")), digest
 
 
-def in_c(folder):
+def in_c(folder, image):
     """An enclave in C: what it says stands in its first shared page (include/pmpmon_enclave.h)."""
     subprocess.run(["make", "-s", "-C", TOP / "examples/linux/enclaves", f"OUT={folder}"], check=True)
     subprocess.run([GCC.replace("gcc", "objcopy"), "-O", "binary", folder / "hello.elf", folder / "hello.bin"], check=True)
     text, data, shared, digest = parts_of(folder / "hello.elf")
     at = 0x85000000 + 4096 * (1 << (text + data - 1).bit_length())
-    with Prompt(TOP / "firmware/out/pmpmon-virt.elf", folder, "-device", f"loader,file={folder}/hello.bin,addr=0x84200000,force-raw=on", "-kernel", str(UBOOT)) as prompt:
+    with Prompt(image, folder, "-device", f"loader,file={folder}/hello.bin,addr=0x84200000,force-raw=on", "-kernel", str(UBOOT)) as prompt:
         prompt.until_prompt()
         for line in (f"cp.b 84200000 85000000 {(text + data) * 4096:x}", f"mw.b {at:x} 0 {shared * 4096:x}"):
             prompt.answer(line)
@@ -159,7 +159,7 @@ def in_c(folder):
 def two_harts(folder):
     """U-Boot on one of two harts, while the other waits in the monitor; its reset begins with both."""
     platform = folder / "two.toml"
-    platform.write_text((TOP / "firmware/platform.toml").read_text().replace("harts = 1", "harts = 2"))
+    platform.write_text((TOP / "examples/uboot/platform.toml").read_text().replace("harts = 1", "harts = 2"))
     subprocess.run([TOP / "firmware/build", platform, folder], check=True)
     with Prompt(folder / "pmpmon-virt.elf", folder, "-smp", "2", "-kernel", str(UBOOT)) as prompt:
         prompt.until_prompt()
@@ -183,11 +183,11 @@ def main():
         print("          (on Debian: apt-get install --no-install-recommends qemu-system-misc gcc-riscv64-unknown-elf make u-boot-qemu)")
     else:
         with tempfile.TemporaryDirectory() as place:
-            subprocess.run([TOP / "firmware/build"], check=True)
             subprocess.run([TOP / "examples/uboot/build", place], check=True)
             guide(Path(place))
+            image = shutil.copy(Path(place) / "pmpmon-virt.elf", Path(place) / "one.elf")
             two_harts(Path(place))
-            in_c(Path(place))
+            in_c(Path(place), image)
     print(f"{passed} passed, {failed} failed")
     return 1 if failed else 0
 

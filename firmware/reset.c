@@ -1,0 +1,82 @@
+/*
+ * What an enclave wrote is not left to the next boot. Whatever ends the board, or begins it anew, makes the private pages of all
+ * enclaves zero first. A watchdog or a button asks nobody: then the next boot does it, by a list of these pages that lies after
+ * the image, where no start clears it.
+ */
+#include "board.h"
+
+/* A range of private pages is in the list where its check says so. So a reset at any moment leaves the list right. */
+struct private_range {
+    uint64_t first, count, check;
+};
+/* The enclaves that there can be, and the one that is being made. */
+#define MOST_PRIVATE 65
+#define CHECK(range) ((range).first ^ (range).count << 32 ^ 0x70726976617465ul)
+extern volatile struct private_range private_ranges[MOST_PRIVATE]; /* firmware.ld */
+static volatile struct private_range *asked;
+
+static int is_private(const volatile struct private_range *range)
+{
+    return range->check == CHECK(*range);
+}
+
+static void fence(void)
+{
+    __asm__ volatile("fence rw, rw" ::: "memory");
+}
+
+void private_asked(uint64_t first, uint64_t count)
+{
+    asked = private_ranges;
+    while (is_private(asked) && asked < private_ranges + MOST_PRIVATE - 1)
+        asked++;
+    asked->first = first;
+    asked->count = count;
+    fence();
+    asked->check = CHECK(*asked);
+    fence();
+}
+
+void private_answered(uint64_t status, uint64_t zero_first, uint64_t zero_count)
+{
+    fence();
+    if (asked && status)
+        asked->check = 0;
+    asked = 0;
+    for (unsigned i = 0; zero_count && i < MOST_PRIVATE; i++)
+        if (is_private(&private_ranges[i]) && private_ranges[i].first - zero_first < zero_count)
+            private_ranges[i].check = 0;
+}
+
+void forget_private(void)
+{
+    for (unsigned i = 0; i < MOST_PRIVATE; i++) {
+        if (is_private(&private_ranges[i]))
+            make_zero(private_ranges[i].first, private_ranges[i].count);
+        fence();
+        private_ranges[i].check = 0;
+    }
+}
+
+/* No enclave writes meanwhile. A trap of the monitor in here ends the board at once. */
+static void forget(void)
+{
+    static uint8_t is_ending;
+    if (is_ending)
+        return;
+    is_ending = 1;
+    are_stopped(ALL_HARTS);
+    forget_private();
+}
+
+_Noreturn void end_board(uint64_t status)
+{
+    forget();
+    power_off(status);
+}
+
+_Noreturn void begin_anew(void)
+{
+    forget();
+    start_again();
+}

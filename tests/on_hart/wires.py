@@ -1,0 +1,88 @@
+"""A board of QEMU that is looked at and reset from outside: its monitor's button, its memory, and a debugger that writes into it."""
+import json
+import os
+import select
+import socket
+import subprocess
+import tempfile
+import time
+from pathlib import Path
+
+QEMU = "qemu-system-riscv64"
+
+
+class Wired:
+    """A board, and wires to it."""
+
+    def __init__(self, image, payload, harts, *more, kind=0):
+        self.folder = tempfile.TemporaryDirectory()
+        place = Path(self.folder.name)
+        board = [QEMU, "-machine", "virt,memory-backend=memory", "-smp", str(harts), "-m", "128", "-display", "none", "-serial", "stdio", "-bios", str(image)]
+        board += ["-object", f"memory-backend-file,id=memory,size=128M,mem-path={place}/memory,share=on"]
+        board += ["-device", f"loader,file={payload}", "-device", f"loader,addr=0x86001000,data={kind},data-len=8"]
+        board += ["-qmp", f"unix:{place}/qmp,server=on,wait=off", "-chardev", f"socket,path={place}/gdb,server=on,wait=off,id=gdb0", "-gdb", "chardev:gdb0", *more]
+        self.process = subprocess.Popen(board, stdin=subprocess.DEVNULL, stdout=subprocess.PIPE)
+        self.said, self.place = "", place
+
+    def __enter__(self):
+        end = time.monotonic() + 30
+        while not (self.place / "gdb").exists() and time.monotonic() < end:
+            time.sleep(0.02)
+        self.qmp = socket.socket(socket.AF_UNIX)
+        self.qmp.connect(str(self.place / "qmp"))
+        self.lines = self.qmp.makefile("r")
+        self.lines.readline()
+        self.asked("qmp_capabilities")
+        return self
+
+    def __exit__(self, *_):
+        self.process.kill()
+        self.process.wait()
+        self.process.stdout.close()
+        self.qmp.close()
+        self.folder.cleanup()
+
+    def asked(self, command, **words):
+        """What QEMU's monitor answers."""
+        self.qmp.sendall(json.dumps({"execute": command, **({"arguments": words} if words else {})}).encode() + b"\n")
+        while True:
+            answer = json.loads(self.lines.readline())
+            if "event" not in answer:
+                return answer.get("return")
+
+    def word(self, address):
+        """A word of memory, which is there after the board's end too."""
+        with (self.place / "memory").open("rb") as memory:
+            memory.seek(address - 0x80000000)
+            return int.from_bytes(memory.read(8), "little")
+
+    def written(self, address, data):
+        """A debugger writes bytes into memory, and the board goes on."""
+        with socket.socket(socket.AF_UNIX) as wire:
+            wire.connect(str(self.place / "gdb"))
+            wire.settimeout(10)
+            for packet in ("?", "Qqemu.PhyMemMode:1", f"M{address:x},{len(data):x}:{data.hex()}", "D"):
+                wire.sendall(b"$%s#%02x" % (packet.encode(), sum(packet.encode()) % 256))
+                answer = b""
+                while b"#" not in answer:
+                    answer += wire.recv(4096)
+                wire.sendall(b"+")
+
+    def until(self, text, seconds=60):
+        """Whether a text is said in time."""
+        end = time.monotonic() + seconds
+        while text not in self.said and time.monotonic() < end:
+            if select.select([self.process.stdout], [], [], 0.2)[0]:
+                some = os.read(self.process.stdout.fileno(), 4096)
+                if not some:
+                    break
+                self.said += some.decode("latin-1").replace("\r", "")
+        return text in self.said
+
+    def has_ended(self, seconds=60):
+        """Whether the board went off in time."""
+        self.until("\0", seconds)
+        try:
+            return self.process.wait(5) is not None
+        except subprocess.TimeoutExpired:
+            return False
