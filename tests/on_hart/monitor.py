@@ -159,6 +159,15 @@ def refused_memory(on_hart, folder, told):
     told(f"each of {len(done)} allocations refused: {how}", not faults and kinds.count("boot") and kinds.count("call"), "; ".join(faults[:3]))
 
 
+def largest(folder):
+    """A platform of 32 ranges of memory, 31 devices, four harts and 64 entries: as many as the host's view has room for."""
+    path = folder / "largest.toml"
+    text = "harts = 4\nentries = 64\n[monitor]\nbase = 0x80000000\nsize = 0x80000\n[[ram]]\nbase = 0x80000000\nsize = 0x8000000\n"
+    text += "".join(f"[[ram]]\nbase = {0x100000000 * i:#x}\nsize = {0x1000 << i % 8:#x}\n" for i in range(1, 32))
+    path.write_text(text + "".join(f'[[device]]\nbase = {0x100000 * i:#x}\nsize = {0x1000 << i % 8:#x}\nperm = "rw"\n' for i in range(1, 32)))
+    return path
+
+
 def most_taken(on_hart, folder, told):
     """What a life takes on a small platform and on the board's own, whose map is a deeper tree: less than 32 KiB of stack, 64 KiB of heap."""
     trace, most = folder / "most.trace", {}
@@ -169,6 +178,12 @@ def most_taken(on_hart, folder, told):
             most[it.split()[1]] = max(most.get(it.split()[1], 0), int(it.split()[2]))
     numbers = f"stack {most['stack']}, heap {most['heap']} bytes; instructions {most['other']} of a switch, {most['owning']} of a creation"
     told(f"the monitor's most: {numbers}", most["stack"] < 32768 and most["heap"] < 65536 and most["other"] < 8192)
+    # (a hart of QEMU has sixteen entries, and loads the first sixteen of what a boot on 64 answers)
+    trace.write_text("")
+    on_hart.platform_of = lambda path: ({"harts": 4}, 128)
+    _, notes, _ = on_hart.report_of(largest(folder), trace, has_notes=True)
+    most = {it.split()[1]: int(it.split()[2]) for it in notes.splitlines() if it.startswith("note ")}
+    told(f"a boot on the largest platform: {notes.replace(chr(10), ', ')}", most and most["stack"] < 36864 and most["heap"] < 163840)
 
 
 def booted(image, payload, harts, *more, seconds=240):
@@ -212,6 +227,7 @@ def worlds(folder, told):
     devices(folder, told)
     storm(folder, told)
     ends(folder, told)
+    races(folder, told)
     resets((FIRMWARE / "out/pmpmon-virt.elf", folder / "with/pmpmon-virt.elf"), payloads, told)
     hostile(folder, told)
 
@@ -279,7 +295,7 @@ def storm(folder, told):
     built(four, folder / "four")
     payload = host(folder / "storm.elf", "harts.S", "two_hosts.S", "storm.c", flags=("-DHARTS=4",))
     seconds = int(os.environ.get("STORM_SECONDS", "3"))
-    said = booted(folder / "four/pmpmon-virt.elf", payload, 4, "-device", f"loader,addr=0x86001000,data={seconds},data-len=8", seconds=60 + 4 * seconds)
+    said = booted(folder / "four/pmpmon-virt.elf", payload, 4, *kind(seconds), seconds=60 + 4 * seconds)
     turns = [int(it) for it in re.findall(r"turns (\d+)", said)]
     right = said.endswith("stood still 0\nwrong 0\nodd 0\n") and min(turns, default=0) and "made 0\n" not in said
     told(f"a storm of {seconds} seconds on four harts: {' '.join(map(str, turns))} turns", right, "" if right else said)
@@ -318,6 +334,32 @@ def ends(folder, told):
     said = subprocess.run(["riscv64-unknown-elf-readelf", "-lW", image], capture_output=True, text=True).stdout
     flags = re.findall(r"  LOAD .*0x[0-9a-f]+ ([RWE ]{3}) 0x", said)
     told("no segment of the image is both written and executed", flags == ["R E", "R  ", "RW "], str(flags))
+
+
+def kind(number):
+    """What a host of harts.h finds as KIND."""
+    return "-device", f"loader,addr=0x86001000,data={number},data-len=8"
+
+
+def races(folder, told):
+    """What other harts do while an enclave is made, and what they lose to one that calls for ever."""
+    image = folder / "with/pmpmon-virt.elf"
+    payload = host(folder / "aliases.elf", "harts.S", "two_hosts.S", "aliases.c")
+    for number, name, fault in ((1, "as it is", 5), (2, "through Sv39 at another address", 5), (3, "as a guest", 21)):
+        said = booted(image, payload, 2, *kind(number), seconds=60)
+        right = said == f"reads before 1\nreads after 0\nfault {fault}\nwhat it reads in the end 0\n"
+        told(f"a page that is read {name} while it is made an enclave's faults, and is zero after it", right, "" if right else said)
+    said = booted(image, host(folder / "moments.elf", "harts.S", "moments_enclave.S", "moments.c"), 2, seconds=60)
+    match = re.fullmatch(r"differ 1\nzeros (\d+)\nones (\d+)\nwrong 0\n", said)
+    told("a page that is written while it is measured: the digest is that of the enclave's bytes", match and int(match.group(1)) + int(match.group(2)) == 40, said.replace("\n", " "))
+    said = booted(image, host(folder / "share.elf", "harts.S", "share_enclave.S", "share.c"), 2, seconds=60)
+    counts = {int(it): int(n) for it, n in re.findall(r"call (\d+): counted (\d+)\n", said)}
+    right = len(counts) == 4 and "odd" not in said and min(counts.values()) > counts[255] // 4
+    told("an enclave that calls for ever takes no other hart's time", right, " ".join(f"{it}: {n}" for it, n in counts.items()) if right else said)
+    said = booted(FIRMWARE / "out/pmpmon-virt.elf", host(folder / "pause.elf", "harts.S", "two_hosts.S", "pause.c"), 1, *kind(16), "-icount", "shift=0")
+    match = re.fullmatch(r"error 0\ncreate (\d+)\ndestroy (\d+)\n", said)
+    right = match and int(match.group(1)) < 16 * 350000 and int(match.group(2)) < 200000
+    told("instructions of a creation of 16 pages, and of its destruction", right, " ".join(match.groups()) if match else said)
 
 
 def hostile(folder, told):
