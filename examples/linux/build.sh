@@ -1,13 +1,13 @@
 #!/usr/bin/env bash
 # Makes what Linux above the monitor needs, from Debian's packages: kernel, driver, programs, enclaves, initramfs, firmware.
 #
-#   examples/linux/build.sh [OUT [ENCLAVE.elf...]]     OUT: examples/linux/out
+#   examples/linux/build.sh [OUT [FILE...]]            OUT: examples/linux/out
 #   examples/linux/build.sh --kernel                   the kernel alone; it prints its folder
 #
 # It leaves in OUT:
 #   Image               Linux 6.1 of Debian's linux-source-6.1, unmodified, with kernel.config
 #   initramfs.gz        of the folder root/: the driver, the programs in bin/, and enclaves/: those of examples/linux/enclaves and
-#                       those named
+#                       the files that are named
 #   pmpmon-virt.elf     the monitor, with 16 MiB for enclaves (POOL=BASE,SIZE for others); FIRMWARE=no leaves it out
 #
 # The kernel takes some minutes, and 2 GB. It is built once, in the folder PMPMON_KERNELS (~/.cache/pmpmon/kernels), below the
