@@ -11,7 +11,8 @@
  *
  * examples/linux/enclaves has a linker script and a Makefile. The file that they make is an ELF of three parts: text, which is
  * read and executed; data, which is read and written, with a stack after the variables; and how many pages are shared with the
- * host, and where: at the next power of two of pages after the private ones, counted from the first. It runs at any address.
+ * host: they are PMPMON_SHARED_AT bytes after the first page. So private pages of enclaves can lie side by side. It runs at any
+ * address.
  *
  * Text and data are the enclave's alone and are in its digest. The shared pages are the host's too: whatever is in them may be
  * wrong, and may change between two reads. Copy before you look. Registers of floating point are closed: compile with
@@ -26,6 +27,12 @@
 #ifdef __cplusplus
 extern "C" {
 #endif
+
+/* Where the shared pages are, in bytes from the first page: after the most private pages that an enclave can have. */
+#define PMPMON_SHARED_AT 0x400000ul
+
+/* The type of the program header that says how many pages are shared: "pmpm". */
+#define PMPMON_PT_SHARED 0x6d706d70u
 
 /* "pmpmon 1", the lowest byte first. */
 #define PMPMON_PAGE_MAGIC 0x31206e6f6d706d70ul

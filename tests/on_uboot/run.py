@@ -140,7 +140,7 @@ def in_c(folder, image):
     subprocess.run(["make", "-s", "-C", TOP / "examples/linux/enclaves", f"OUT={folder}"], check=True)
     subprocess.run([GCC.replace("gcc", "objcopy"), "-O", "binary", folder / "hello.elf", folder / "hello.bin"], check=True)
     text, data, shared, digest = parts_of(folder / "hello.elf")
-    at = 0x85000000 + 4096 * (1 << (text + data - 1).bit_length())
+    at = 0x85000000 + 0x400000
     with Prompt(image, folder, "-device", f"loader,file={folder}/hello.bin,addr=0x84200000,force-raw=on", "-kernel", str(UBOOT)) as prompt:
         prompt.until_prompt()
         for line in (f"cp.b 84200000 85000000 {(text + data) * 4096:x}", f"mw.b {at:x} 0 {shared * 4096:x}"):

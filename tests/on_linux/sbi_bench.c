@@ -1,0 +1,68 @@
+// SPDX-License-Identifier: GPL-2.0
+/* What the calls of SBI take above a firmware, written to the log once when it is loaded, above OpenSBI too. It does not stay. */
+#include <linux/delay.h>
+#include <linux/init.h>
+#include <linux/module.h>
+#include <linux/smp.h>
+#include <asm/sbi.h>
+
+#define ROUNDS 500
+
+static void one(const char *name, unsigned long extension, unsigned long function, unsigned long first, unsigned long second)
+{
+	struct sbiret back = { 0 };
+	u64 time, done;
+
+	local_irq_disable();
+	time = csr_read(CSR_TIME), done = csr_read(CSR_INSTRET);
+	for (int n = 0; n < ROUNDS; n++)
+		back = sbi_ecall(extension, function, first, second, 0, 0, 0, 0);
+	time = csr_read(CSR_TIME) - time, done = csr_read(CSR_INSTRET) - done;
+	local_irq_enable();
+	pr_warn("sbi_bench: %s: error %ld, %llu ns, %llu instructions\n", name, back.error, time * 100 / ROUNDS, done / ROUNDS);
+	msleep(20);
+}
+
+static void fences(const char *name, unsigned int cpu)
+{
+	u64 time = csr_read(CSR_TIME), done = csr_read(CSR_INSTRET);
+
+	for (int n = 0; n < ROUNDS; n++)
+		sbi_remote_fence_i(cpumask_of(cpu));
+	time = csr_read(CSR_TIME) - time, done = csr_read(CSR_INSTRET) - done;
+	pr_warn("sbi_bench: %s: %llu ns, %llu instructions\n", name, time * 100 / ROUNDS, done / ROUNDS);
+}
+
+static void nothing(void *at) { }
+
+static void call_other(unsigned int cpu)
+{
+	u64 time = csr_read(CSR_TIME), done = csr_read(CSR_INSTRET);
+
+	for (int n = 0; n < ROUNDS; n++)
+		smp_call_function_single(cpu, nothing, NULL, 1);
+	time = csr_read(CSR_TIME) - time, done = csr_read(CSR_INSTRET) - done;
+	pr_warn("sbi_bench: a call on another CPU and back: %llu ns, %llu instructions\n", time * 100 / ROUNDS, done / ROUNDS);
+}
+
+static int __init begin(void)
+{
+	unsigned int other;
+
+	migrate_disable();
+	other = smp_processor_id() == 1 || num_online_cpus() == 1 ? 0 : 1;
+	one("base, version", SBI_EXT_BASE, 0, 0, 0);
+	one("time, far away", SBI_EXT_TIME, 0, csr_read(CSR_TIME) + 100000, 0);
+	one("sfence.vma on all", SBI_EXT_RFENCE, 1, 0, -1ul);
+	fences("fence.i here", smp_processor_id());
+	if (num_online_cpus() > 1) {
+		fences("fence.i on another", other);
+		call_other(other);
+	}
+	migrate_enable();
+	return -EAGAIN;
+}
+
+module_init(begin);
+MODULE_DESCRIPTION("What calls of SBI take");
+MODULE_LICENSE("GPL");
