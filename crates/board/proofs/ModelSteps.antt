@@ -1,6 +1,6 @@
 -- Each step of the model on a board that is as its state.
-use Rattle.std.proofs.Common.{◌≡◌, ◌≢◌, ◌∙◌, inl, inr, ℕ, ◌+◌, ◌<◌, ◌≤◌, ◌^◌, ◌==◌, Bool, true, false, if◌then◌else◌, List, [], ◌∷◌, ◌++◌, length, Option, Some, None}
-use Rattle.std.proofs.Common.{IfSome, Result, Ok, Err, append-nil, refl, ap, sym, subst, arith}
+use Rattle.std.proofs.Common.{◌≡◌, ◌≢◌, ◌∙◌, inl, inr, ℕ, ◌+◌, ◌<◌, ◌≤◌, ◌^◌, ◌==◌, Bool, true, false, if◌then◌else◌, List, [], ◌∷◌, ◌++◌}
+use Rattle.std.proofs.Common.{length, Option, Some, None, IfSome, Result, Ok, Err, append-nil, refl, ap, sym, subst, arith}
 use Rattle.std.proofs.lemmas.Bool.{both_ways, eq-eqb, eqb-true}
 use Rattle.pmp_encoding.specs.Limits.{limit_number}
 use Rattle.pmp_encoding.specs.Lists.{MeansList}
@@ -23,6 +23,7 @@ use Rattle.sbi_decode.specs.declared.world.World.TheVariants.{Host, Enclave as I
 use Rattle.enclave_table.specs.Fewest.{FitsIn}
 use Rattle.enclave_table.specs.Tables.{IsCurrent, IsTable}
 use Rattle.enclave_table.specs.Views.{current_view}
+use Rattle.monitor_core.specs.Answers.{world_number}
 use Rattle.monitor_core.specs.Changes.{is_same, past_call, with_running}
 use Rattle.monitor_core.specs.Frames.{ClearsMemory}
 use Rattle.monitor_core.specs.Measured.{asked_in}
@@ -48,7 +49,7 @@ use Rattle.trap_server.specs.Firmware.{HasFewest, loaded_pairs}
 use Rattle.trap_server.specs.declared.trap.TrapEvent.TheVariants as traps
 use Rattle.trap_server.proofs.Waking.{marks_in_host}
 use Rattle.board.specs.Board.{BoardEvent, BoardRun, DoesAccess, access, happened, memory_after, put_by, trapped}
-use Rattle.board.specs.Model.{IsOneTrap, IsSeen}
+use Rattle.board.specs.Model.{IsOneTrap, IsSeen, SaysReply}
 use Rattle.board.proofs.Asked.{asks, frames_of_memory, measures_known}
 use Rattle.board.proofs.Follows.{Follows, IsElsewhere, call_follows, digest_by, irq_follows}
 use Rattle.board.proofs.Judged.{judged}
@@ -164,7 +165,8 @@ module _ (layout : PlatformLayout) (opened : List ℕ) (seen : List BoardEvent) 
   access_next a value (Ok done) below is x = takes a value a.kind refl below is x
 
   -- a register is set of who runs, and of nobody who waits
-  pub reg_next : (n value : ℕ) (file : RegisterFile) → (reply ≡ replies.Done) × (new ≡ with_core (awoken s hart) (with_running (core_of (awoken s hart)) hart file))
+  pub reg_next : (n value : ℕ) (file : RegisterFile)
+      → (reply ≡ replies.Done) × (new ≡ with_core (awoken s hart) (with_running (core_of (awoken s hart)) hart file))
       → Next layout opened seen (events.Reg n value) s hart reply new
   reg_next n value file x = record {
     now = [];
@@ -230,6 +232,7 @@ module _ (layout : PlatformLayout) (opened : List ℕ) (seen : List BoardEvent) 
       → Serves (DoesCall (call_of (past_call file)) (measured_in s.bytes) (with_running (core_of (awoken s hart)) hart (past_call file)) hart) (awoken s hart)
       hart reply new
       → (x : TrapLeaves layout opened seen traps.Call s new hart file on) × AllFit new.table
+      × (reply ≡ replies.Call x.answer.status x.answer.value (world_number (new.worlds hart)) (length x.entries))
   call_next file fit x =
       let call = call_of (past_call file) in
       let gone = past_call file in
@@ -294,6 +297,7 @@ module _ (layout : PlatformLayout) (opened : List ℕ) (seen : List BoardEvent) 
           };
         },
         new_fit,
+        x.5.2 ∙ ap (λ n. replies.Call answer.status answer.value (world_number (new.worlds hart)) n) (sym needs.count),
       )
     where
       in_space : (cleared : Option PageRange) → IfSome cleared (λ range. ClearsMemory s.table.layout range)
@@ -335,6 +339,7 @@ module _ (layout : PlatformLayout) (opened : List ℕ) (seen : List BoardEvent) 
       → (core : MonitorState) × Interrupts (s.worlds hart) (core_of (awoken s hart)) hart core × (new ≡ with_core (awoken s hart) core)
       × RepliesWith replies.Irq new hart reply
       → (x : TrapLeaves layout opened seen traps.Stop s new hart running on) × AllFit new.table
+      × (reply ≡ replies.Irq (world_number (new.worlds hart)) (length x.entries))
   irq_next fit x =
       let old = core_of (awoken s hart) in
       let base = monitor_of s on.registers on.marked in
@@ -388,6 +393,7 @@ module _ (layout : PlatformLayout) (opened : List ℕ) (seen : List BoardEvent) 
           };
         },
         new_fit,
+        x.3.2 ∙ ap (λ n. replies.Irq (world_number (new.worlds hart)) n) (sym needs.count),
       )
     where
       unmarked_still : (world : World) (other : ℕ) (mid : MonitorState)
@@ -396,10 +402,12 @@ module _ (layout : PlatformLayout) (opened : List ℕ) (seen : List BoardEvent) 
       unmarked_still Host other mid x low = ap (λ m. m.marked other) x ∙ good.awake other low
       unmarked_still (InEnclave id) other mid x low = ap (λ m. m.marked other) x.2 ∙ good.awake other low
 
-  -- what is seen of a trap
-  pub trap_next : (file : RegisterFile) (words : List ℕ) → past_call file ≡ calling s hart words → (x : TrapLeaves layout opened seen traps.Call s new hart file on)
-      → (now : List BoardEvent) × IsOneTrap traps.Call hart (λ file. past_call file ≡ calling s hart words) now × On (seen ++ now) new
-  trap_next file words came x =
+  -- what is seen of a call
+  pub trap_next : (file : RegisterFile) (words : List ℕ) → past_call file ≡ calling s hart words
+      → (x : TrapLeaves layout opened seen traps.Call s new hart file on)
+      → reply ≡ replies.Call x.answer.status x.answer.value (world_number (new.worlds hart)) (length x.entries)
+      → (now : List BoardEvent) × IsOneTrap traps.Call hart (λ file. past_call file ≡ calling s hart words) reply now × On (seen ++ now) new
+  trap_next file words came x replied =
       let t = trap_seen layout opened seen traps.Call s new hart file on known x in (
         trapped (trap_on traps.Call hart file) (trap_frame traps.Call hart file) x.read x.question t.0 ∷ [],
         record {
@@ -411,14 +419,16 @@ module _ (layout : PlatformLayout) (opened : List ℕ) (seen : List BoardEvent) 
           event = refl;
           hart_is = refl;
           came = came;
+          says = subst (SaysReply t.0) (sym replied) (t.2.status_is, t.2.value_is, t.2.world_is, t.2.used_is);
           one = refl;
         },
         t.1,
       )
 
+  -- what is seen of an interrupt
   pub stop_next : (x : TrapLeaves layout opened seen traps.Stop s new hart running on)
-      → Next layout opened seen events.Irq s hart reply new
-  stop_next x =
+      → reply ≡ replies.Irq (world_number (new.worlds hart)) (length x.entries) → Next layout opened seen events.Irq s hart reply new
+  stop_next x replied =
       let t = trap_seen layout opened seen traps.Stop s new hart running on known x in
       record {
         now = trapped (trap_on traps.Stop hart running) (trap_frame traps.Stop hart running) x.read x.question t.0 ∷ [];
@@ -431,6 +441,7 @@ module _ (layout : PlatformLayout) (opened : List ℕ) (seen : List BoardEvent) 
           event = refl;
           hart_is = refl;
           came = refl;
+          says = subst (SaysReply t.0) (sym replied) (t.2.world_is, t.2.used_is);
           one = refl;
         };
         on = t.1;

@@ -69,12 +69,12 @@ module _ (law : BoardHolds) (layout : PlatformLayout) (opened : List ℕ) (rules
       ∷ (16 ∷ (10 ∷ (11 ∷ (12 ∷ (13 ∷ (14 ∷ (15 ∷ [])))))))) words.items in
       let good = good_of seen s on in
       let call = call_next layout opened seen s hart reply new known on good file fit x in
-      let t = trap_next layout opened seen s hart reply new known on good file words.items refl call.0 in
+      let t = trap_next layout opened seen s hart reply new known on good file words.items refl call.0 call.2 in
       (record { now = t.0; is_seen = t.1; on = t.2 }, call.1)
   by_event seen s hart events.Irq reply new known may x on fit =
       let good = good_of seen s on in
       let irq = irq_next layout opened seen s hart reply new known on good fit x in
-      (stop_next layout opened seen s hart reply new known on good irq.0, irq.1)
+      (stop_next layout opened seen s hart reply new known on good irq.0 irq.2, irq.1)
 
   record Reached {events : List (ℕ × Event)} {replies : List Reply} {s : MachineState} (run : Run (opening_state layout) events replies s) : Type 0 where
     seen : List BoardEvent

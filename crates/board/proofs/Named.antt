@@ -1,10 +1,13 @@
 -- The pages that the words of an answer name.
-use Rattle.std.proofs.Common.{◌≡◌, ◌∙◌, ℕ, ◌+◌, ◌≤◌, ◌<◌, ◌^◌, List, drop, Bool, Option, Some, None, IfSome, ap, lit<, arith}
-use Rattle.byteorder.specs.Numbers.{little_number-reads_back}
+use Rattle.std.proofs.Common.{◌≡◌, ◌∙◌, ℕ, ◌+◌, ◌%◌, ◌≤◌, ◌<◌, ◌^◌, List, ◌++◌, length, drop, Bool, Option, Some, None, IfSome, ap, lit<, arith}
+use Rattle.std.proofs.Math.Nat.{div-one}
+use Rattle.byteorder.specs.Endian.{little_bytes, little_number}
+use Rattle.byteorder.specs.Numbers.{little_from-bytes, little_number-reads_back}
 use Rattle.pmp_encoding.specs.declared.pages.PageRange.{PageRange}
 use Rattle.pmp_encoding.specs.declared.region.Entry.{Entry}
 use Rattle.sbi_decode.specs.Registers.{RegisterFile}
 use Rattle.monitor_core.specs.States.{MonitorState, running_registers}
+use Rattle.monitor_core.specs.Answers.{world_number}
 use Rattle.monitor_core.specs.declared.answer.Answer.{Answer}
 use Rattle.trap_server.specs.declared.answer.Head.{Head}
 use Rattle.trap_server.specs.declared.words.ControlWords.{ControlWords}
@@ -38,3 +41,25 @@ named s given hart answer cleared woken bytes a inside =
     let low = small cleared inside in
     let put = in_bytes (head_of s hart answer cleared woken) (running_registers s hart) a.0 given low.0 low.1 in
     (ap (λ b. word_at b 6) a.2 ∙ put.0, ap (λ b. word_at b 7) a.2 ∙ put.1)
+
+-- a word that was put, as 64 bits
+put_word : (x : ℕ) (rest : List ℕ) → little_number 8 (little_bytes 8 x ++ rest) ≡ x % 2 ^ 64
+put_word x rest = little_from-bytes 8 0 x rest ∙ ap (λ y. y % 256 ^ 8) (div-one x)
+
+-- words 2 to 5 of some bytes are these, as 64 bits: the world, the status, the value, and how many entries there are
+pub record Says (bytes : List ℕ) (world status value used : ℕ) : Type 0 where
+  pub world_is : word_at bytes 2 ≡ world % 2 ^ 64
+  pub status_is : word_at bytes 3 ≡ status % 2 ^ 64
+  pub value_is : word_at bytes 4 ≡ value % 2 ^ 64
+  pub used_is : word_at bytes 5 ≡ used % 2 ^ 64
+
+pub says : (head : Head) (file : RegisterFile) (entries : List Entry) (control : ControlWords)
+    → Says (answer_bytes head file entries control) (world_number head.world) head.status head.value (length entries)
+says head file entries control =
+    let bytes = answer_bytes head file entries control in
+    record {
+      world_is = put_word (world_number head.world) (drop 24 bytes);
+      status_is = put_word head.status (drop 32 bytes);
+      value_is = put_word head.value (drop 40 bytes);
+      used_is = put_word (length entries) (drop 48 bytes);
+    }

@@ -10,11 +10,12 @@ use Rattle.sbi_decode.specs.Registers.{RegisterFile}
 use Rattle.sbi_decode.specs.Runners.{Runner, runner_of}
 use Rattle.enclave_table.specs.Views.{current_view}
 use Rattle.monitor_core.specs.States.{MonitorState, running_registers}
+use Rattle.monitor_core.specs.Answers.{world_number}
 use Rattle.monitor_core.specs.declared.answer.Answer.{Answer}
 use Rattle.monitor_core.proofs.Equal.{equal}
 use Rattle.hart_sim.specs.Memory.{in_range, zeroed}
 use Rattle.hart_sim.specs.States.{MachineState}
-use Rattle.trap_server.specs.Answered.{IsAnswer, head_of, marks_of, unmarked}
+use Rattle.trap_server.specs.Answered.{IsAnswer, head_of, marks_of, status_word, unmarked}
 use Rattle.trap_server.specs.Answers.{answer_bytes, pages_of}
 use Rattle.trap_server.specs.Firmware.{is_loaded}
 use Rattle.trap_server.specs.Given.{keeping, words_in}
@@ -24,7 +25,7 @@ use Rattle.trap_server.specs.declared.trap.TrapEvent.{TrapEvent}
 use Rattle.trap_server.specs.declared.words.ControlWords.{ControlWords}
 use Rattle.trap_server.proofs.Served.{mark_at}
 use Rattle.board.specs.Board.{Board, BoardEvent, BoardRun, ReadsMemory, happened, trapped}
-use Rattle.board.proofs.Named.{named}
+use Rattle.board.proofs.Named.{Says, named, says}
 use Rattle.board.proofs.TrapFrames.{frame_is, frame_size, trap_frame, trap_on}
 use Rattle.board.proofs.Trapped.{none_in}
 
@@ -83,6 +84,7 @@ pub trap_seen :
     (layout : PlatformLayout) (opened : List ℕ) (seen : List BoardEvent) (kind : TrapEvent) (old new : MachineState) (hart : ℕ) (file : RegisterFile)
     (on : OnBoard layout opened seen old) → hart < old.table.layout.harts → (x : TrapLeaves layout opened seen kind old new hart file on)
     → (answered : List ℕ) × OnBoard layout opened (seen ++ trapped (trap_on kind hart file) (trap_frame kind hart file) x.read x.question answered ∷ []) new
+    × Says answered (world_number (new.worlds hart)) (status_word x.answer.status) x.answer.value (length x.entries)
 trap_seen layout opened seen kind old new hart file on known x =
     let trap = trap_on kind hart file in
     let that = monitor_of new x.mid.registers (unmarked 4 x.mid).marked in
@@ -128,6 +130,7 @@ trap_seen layout opened seen kind old new hart file on known x =
         });
         waits = x.waits;
       },
+      says (head_of that hart x.answer x.cleared (marks_of x.mid)) (running_registers that hart) x.entries given,
     )
 
 -- memory as the model clears it

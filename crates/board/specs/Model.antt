@@ -1,5 +1,5 @@
 -- Each run of the model, as events on a board.
-use Rattle.std.specs.Prelude.{◌≡◌, ◌≢◌, ℕ, ◌<◌, List, [], ◌++◌, ◌∷◌, Ok, Err}
+use Rattle.std.specs.Prelude.{◌≡◌, ◌≢◌, ℕ, ◌%◌, ◌^◌, ◌<◌, List, [], ◌++◌, ◌∷◌, Ok, Err}
 use Rattle.sbi_decode.specs.Registers.{RegisterFile}
 use Rattle.sbi_decode.specs.Runners.{Runner, runner_of}
 use Rattle.platforms.specs.Platform.{IsLayout, PlatformLayout}
@@ -12,7 +12,9 @@ use Rattle.hart_trace.specs.declared.reply.Reply.TheVariants as replies
 use Rattle.hart_sim.specs.Changes.{calling}
 use Rattle.hart_sim.specs.States.{MachineState, core_of, opening_state}
 use Rattle.hart_sim.specs.Steps.{Run, step, still}
+use Rattle.trap_server.specs.Answered.{status_word}
 use Rattle.trap_server.specs.Boot.{IsFirstAnswer}
+use Rattle.trap_server.specs.Words.{word_at}
 use Rattle.trap_server.specs.declared.trap.Trap.{Trap}
 use Rattle.trap_server.specs.declared.trap.TrapEvent.{TrapEvent}
 use Rattle.trap_server.specs.declared.trap.TrapEvent.TheVariants as trap_events
@@ -28,8 +30,18 @@ pub record IsAs (board : Board) (s : MachineState) : Type 0 where
   pub registers : (who : Runner) → ((hart : ℕ) → hart < s.table.layout.harts
       → who ≢ runner_of hart (s.worlds hart)) → board.monitor.registers who ≡ s.registers who
 
--- one trap on a hart, of this kind, with registers of which that holds
-pub record IsOneTrap (kind : TrapEvent) (hart : ℕ) (Came : RegisterFile → Type 0)
+-- an answer says what the model replies, in words of 64 bits: of a call the status and the value,
+-- and the world that goes on and how many entries it has
+abbrev pub SaysReply : List ℕ → Reply → Type 0
+SaysReply answered (replies.Call status value world used) =
+    (word_at answered 3 ≡ status_word status % 2 ^ 64) × (word_at answered 4 ≡ value % 2 ^ 64)
+    × (word_at answered 2 ≡ world % 2 ^ 64) × (word_at answered 5 ≡ used % 2 ^ 64)
+SaysReply answered (replies.Irq world used) = (word_at answered 2 ≡ world % 2 ^ 64)
+    × (word_at answered 5 ≡ used % 2 ^ 64)
+SaysReply answered _ = ⊥
+
+-- one trap on a hart, of this kind, with registers of which that holds; its answer says the reply
+pub record IsOneTrap (kind : TrapEvent) (hart : ℕ) (Came : RegisterFile → Type 0) (reply : Reply)
     (seen : List BoardEvent) : Type 0 where
   pub trap : Trap
   pub frame : List ℕ
@@ -39,11 +51,12 @@ pub record IsOneTrap (kind : TrapEvent) (hart : ℕ) (Came : RegisterFile → Ty
   pub event : trap.event ≡ kind
   pub hart_is : trap.hart ≡ hart
   pub came : Came trap.registers
+  pub says : SaysReply answered reply
   pub one : seen ≡ trapped trap frame read question answered ∷ []
 
 -- what a board sees of an event of the model: an access, with what was said of it, or none where a
--- store wanted memory; no event where a register is set; a call with the registers that the model's
--- has, which go on past it; an interrupt with those of who runs
+-- store wanted memory; no event where a register is set; a trap for a call, with the registers with
+-- which the model's goes on past it; and a trap for an interrupt, with those of who runs
 abbrev pub IsSeen : Event → MachineState → ℕ → Reply → List BoardEvent → Type 0
 IsSeen (events.Access a value) s hart (replies.Fault cause) seen =
     seen ≡ access hart a value (Err cause) ∷ []
@@ -51,9 +64,9 @@ IsSeen (events.Access a value) s hart replies.NoMemory seen = seen ≡ []
 IsSeen (events.Access a value) s hart _ seen = seen ≡ access hart a value (Ok tt) ∷ []
 IsSeen (events.Reg n value) s hart reply seen = seen ≡ []
 IsSeen (events.Ecall words) s hart reply seen = IsOneTrap trap_events.Call hart
-    (λ file. past_call file ≡ calling s hart words.items) seen
+    (λ file. past_call file ≡ calling s hart words.items) reply seen
 IsSeen events.Irq s hart reply seen = IsOneTrap trap_events.Stop hart
-    (λ file. file ≡ running_registers (core_of s) hart) seen
+    (λ file. file ≡ running_registers (core_of s) hart) reply seen
 
 -- so it is for each event of a run
 abbrev pub AreSeen : {old : MachineState} {events : List (ℕ × Event)} {replies : List Reply}

@@ -28,8 +28,8 @@ pub fn board_law()
 
 /// Each run of the model, from the opening state of a platform on, is a run of a board: each access that the model allows
 /// or denies is one of the board that is allowed or denied, each call and each interrupt is a trap with the same
-/// registers, and at the end the table, the worlds, memory and the registers of the worlds that wait are the same. So
-/// what [`board_law`] says of every board holds of the model.
+/// registers, whose answer says what the model replies, and at the end the table, the worlds, memory and the registers
+/// of the worlds that wait are the same. So what [`board_law`] says of every board holds of the model.
 pub fn model_law()
     ensures { ModelRunsOnBoard }
 {
