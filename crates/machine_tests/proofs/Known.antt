@@ -26,7 +26,7 @@ known_run law run =
           (f.banks hart low),
     )
 
-pub known : (law : FirmwareHolds) {before after held holds : Option (List ℕ)} (served : Result (Unit {0}) ServeFault)
+pub known : (law : FirmwareHolds) (before after held holds : Option (List ℕ)) (served : Result (Unit {0}) ServeFault)
     → IfOk served (λ _. Ran before after held holds [] []) → IfOk served (λ _. (run : Ran before after held holds [] []) × IsKnown run)
-known law (Ok done) run = (run, known_run law run)
-known law (Err fault) run = tt
+known law before after held holds (Ok done) run = (run, known_run law run)
+known law before after held holds (Err fault) run = tt
