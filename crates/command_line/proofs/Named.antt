@@ -5,7 +5,7 @@ use Rattle.std.specs.List.{find}
 use Rattle.std.specs.Str.{bytes_eq}
 use Rattle.clap.specs.Words.{Shape}
 use Rattle.program_tasks.specs.declared.task.Subcommand.{Subcommand}
-use Rattle.program_tasks.specs.declared.task.Subcommand.TheVariants.{Audit, Check, Judge, Lint, Map, Plan, Run, Show}
+use Rattle.program_tasks.specs.declared.task.Subcommand.TheVariants.{Audit, Check, Judge, Lint, Map, Measure, Plan, Run, Show}
 use Rattle.program_tasks.specs.Subcommands.{Text, subcommand_word}
 use Rattle.command_line.specs.ClapModel.{app_by}
 use Rattle.command_line.specs.CommandLine.{app_alone, app_named, program_app}
@@ -20,6 +20,7 @@ named Show = refl
 named Audit = refl
 named Map = refl
 named Lint = refl
+named Measure = refl
 
 not_true : (b : Bool) → (b ≡ true → ⊥) → b ≡ false
 not_true true h = absurd (h refl)
@@ -49,7 +50,7 @@ not_named name other =
           differs name _ (other Judge),
           (
             differs name _ (other Check),
-            (differs name _ (other Show), (differs name _ (other Audit), (differs name _ (other Map), (differs name _ (other Lint), tt)))),
+            (differs name _ (other Show), (differs name _ (other Audit), (differs name _ (other Map), (differs name _ (other Lint), (differs name _ (other Measure), tt))))),
           ),
         ),
       ),

@@ -5,14 +5,15 @@ use Rattle.clap.specs.Words.{App, Rule, Text, app_of, with_rule, with_subcommand
 use Rattle.clap.specs.declared.builder.command.Command.{Command}
 use Rattle.clap.specs.declared.builder.command.Command.TheViews.{out-Command}
 use Rattle.command_line.specs.CommandLine.{audit_app, check_app, file_rule, flag_rule, judge_app}
-use Rattle.command_line.specs.CommandLine.{lint_app, map_app, option_rule, plan_app, run_app}
-use Rattle.command_line.specs.CommandLine.{show_app}
+use Rattle.command_line.specs.CommandLine.{lint_app, map_app, measure_app, needed_rule}
+use Rattle.command_line.specs.CommandLine.{option_rule, plan_app, run_app, show_app}
 use Rattle.command_line.specs.declared.arguments.Argument.{Argument}
-use Rattle.command_line.specs.declared.arguments.Argument.TheVariants.{File, Flag, MaybeFile, Value}
+use Rattle.command_line.specs.declared.arguments.Argument.TheVariants.{File, Flag, MaybeFile}
+use Rattle.command_line.specs.declared.arguments.Argument.TheVariants.{Needed, Value}
 use Rattle.program_tasks.specs.declared.task.Subcommand.{Subcommand}
 use Rattle.program_tasks.specs.declared.task.Subcommand.TheVariants.{Audit, Check, Judge}
-use Rattle.program_tasks.specs.declared.task.Subcommand.TheVariants.{Lint, Map, Plan, Run}
-use Rattle.program_tasks.specs.declared.task.Subcommand.TheVariants.{Show}
+use Rattle.program_tasks.specs.declared.task.Subcommand.TheVariants.{Lint, Map, Measure, Plan}
+use Rattle.program_tasks.specs.declared.task.Subcommand.TheVariants.{Run, Show}
 
 -- the value that an option has where it is not given, if it has one
 abbrev pub defaults_by : Option (Bor Text) → List Text
@@ -25,6 +26,7 @@ rule_by (File name help) = file_rule name.now true
 rule_by (MaybeFile name help) = file_rule name.now false
 rule_by (Flag name help) = flag_rule name.now
 rule_by (Value name value default help) = option_rule name.now (defaults_by default)
+rule_by (Needed name value help) = needed_rule name.now
 
 -- with the rules of these arguments, in turn
 unfoldable pub with_arguments : App → List Argument → App
@@ -41,6 +43,7 @@ app_by Show = show_app
 app_by Audit = audit_app
 app_by Map = map_app
 app_by Lint = lint_app
+app_by Measure = measure_app
 
 -- with these subcommands, in turn
 unfoldable pub with_subcommands : App → List Subcommand → App

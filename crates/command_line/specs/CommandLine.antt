@@ -28,6 +28,10 @@ option_rule name defaults = record (new_rule name) {
   defaults = defaults;
 }
 
+-- an option with a value that has to be given
+abbrev pub needed_rule : Text → Rule
+needed_rule name = record (option_rule name []) { required = true }
+
 -- an option without a value
 abbrev pub flag_rule : Text → Rule
 flag_rule name = record (new_rule name) { long = Some name; action = Some SetTrue }
@@ -91,6 +95,22 @@ costs_rule = flag_rule (codes "costs")
 -- `--hints`, which is auto where it is not given
 abbrev pub hints_rule : Rule
 hints_rule = option_rule (codes "hints") (codes "auto" ∷ [])
+
+-- `--text`, which has to be given
+abbrev pub text_rule : Rule
+text_rule = needed_rule (codes "text")
+
+-- `--data`, which is 0 where it is not given
+abbrev pub data_rule : Rule
+data_rule = option_rule (codes "data") (codes "0" ∷ [])
+
+-- `--shared`, which is 0 where it is not given
+abbrev pub shared_rule : Rule
+shared_rule = option_rule (codes "shared") (codes "0" ∷ [])
+
+-- `--entry`, which is 0 where it is not given
+abbrev pub entry_rule : Rule
+entry_rule = option_rule (codes "entry") (codes "0" ∷ [])
 
 abbrev pub run_app : App
 run_app = with_rule
@@ -180,6 +200,18 @@ lint_app = with_rule
     xlen_rule)
     hints_rule
 
+-- `measure` as `clap` sees it: its file, its options, and the values that they have otherwise
+abbrev pub measure_app : App
+measure_app = with_rule
+    (with_rule
+    (with_rule
+    (with_rule
+    (with_rule (with_rule (new_app (codes "measure")) (file_rule (codes "FILE") true)) text_rule)
+    data_rule)
+    shared_rule)
+    entry_rule)
+    hints_rule
+
 -- the program before its subcommands, which tells its version: one of them has to be named
 abbrev pub bare_app : App
 bare_app = record {
@@ -195,13 +227,15 @@ program_app = with_subcommand
     (with_subcommand
     (with_subcommand
     (with_subcommand
+    (with_subcommand
     (with_subcommand (with_subcommand
     (with_subcommand (with_subcommand bare_app run_app.top) plan_app.top) judge_app.top)
     check_app.top)
     show_app.top)
     audit_app.top)
     map_app.top)
-    lint_app.top
+    lint_app.top)
+    measure_app.top
 
 -- a subcommand as a program of its own, and the whole program where there is none
 abbrev pub app_alone : Option Shape → App

@@ -24,3 +24,6 @@ fault_kind faults.NoCosts = ArgumentConflict
 fault_kind faults.TwoAnswers = ArgumentConflict
 fault_kind faults.PlatformAlone = MissingRequiredArgument
 fault_kind (faults.TakesPlace map) = ArgumentConflict
+fault_kind (faults.Number option word) = ValueValidation
+fault_kind faults.Pages = ValueValidation
+fault_kind faults.EntryOffset = ValueValidation

@@ -2,7 +2,7 @@
 
 ghost use Rattle.std.specs.Prelude.{◌≡◌, false};
 ghost use Rattle.clap.specs.Words.{rule_of};
-ghost use Rattle.command_line.specs.CommandLine.{file_rule, flag_rule, option_rule};
+ghost use Rattle.command_line.specs.CommandLine.{file_rule, flag_rule, needed_rule, option_rule};
 ghost use Rattle.command_line.specs.ClapModel.{defaults_by, rule_by};
 
 use clap::{Arg, ArgAction};
@@ -28,6 +28,8 @@ pub enum Argument<'a> {
         /// What it is for.
         help: &'a str,
     },
+    /// An option that has to be given, by its name, what its usage calls the value, and what it is for.
+    Needed(&'a str, &'a str, &'a str),
 }
 
 /// How many entries the register file has.
@@ -94,6 +96,37 @@ pub const PLATFORM: Argument<'static> = Argument::Value {
     help: "The platform file that tells how many harts the trace is for",
 };
 
+/// How many pages of text an enclave has.
+pub const TEXT: Argument<'static> = Argument::Needed(
+    "text",
+    "N",
+    "How many pages of text (code) the enclave has",
+);
+
+/// How many pages of data.
+pub const DATA: Argument<'static> = Argument::Value {
+    name: "data",
+    value: "N",
+    default: Some("0"),
+    help: "How many pages of data follow the text",
+};
+
+/// How many pages it shares with the host.
+pub const SHARED: Argument<'static> = Argument::Value {
+    name: "shared",
+    value: "N",
+    default: Some("0"),
+    help: "How many pages it shares with the host",
+};
+
+/// Where it is entered.
+pub const ENTRY: Argument<'static> = Argument::Value {
+    name: "entry",
+    value: "N",
+    default: Some("0"),
+    help: "Where it is entered, in bytes from its base",
+};
+
 /// When standard error shows what is wrong with an input.
 pub const HINTS: Argument<'static> = Argument::Value {
     name: "hints",
@@ -151,6 +184,7 @@ impl<'a> Argument<'a> {
                 default,
                 help,
             } => value_arg(alloc, name, value, default, help),
+            Argument::Needed(name, value, help) => needed_arg(alloc, name, value, help),
         }
     }
 }
@@ -197,4 +231,17 @@ fn value_arg<'a>(
         Some(word) => option.default_value(word),
         None => option,
     }
+}
+
+/// An option with a value that has to be given.
+fn needed_arg<'a>(alloc: Global, name: &'a str, value: &'a str, help: &'a str) -> Arg<'a>
+    ensures rule { rule_of result ≡ needed_rule name.entry.now }
+    ensures local { result.global ≡ false }
+{
+    Arg::new(alloc, name)
+        .long(name)
+        .value_name(value)
+        .help(help)
+        .action(ArgAction::Set)
+        .required(true)
 }

@@ -22,7 +22,12 @@ fn kind_of(fault: &Fault<'_>) -> ErrorKind
         | Fault::TableFormat(_)
         | Fault::Xlen(_)
         | Fault::Hints(_) => ErrorKind::InvalidValue,
-        Fault::AtMost(_) | Fault::Name(_) | Fault::First(_) => ErrorKind::ValueValidation,
+        Fault::AtMost(_)
+        | Fault::Name(_)
+        | Fault::First(_)
+        | Fault::Number { .. }
+        | Fault::Pages
+        | Fault::EntryOffset => ErrorKind::ValueValidation,
         Fault::InputTwice
         | Fault::TwoKinds
         | Fault::TwoAnswers

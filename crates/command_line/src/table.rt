@@ -7,8 +7,8 @@ ghost use Rattle.program_tasks.specs.Subcommands.{subcommand_word};
 ghost use Rattle.command_line.specs.ClapModel.{app_by, with_arguments};
 
 use crate::arguments::{
-    ALL, AT_MOST, Argument, COSTS, ENTRIES, EXPECT, EXPLAIN, FIRST, FORMAT, HINTS, MEASURE, NAME,
-    PLATFORM, TABLE_FORMAT, TRACE, XLEN,
+    ALL, AT_MOST, Argument, COSTS, DATA, ENTRIES, ENTRY, EXPECT, EXPLAIN, FIRST, FORMAT, HINTS,
+    MEASURE, NAME, PLATFORM, SHARED, TABLE_FORMAT, TEXT, TRACE, XLEN,
 };
 use program_tasks::Subcommand;
 
@@ -139,6 +139,19 @@ const LINT_ROW: Row<'static> = Row {
     ],
 };
 
+const MEASURE_ROW: Row<'static> = Row {
+    about: "Print the digest that the monitor measures of an enclave of a file's bytes",
+    more: "FILE has the bytes of the enclave's pages of text, and after them those of its pages of data; where it ends before the\nlast page does, zeros follow. A page has 4096 bytes.\n\nPrints 'digest' and the SHA-256 digest that 'run --measure' prints of such an enclave, and then 'word K' and its four words,\nas the monitor's call 6 answers them. The digest does not depend on where the enclave's pages are.\n\nAn enclave has 1 to 1024 pages of text and data, 1 of text at least, and at most 256 shared. --entry is even and in the text.\n\nExample:\n  pmpmon measure enclave.bin --text 2 --data 1 --shared 1",
+    arguments: &[
+        Argument::File("FILE", "The file of the enclave's text and data"),
+        TEXT,
+        DATA,
+        SHARED,
+        ENTRY,
+        HINTS,
+    ],
+};
+
 /// The row of a subcommand.
 pub fn row_of<'a>(subcommand: Subcommand) -> Row<'a>
     ensures { with_arguments (new_app (subcommand_word subcommand)) result.arguments.now
@@ -153,5 +166,6 @@ pub fn row_of<'a>(subcommand: Subcommand) -> Row<'a>
         Subcommand::Audit => AUDIT_ROW,
         Subcommand::Map => MAP_ROW,
         Subcommand::Lint => LINT_ROW,
+        Subcommand::Measure => MEASURE_ROW,
     }
 }

@@ -6,6 +6,7 @@ pub mod Check
 pub mod Expected
 pub mod Judge
 pub mod Map
+pub mod Measure
 pub mod Plan
 pub mod Show
 pub mod Stops

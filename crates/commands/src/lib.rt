@@ -32,16 +32,18 @@ mod expected;
 mod laws;
 mod lint;
 mod lint_trace;
+mod measure;
 mod on_maps;
 
 pub use certificate_sink::{CertificateSink, Straight, Whole};
 pub use certified_plan::{bank_of, needed_by, plan_and_certify, plan_of_map};
 pub use expected::tell_first;
-pub use laws::width_law;
+pub use laws::{place_law, width_law};
 pub use lint::{
     do_lint, do_lint_listing, lint_as_platform, lint_listing, lint_map, names_platform,
 };
 pub use lint_trace::{TRACE_BYTES, do_lint_trace, lint_as_trace};
+pub use measure::do_measure;
 pub use on_maps::{
     Asked, Table, do_audit, do_check, do_judge_as, do_map, do_plan, do_show_as, most_entries,
     verdict,

@@ -161,8 +161,9 @@ HasLintHints kinds.Trace (Some platform) name first second hints =
     hints
 
 -- the hints of a task: those of its first input that is not what it should be, or that is a map or
--- a platform which needs more entries than it may. A certificate has none but of its size; a trace
--- is for the harts of its platform in `run`, and otherwise for `judge`
+-- a platform which needs more entries than it may. A certificate has none but of its size, and the
+-- file of an enclave none; a trace is for the harts of its platform in `run`, and otherwise for
+-- `judge`
 abbrev pub HasTaskHints : {R : Type 0} → Task → Options → Reading R → Reading R → Option (List ℕ)
     → Type 0
 HasTaskHints (tasks.Run platform trace measure) options first second hints =
@@ -186,6 +187,8 @@ HasTaskHints (tasks.Lint file platform) options first second hints =
 HasTaskHints (tasks.Show map limit) options first second hints =
     HasFileHints options.registers options.xlen map.now (table_bounds options.at_most) first hints
     × IsUnread second
+HasTaskHints (tasks.Measure file layout) options first second hints = (hints ≡ None)
+    × IsUnread first × IsUnread second
 
 -- standard error is told the hints of a task, whole or up to where the device fails; and nothing
 -- where it has none, or where an input could not be had or memory was refused

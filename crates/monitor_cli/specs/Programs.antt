@@ -19,6 +19,7 @@ use Rattle.command_inputs.specs.Inputs.{IsUnread, Reading}
 use Rattle.commands.specs.Judge.{JudgesAs}
 use Rattle.commands.specs.Lint.{Lints, LintsListing}
 use Rattle.commands.specs.Map.{Maps}
+use Rattle.commands.specs.Measure.{Measures}
 use Rattle.commands.specs.Plan.{Plans}
 use Rattle.commands.specs.Show.{ShowsAs}
 use Rattle.monitor_cli.specs.Runs.{Runs}
@@ -57,6 +58,8 @@ Performs (tasks.Lint file platform) options first second cert out done =
 Performs (tasks.Show map limit) options first second cert out done =
     ShowsAs options.registers map options.xlen limit options.at_most options.table options.costs
     first out done × IsUnread second × IsUntouched cert
+Performs (tasks.Measure file layout) options first second cert out done =
+    Measures file layout first out done × IsUnread second × IsUntouched cert
 
 -- what standard error is told: nothing where there is no trouble, otherwise its line, which breaks
 -- off only where the device does

@@ -284,6 +284,7 @@ fn task_hints<'a, R: Source>(
         Task::Lint { file, platform } => {
             hints_of_lint(alloc, options.kind, platform, file, first, second)
         }
+        Task::Measure { .. } => Ok(None),
     }
 }
 

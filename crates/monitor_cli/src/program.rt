@@ -13,7 +13,7 @@ use byte_streams::{Sink, Source};
 use command_inputs::Trouble;
 use commands::{
     Asked, CertificateSink, Straight, Table, Whole, do_audit, do_check, do_judge_as, do_lint,
-    do_lint_listing, do_lint_trace, do_map, do_plan, do_show_as,
+    do_lint_listing, do_lint_trace, do_map, do_measure, do_plan, do_show_as,
 };
 use pmp_encoding::Limit;
 use program_files::WholeSink;
@@ -144,6 +144,7 @@ fn run_task<'a, R: Source, M, C: CertificateSink<M>, W: Sink>(
             let asked = table_asked(options, limit);
             do_show_as(alloc, listed, map, asked, first, out)
         }
+        Task::Measure { file, layout } => do_measure(alloc, file, layout, first, out),
     }
 }
 

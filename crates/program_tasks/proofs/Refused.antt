@@ -1,5 +1,5 @@
 -- The first demand that values lack leaves no sound task.
-use Rattle.std.proofs.Common.{[], ◌∷◌, ◌≡◌, ◌≢◌, ◌∙◌, List, Option, Some, None, Bool, true, false, IfSome, ap, codes, find, inl, inr, option_map, refl, subst}
+use Rattle.std.proofs.Common.{[], ◌∷◌, ◌≡◌, ◌≢◌, ◌∙◌, ℕ, List, Option, Some, None, Bool, true, false, IfSome, ap, codes, find, inl, inr, option_map, refl, subst}
 use Rattle.std.proofs.Common.{sym, true≢false}
 use Rattle.std.specs.Borrow.{Bor}
 use Rattle.std.specs.Str.{bytes_eq}
@@ -12,8 +12,9 @@ use Rattle.program_tasks.specs.declared.options.LintKind.{LintKind}
 use Rattle.program_tasks.specs.declared.options.LintKind.TheVariants as kinds
 use Rattle.program_tasks.specs.declared.options.Options.{Options}
 use Rattle.program_tasks.specs.declared.task.Task.{Task}
-use Rattle.program_tasks.specs.declared.task.Task.TheVariants.{Run, Plan, Judge, Check, Show, Audit, Map, Lint}
+use Rattle.program_tasks.specs.declared.task.Task.TheVariants.{Run, Plan, Judge, Check, Show, Audit, Map, Lint, Measure}
 use Rattle.program_tasks.specs.Faults.{Demand, IsFirst, Lacks, demands_of}
+use Rattle.program_tasks.specs.Layouts.{IsNumber}
 use Rattle.program_tasks.specs.Subcommands.{Text, subcommand_of, subcommand_word}
 use Rattle.program_tasks.specs.Tasks.{HasAnswers, HasKind, HasValues, IsGiven, IsSound, NamesNone, is_identifier, table_format_word}
 
@@ -40,7 +41,7 @@ met_all value flag (demand ∷ demands) fault met first = elim first [
 of_word : Text → Option Subcommand
 of_word word = find (λ subcommand. bytes_eq word (subcommand_word subcommand))
     (subcommands.Run ∷ subcommands.Plan ∷ subcommands.Judge ∷ subcommands.Check ∷ subcommands.Show ∷ subcommands.Audit ∷ subcommands.Map ∷ subcommands.Lint ∷
-    [])
+    subcommands.Measure ∷ [])
 
 known : (subcommand : Subcommand) → of_word (subcommand_word subcommand) ≡ Some subcommand
 unfolding of_word
@@ -52,6 +53,7 @@ known subcommands.Show = refl
 known subcommands.Audit = refl
 known subcommands.Map = refl
 known subcommands.Lint = refl
+known subcommands.Measure = refl
 
 one_subcommand : (a b : Subcommand) → Some a ≡ Some b → a ≡ b
 one_subcommand a b e = cc
@@ -84,6 +86,10 @@ named_well value (Some name) word e well is bad = bad (rw (same name.now word (s
 
 not_both : (b : Bool) → b ≡ true → b ≡ false → ⊥
 not_both b e f = true≢false (sym e ∙ f)
+
+numbered : (value : Option Text) (n : ℕ) → IsNumber value n → value ≡ None → ⊥
+numbered None n is none = is
+numbered (Some word) n is none = cc
 
 -- a sound task's values meet what its subcommand asks
 met : (value flag : Text → Option Text) (task : Task) (options : Options) → HasValues value flag task options → IsSound task options
@@ -182,6 +188,35 @@ met value flag (Lint file platform) options v sound = (
   given value _ _ v.0,
   (one_kind_met value flag options.kind v.1, (of_trace_met value flag options.kind v.1, (given value _ _ v.2, (λ lacks. lacks options.xlen v.2, tt)))),
 )
+met value flag (Measure file layout) options v sound =
+    let is = v.1 in (
+      given value _ _ v.0,
+      (
+        numbered _ _ is.text,
+        (
+          λ lacks. lacks _ is.text,
+          (
+            numbered _ _ is.data_is,
+            (
+              λ lacks. lacks _ is.data_is,
+              (
+                numbered _ _ is.shared,
+                (
+                  λ lacks. lacks _ is.shared,
+                  (
+                    numbered _ _ is.entry,
+                    (
+                      λ lacks. lacks _ is.entry,
+                      (λ lacks. lacks layout is sound.counts, (λ lacks. lacks layout is sound.entry, tt)),
+                    ),
+                  ),
+                ),
+              ),
+            ),
+          ),
+        ),
+      ),
+    )
 
 -- no sound task is a subcommand with values that lack one of its demands
 pub none_of : (subcommand : Subcommand) (value flag : Text → Option Text) (fault : Fault) → IsFirst value flag (demands_of subcommand) fault

@@ -11,7 +11,10 @@ use Rattle.program_tasks.specs.declared.options.TableFormat.{TableFormat}
 use Rattle.program_tasks.specs.declared.hints.Hints.{Hints}
 use Rattle.program_tasks.specs.declared.task.Subcommand.{Subcommand}
 use Rattle.program_tasks.specs.declared.task.Subcommand.TheVariants as subcommands
+use Rattle.measurement.specs.declared.measured.Layout.{Layout}
+use Rattle.measurement.specs.Requests.{HasCounts, HasEntry}
 use Rattle.program_tasks.specs.Hints.{hints_word}
+use Rattle.program_tasks.specs.Layouts.{IsLaidOut, IsNumber, at_zero}
 use Rattle.program_tasks.specs.Subcommands.{Text, subcommand_word}
 use Rattle.program_tasks.specs.Tasks.{BeginsAt, Counts, IsGiven, format_word, table_format_word}
 use Rattle.program_tasks.specs.Tasks.{input_word, is_identifier, limit_word, width_word}
@@ -52,6 +55,11 @@ fault_text faults.NoCosts =
     codes "'--costs' is for the text of a map, and cannot be used with '--registers', '--format svg' or '--format json'"
 fault_text (faults.TakesPlace map) = codes "the certificate would take the place of the map '"
     ++ (map.now ++ codes "'")
+fault_text (faults.Number option word) = value_text word.now
+    (codes "' for '--" ++ (option.now ++ codes " <N>': no number below 2^64"))
+fault_text faults.Pages =
+    codes "an enclave has 1 to 1024 pages of text and data, 1 of text at least, and at most 256 shared"
+fault_text faults.EntryOffset = codes "'--entry <N>' has to be even and less than the bytes of the text"
 
 -- what a subcommand asks of the values of its arguments, one thing at a time
 pub data Demand : Type 0 where
@@ -71,6 +79,9 @@ pub data Demand : Type 0 where
   of_trace : Demand
   of_map : Demand
   of_text : Demand
+  numbers : Text → Demand
+  has_pages : Demand
+  enters_text : Demand
 
 -- the values lack it: the argument of that name has no value; the word of `--entries` names no
 -- limit, that of `--format` no format of a plan or of a table, that of `--xlen` no width, that of
@@ -78,7 +89,8 @@ pub data Demand : Type 0 where
 -- the limit, that of `--hints` not whether hints are told; the map and that other file are both
 -- standard input; the certificate is the map; the file is said to be a listing and a trace; answers
 -- are to be explained and to be compared; a platform is named where it is said to be no trace; or
--- of registers another table is asked for than the text, or costs of what is no text of a map
+-- of registers another table is asked for than the text, or costs of what is no text of a map; the
+-- word of that option is no number; or no enclave has pages like those, or an entry like that
 abbrev pub Lacks : (Text → Option Text) → (Text → Option Text) → Demand → Type 0
 Lacks value flag (has name) = value name ≡ None
 Lacks value flag names_limit = (limit : Limit) → value (codes "entries") ≢ Some (limit_word limit)
@@ -104,6 +116,11 @@ Lacks value flag of_map = IsGiven (flag (codes "registers"))
     × (value (codes "format") ≢ Some (codes "text"))
 Lacks value flag of_text = IsGiven (flag (codes "costs"))
     × (IsGiven (flag (codes "registers")) ⊎ (value (codes "format") ≢ Some (codes "text")))
+Lacks value flag (numbers name) = (n : ℕ) → ¬ IsNumber (value name) n
+Lacks value flag has_pages = (layout : Layout) → IsLaidOut value layout
+    → ¬ HasCounts (at_zero layout)
+Lacks value flag enters_text = (layout : Layout) → IsLaidOut value layout
+    → ¬ HasEntry (at_zero layout)
 
 -- what is told where they lack it: a value of an option with its word, a certificate in the place
 -- of its map with the map
@@ -124,6 +141,10 @@ Tells value one_answer fault = fault ≡ faults.TwoAnswers
 Tells value of_trace fault = fault ≡ faults.PlatformAlone
 Tells value of_map fault = fault ≡ faults.NoPicture
 Tells value of_text fault = fault ≡ faults.NoCosts
+Tells value (numbers name) (faults.Number option word) = (option.now ≡ name)
+    × (value name ≡ Some word.now)
+Tells value has_pages fault = fault ≡ faults.Pages
+Tells value enters_text fault = fault ≡ faults.EntryOffset
 Tells value demand fault = ⊥
 
 -- the fault of one demand: the values lack it, and that is reported
@@ -135,6 +156,12 @@ abbrev pub IsFirst : (Text → Option Text) → (Text → Option Text) → List 
 IsFirst value flag [] fault = ⊥
 IsFirst value flag (demand ∷ demands) fault = Breaks value flag demand fault
     ⊎ (¬ Lacks value flag demand × IsFirst value flag demands fault)
+
+-- what is asked of the layout of an enclave
+abbrev pub of_layout : List Demand
+of_layout = has (codes "text") ∷ numbers (codes "text") ∷ has (codes "data")
+    ∷ numbers (codes "data") ∷ has (codes "shared") ∷ numbers (codes "shared")
+    ∷ has (codes "entry") ∷ numbers (codes "entry") ∷ has_pages ∷ enters_text ∷ []
 
 -- what each subcommand asks, in the order in which it is looked at
 abbrev pub demands_of : Subcommand → List Demand
@@ -154,6 +181,7 @@ demands_of subcommands.Audit = has (codes "MAP") ∷ has (codes "REGISTERS")
 demands_of subcommands.Map = has (codes "REGISTERS") ∷ has (codes "xlen") ∷ names_width ∷ []
 demands_of subcommands.Lint = has (codes "FILE") ∷ one_kind ∷ of_trace ∷ has (codes "xlen")
     ∷ names_width ∷ []
+demands_of subcommands.Measure = has (codes "FILE") ∷ of_layout
 
 -- the fault of a subcommand's values: the first demand that they lack tells it, and a word that is
 -- no subcommand is a required argument that is missing

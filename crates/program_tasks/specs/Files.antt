@@ -16,6 +16,7 @@ files_of (tasks.Audit map registers) = record { first = map; second = Some regis
 files_of (tasks.Map registers) = record { first = registers; second = None; cert = None }
 files_of (tasks.Lint file platform) = record { first = file; second = platform; cert = None }
 files_of (tasks.Show map limit) = record { first = map; second = None; cert = None }
+files_of (tasks.Measure file layout) = record { first = file; second = None; cert = None }
 
 -- the name of a file, where there is one, and otherwise that of none
 abbrev pub name_or_none : Option (Bor (List ℕ)) → List ℕ

@@ -6,6 +6,7 @@ pub mod Subcommands
 pub mod Tasks
 pub mod Files
 pub mod Hinted
+pub mod Layouts
 pub mod Inputs
 pub mod Places
 pub mod Words

@@ -4,7 +4,7 @@ use Rattle.program_tasks.specs.declared.task.Subcommand.{Subcommand}
 use Rattle.program_tasks.specs.declared.task.Subcommand.TheVariants as subcommands
 use Rattle.program_tasks.specs.declared.task.Task.{Task}
 use Rattle.program_tasks.specs.declared.task.Task.TheVariants.{Run, Plan, Judge, Check, Show, Audit}
-use Rattle.program_tasks.specs.declared.task.Task.TheVariants.{Map, Lint}
+use Rattle.program_tasks.specs.declared.task.Task.TheVariants.{Map, Lint, Measure}
 
 -- bytes of UTF-8
 abbrev pub Text : Type 0
@@ -20,6 +20,7 @@ subcommand_word subcommands.Show = codes "show"
 subcommand_word subcommands.Audit = codes "audit"
 subcommand_word subcommands.Map = codes "map"
 subcommand_word subcommands.Lint = codes "lint"
+subcommand_word subcommands.Measure = codes "measure"
 
 -- the program's word and the subcommand's, as a user enters them
 abbrev pub usage_words : Subcommand → Text
@@ -35,6 +36,7 @@ subcommand_of (Show map limit) = subcommands.Show
 subcommand_of (Audit map registers) = subcommands.Audit
 subcommand_of (Map registers) = subcommands.Map
 subcommand_of (Lint file platform) = subcommands.Lint
+subcommand_of (Measure file layout) = subcommands.Measure
 
 -- its word
 abbrev pub word_of : Task → Text

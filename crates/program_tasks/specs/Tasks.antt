@@ -22,7 +22,8 @@ use Rattle.program_tasks.specs.declared.request.Request.{Request}
 use Rattle.program_tasks.specs.declared.task.Subcommand.{Subcommand}
 use Rattle.program_tasks.specs.declared.task.Task.{Task}
 use Rattle.program_tasks.specs.declared.task.Task.TheVariants.{Run, Plan, Judge, Check, Show, Audit}
-use Rattle.program_tasks.specs.declared.task.Task.TheVariants.{Map, Lint}
+use Rattle.program_tasks.specs.declared.task.Task.TheVariants.{Map, Lint, Measure}
+use Rattle.program_tasks.specs.Layouts.{IsEnclave, IsLaidOut}
 use Rattle.program_tasks.specs.Subcommands.{Text, subcommand_of, word_of}
 
 -- the word that names a limit
@@ -148,6 +149,9 @@ HasValues value flag (Lint file platform) options =
     × HasKind value flag options.kind
     × (value (codes "xlen") ≡ Some (width_word options.xlen))
     × (value (codes "platform") ≡ option_map (λ s. s.now) platform)
+HasValues value flag (Measure file layout) options =
+    (value (codes "FILE") ≡ Some file.now)
+    × IsLaidOut value layout
 
 -- a word that standard input stands for
 abbrev pub input_word : Text
@@ -164,7 +168,7 @@ IsOfText registers format costs = costs ≡ true → (registers ≡ false) × (f
 -- standard input is not both a map and the trace or the registers beside it. A certificate does not
 -- take the place of its map. The name of a plan is an identifier, and its first entry is one that
 -- such a hart has. Registers have a table as text alone, and costs stand in the text of a map's
--- table alone
+-- table alone. What is measured is an enclave
 abbrev pub IsSound : Task → Options → Type 0
 IsSound (Plan map cert limit) options =
     (option_map (λ s. s.now) cert ≢ Some map.now)
@@ -174,6 +178,7 @@ IsSound (Judge map trace limit) options = ¬ ((map.now ≡ input_word) × (trace
 IsSound (Audit map registers) options = ¬ ((map.now ≡ input_word) × (registers.now ≡ input_word))
 IsSound (Show map limit) options = IsOfMap options.registers options.table
     × IsOfText options.registers options.table options.costs
+IsSound (Measure file layout) options = IsEnclave layout
 IsSound task options = Unit {0}
 
 -- no sound task is that subcommand with these values

@@ -1,6 +1,6 @@
 //! Why a subcommand with its values names no task, and the text for each reason.
 
-ghost use Rattle.std.specs.Prelude.{◌≡◌, IfOk};
+ghost use Rattle.std.specs.Prelude.{◌≡◌, ◌++◌, IfOk, codes};
 ghost use Rattle.program_tasks.specs.Faults.{fault_text, value_text};
 
 use std::alloc::{AllocError, Global};
@@ -40,6 +40,17 @@ pub enum Fault<'a> {
     NoCosts,
     /// The certificate would take the place of the map of this name.
     TakesPlace(&'a str),
+    /// An option that takes a number has another value.
+    Number {
+        /// The name of the option.
+        option: &'a str,
+        /// The value.
+        word: &'a str,
+    },
+    /// No enclave has so many pages.
+    Pages,
+    /// No enclave of that text is entered there.
+    EntryOffset,
 }
 
 /// What comes after the word that `--entries` does not take.
@@ -93,11 +104,26 @@ const NO_PICTURE: &str =
 const NO_COSTS: &str =
     "'--costs' is for the text of a map, and cannot be used with '--registers', '--format svg' or '--format json'";
 
+/// Of pages that no enclave has.
+const NO_PAGES: &str =
+    "an enclave has 1 to 1024 pages of text and data, 1 of text at least, and at most 256 shared";
+
+/// Of an entry that no enclave of that text has.
+const NO_ENTRY_OFFSET: &str = "'--entry <N>' has to be even and less than the bytes of the text";
+
 /// What is said of a value that an option does not take.
 fn value_text(alloc: Global, word: &str, taken: &str) -> Result<String, AllocError>
     ensures { IfOk result (λ text. text.bytes.items ≡ value_text word.now taken.now) }
 {
     format!(in alloc; "invalid value '{word}{taken}")
+}
+
+/// What is said of a value of that option, which takes a number.
+fn number_text(alloc: Global, option: &str, word: &str) -> Result<String, AllocError>
+    ensures { IfOk result (λ text. text.bytes.items ≡ value_text word.now
+        (codes "' for '--" ++ (option.now ++ codes " <N>': no number below 2^64"))) }
+{
+    format!(in alloc; "invalid value '{word}' for '--{option} <N>': no number below 2^64")
 }
 
 impl Fault<'_> {
@@ -124,6 +150,9 @@ impl Fault<'_> {
             Fault::TakesPlace(map) => {
                 format!(in alloc; "the certificate would take the place of the map '{map}'")
             }
+            Fault::Number { option, word } => number_text(alloc, option, word),
+            Fault::Pages => String::from_str(alloc, NO_PAGES),
+            Fault::EntryOffset => String::from_str(alloc, NO_ENTRY_OFFSET),
         }
     }
 }

@@ -27,6 +27,7 @@ mod fault;
 mod given;
 mod hinted;
 mod hints;
+mod layout;
 mod options;
 mod places;
 mod request;

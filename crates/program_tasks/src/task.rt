@@ -5,6 +5,7 @@ ghost use Rattle.program_tasks.specs.declared.task.Subcommand.{Subcommand};
 ghost use Rattle.program_tasks.specs.Files.{files_of, name_or_none};
 ghost use Rattle.program_tasks.specs.Subcommands.{subcommand_of, subcommand_word, usage_words};
 
+use measurement::Layout;
 use pmp_encoding::Limit;
 
 /// One command of the program. The names of files are the words that were given.
@@ -70,6 +71,13 @@ pub enum Task<'a> {
         /// How many entries the register file has.
         limit: Limit,
     },
+    /// Tell the digest that the monitor measures of an enclave of a file's bytes.
+    Measure {
+        /// The file of its text and data.
+        file: &'a str,
+        /// What is measured beside its pages.
+        layout: Layout,
+    },
 }
 
 impl Task<'_> {
@@ -86,6 +94,7 @@ impl Task<'_> {
             Task::Map { .. } => Subcommand::Map,
             Task::Lint { .. } => Subcommand::Lint,
             Task::Show { .. } => Subcommand::Show,
+            Task::Measure { .. } => Subcommand::Measure,
         }
     }
 }
@@ -135,6 +144,7 @@ pub fn files_of<'a>(task: &Task<'a>) -> TaskFiles<'a>
         Task::Map { registers } => TaskFiles::read(registers, None),
         Task::Lint { file, platform } => TaskFiles::read(file, platform),
         Task::Show { map, .. } => TaskFiles::read(map, None),
+        Task::Measure { file, .. } => TaskFiles::read(file, None),
     }
 }
 
@@ -167,10 +177,12 @@ pub enum Subcommand {
     Map,
     /// `lint`.
     Lint,
+    /// `measure`.
+    Measure,
 }
 
 /// All of them, as the program's help lists them.
-pub const SUBCOMMANDS: [Subcommand; 8] = [
+pub const SUBCOMMANDS: [Subcommand; 9] = [
     Subcommand::Run,
     Subcommand::Plan,
     Subcommand::Judge,
@@ -179,6 +191,7 @@ pub const SUBCOMMANDS: [Subcommand; 8] = [
     Subcommand::Audit,
     Subcommand::Map,
     Subcommand::Lint,
+    Subcommand::Measure,
 ];
 
 impl Subcommand {
@@ -195,6 +208,7 @@ impl Subcommand {
             Subcommand::Audit => "audit",
             Subcommand::Map => "map",
             Subcommand::Lint => "lint",
+            Subcommand::Measure => "measure",
         }
     }
 
@@ -211,6 +225,7 @@ impl Subcommand {
             Subcommand::Audit => "pmpmon audit",
             Subcommand::Map => "pmpmon map",
             Subcommand::Lint => "pmpmon lint",
+            Subcommand::Measure => "pmpmon measure",
         }
     }
 

@@ -11,6 +11,7 @@ use crate::arguments::{
 };
 use crate::fault::Fault;
 use crate::given::Values;
+use crate::layout::layout_in;
 use crate::options::{Answers, LintKind, Options, TableFormat};
 use crate::request::Request;
 use crate::task::{Subcommand, Task};
@@ -279,6 +280,21 @@ fn lint_in<'a, V: Values<'a>>(given: &V, base: Options<'a>) -> Result<Request<'a
     Ok(Request { task, options })
 }
 
+fn measure_in<'a, V: Values<'a>>(given: &V, base: Options<'a>) -> Result<Request<'a>, Fault<'a>>
+    ensures task { IfOk result (IsRequestOf Subcommand.Measure base.entry.hints
+        (V.value given.now) (V.flag given.now)) }
+    ensures fault { IfErr result (IsFirst (V.value given.now) (V.flag given.now)
+        (demands_of Subcommand.Measure)) }
+{
+    let file = value_in(given, "FILE")?;
+    let layout = layout_in(given)?;
+    let task = Task::Measure { file, layout };
+    Ok(Request {
+        task,
+        options: base,
+    })
+}
+
 /// The task of a subcommand with its values.
 fn task_in<'a, V: Values<'a>>(
     subcommand: Subcommand,
@@ -299,6 +315,7 @@ fn task_in<'a, V: Values<'a>>(
         Subcommand::Audit => audit_in(given, base),
         Subcommand::Map => map_in(given, base),
         Subcommand::Lint => lint_in(given, base),
+        Subcommand::Measure => measure_in(given, base),
     }
 }
 

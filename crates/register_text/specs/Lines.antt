@@ -21,6 +21,7 @@ use Rattle.register_text.specs.declared.setting.Setting.TheVariants as settings
 -- the places of a setting are those of 64 entries
 abbrev pub IsInside : Xlen → Setting → Type 0
 IsInside xlen settings.Nothing = ⊤
+IsInside xlen (settings.Count entries) = ⊤
 IsInside xlen settings.Other = ⊤
 IsInside xlen (settings.Security value) = ⊤
 IsInside xlen (settings.Pair place cfg address) = place < 64
@@ -112,9 +113,9 @@ set_by_one xlen word =
     then option_and_then (plain_setting xlen (take (equals_at word) word))
     (value_of (take (equals_at word) word) (drop (equals_at word + 1) word)) else None
 
--- a register, or a count of entries, which sets nothing
+-- a register, or a count of entries
 abbrev pub named_setting : Xlen → List ℕ → ℕ → Option Setting
-named_setting xlen name value = if bytes_eq name (codes "entries") then Some settings.Nothing
+named_setting xlen name value = if bytes_eq name (codes "entries") then Some (settings.Count value)
     else register_setting xlen name value
 
 -- the number of an entry, below 64, its configuration byte and its address
@@ -162,6 +163,11 @@ abbrev pub set_by_many : List ℕ → List ℕ → List (List ℕ) → Option Se
 set_by_many first second rest = if list_all is_no_name rest
     then option_and_then (other_setting (without_colon first)) (number_of second) else None
 
+-- what OpenOCD writes behind a value that was changed and not yet written
+abbrev pub is_dirty : List (List ℕ) → Bool
+is_dirty (word ∷ []) = bytes_eq word (codes "(dirty)")
+is_dirty words = false
+
 -- what words set
 abbrev pub set_by_words : Xlen → List (List ℕ) → Option Setting
 set_by_words xlen [] = Some settings.Nothing
@@ -170,21 +176,62 @@ set_by_words xlen (name ∷ value ∷ []) = option_and_then (named_setting xlen 
     (value_of name value)
 set_by_words xlen (first ∷ second ∷ third ∷ []) =
     set_by_three xlen (number_of first) first second third
-set_by_words xlen (first ∷ second ∷ third ∷ rest) = set_by_many first second (third ∷ rest)
+set_by_words xlen (first ∷ second ∷ third ∷ rest) =
+    if is_dirty rest then set_by_three xlen (number_of first) first second third
+    else set_by_many first second (third ∷ rest)
+
+-- a byte of `N)`: a decimal digit, or the parenthesis
+abbrev pub is_index_byte : ℕ → Bool
+is_index_byte b = (nat_le 48 b && nat_le b 57) || b == 41
+
+-- `(N)`, the number under which OpenOCD lists a register
+abbrev pub is_index : List ℕ → Bool
+is_index (first ∷ rest) = first == 40 && list_all is_index_byte rest
+is_index [] = false
+
+-- words without such a number before them
+abbrev pub without_index : List (List ℕ) → List (List ℕ)
+without_index (first ∷ rest) = if is_index first then rest else first ∷ rest
+without_index [] = []
+
+-- in the place of a value: what gdb writes of a register that it does not have and of one that is
+-- no number, and what OpenOCD writes of one that it has not read
+abbrev pub has_no_number : List ℕ → Bool
+has_no_number word = bytes_eq word (codes "<unavailable>") || begins_with word (codes "{")
+    || begins_with word (codes "(/")
+
+-- a heading of OpenOCD, or the name of another register
+abbrev pub is_other_name : List ℕ → Bool
+is_other_name word = bytes_eq word (codes "=====")
+    || (is_foreign (without_colon word) && not (names_hart (without_colon word)))
+
+-- words that are passed over without a number: those of another register, or of a heading, none of
+-- which could be about the protection
+abbrev pub are_passed : List (List ℕ) → Bool
+are_passed (first ∷ second ∷ rest) = list_all is_no_name (first ∷ second ∷ rest)
+    && (is_other_name first && (has_no_number second || bytes_eq first (codes "=====")))
+are_passed _ = false
+
+-- what words set, or that they are passed over
+abbrev pub set_or_passed : Xlen → List (List ℕ) → Option Setting
+set_or_passed xlen words = if are_passed words then Some settings.Other
+    else set_by_words xlen words
 
 -- what a line sets, where it is understood, by the width of the hart's registers
 abbrev pub line_sets : Xlen → List ℕ → Option Setting
-line_sets xlen line = option_and_then (set_by_words xlen) (words_of line)
+line_sets xlen line = option_and_then (λ words. set_or_passed xlen (without_index words))
+    (words_of line)
 
 -- what a line of at most 1023 bytes sets, its CR counted
 abbrev pub raw_sets : Xlen → List ℕ → Option Setting
 raw_sets xlen raw = if nat_le (length raw) 1023 then line_sets xlen (without_return raw) else None
 
--- what a line of a boot log sets: the pair of a region, or nothing
-abbrev pub region_setting : Option RegionEntry → Setting
-region_setting None = settings.Nothing
-region_setting (Some entry) = settings.Pair entry.place entry.cfg entry.address
+-- what a line of a boot log sets: the pair of a region, which has the next number, or nothing
+abbrev pub region_setting : ℕ → Option RegionEntry → Option Setting
+region_setting next None = Some settings.Nothing
+region_setting next (Some entry) = if entry.place == next
+    then Some (settings.Pair entry.place entry.cfg entry.address) else None
 
--- what it sets, where it is understood
-abbrev pub log_sets : Xlen → List ℕ → Option Setting
-log_sets xlen raw = option_map region_setting (log_says xlen raw)
+-- what it sets, where it is understood, after so many regions
+abbrev pub log_sets : Xlen → ℕ → List ℕ → Option Setting
+log_sets xlen next raw = option_and_then (region_setting next) (log_says xlen raw)

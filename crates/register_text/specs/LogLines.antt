@@ -1,11 +1,13 @@
 -- What the lines of OpenSBI's boot log say.
-use Rattle.std.specs.Prelude.{ℕ, ◌+◌, ◌==◌, ◌&&◌, ◌||◌, Bool, false, not, nat_lt, if◌then◌else◌}
+use Rattle.std.specs.Prelude.{ℕ, ◌+◌, ◌==◌, ◌&&◌, ◌||◌, Bool, false, not, nat_le, nat_lt}
+use Rattle.std.specs.Prelude.{if◌then◌else◌}
 use Rattle.std.specs.Prelude.{List, [], ◌∷◌, length, take, drop, Option, Some, None, option_map}
 use Rattle.std.specs.Prelude.{codes, bytes_eq}
 use Rattle.std.specs.List.{list_all, position_or_len}
 use Rattle.std.specs.Option.{is_some, option_and_then, unwrap_or}
 use Rattle.pmp_encoding.specs.declared.perm.Perm.{Perm}
 use Rattle.pmp_encoding.specs.declared.xlen.Xlen.{Xlen}
+use Rattle.pmp_encoding.specs.declared.xlen.Xlen.TheVariants.{Rv32, Rv64}
 use Rattle.text_lines.specs.Bytes.{after_text, begins_with}
 use Rattle.text_lines.specs.Words.{words_of}
 use Rattle.text_lines.specs.Numbers.{numeral_of, number_of}
@@ -15,9 +17,22 @@ use Rattle.register_text.specs.Blocks.{address_by, block_from, cfg_by}
 use Rattle.register_text.specs.Letters.{perm_of}
 use Rattle.register_text.specs.Names.{mentions}
 
--- the words of a line, and none where a byte outside its comment may not stand there
+-- a byte of a time: a digit, or one of ( ) + , - . / : [ ]
+abbrev pub is_of_time : ℕ → Bool
+is_of_time b = (nat_le 40 b && nat_le b 58 && not (b == 42)) || (b == 91 || b == 93)
+
+-- a word of the time that a terminal program or a kernel writes before a line
+abbrev pub is_time : List ℕ → Bool
+is_time word = list_all is_of_time word
+
+-- words without those of a time before them
+abbrev pub without_times : List (List ℕ) → List (List ℕ)
+without_times [] = []
+without_times (word ∷ words) = if is_time word then without_times words else word ∷ words
+
+-- the words of a line after its time, and none where a byte outside its comment may not stand there
 abbrev pub words_in : List ℕ → List (List ℕ)
-words_in raw = unwrap_or (words_of (without_return raw)) []
+words_in raw = without_times (unwrap_or (words_of (without_return raw)) [])
 
 -- words on a region of the first domain: `Domain0`, and a word that begins with `Region`
 abbrev pub is_region : List (List ℕ) → Bool
@@ -47,9 +62,15 @@ is_other_region (domain ∷ region ∷ rest) =
     && is_some (after_text region (codes "Region"))
 is_other_region _ = false
 
+-- a line that could be on a region: two of what a region's line has are in it
+abbrev pub resembles_region : List ℕ → Bool
+resembles_region raw = (mentions raw (codes "Domain") && mentions raw (codes "Region"))
+    || ((mentions raw (codes "Domain") || mentions raw (codes "Region"))
+    && mentions raw (codes "-0x"))
+
 -- a line that could be on a region and is on none: it was damaged on its way
 abbrev pub is_damaged : List ℕ → Bool
-is_damaged raw = (mentions raw (codes "Domain") && mentions raw (codes "Region"))
+is_damaged raw = resembles_region raw
     && not (is_region (words_in raw) || is_other_region (words_in raw))
 
 -- words that say how many entries the hart has: none
@@ -57,6 +78,28 @@ abbrev pub lacks_entries : List (List ℕ) → Bool
 lacks_entries (boot ∷ hart ∷ pmp ∷ count ∷ colon ∷ number ∷ rest) =
     (bytes_eq pmp (codes "PMP") && bytes_eq count (codes "Count")) && bytes_eq number (codes "0")
 lacks_entries _ = false
+
+-- words about the hart that boots
+abbrev pub is_of_hart : List (List ℕ) → Bool
+is_of_hart (boot ∷ hart ∷ rest) = bytes_eq boot (codes "Boot") && bytes_eq hart (codes "HART")
+is_of_hart _ = false
+
+-- words that say its domain, which is not the first
+abbrev pub is_elsewhere : List (List ℕ) → Bool
+is_elsewhere (boot ∷ hart ∷ domain ∷ colon ∷ name ∷ rest) =
+    bytes_eq domain (codes "Domain") && not (bytes_eq name (codes "root"))
+is_elsewhere _ = false
+
+-- a word names the instruction set of the other width
+abbrev pub is_other_width : Xlen → List ℕ → Bool
+is_other_width Rv32 word = begins_with word (codes "rv64")
+is_other_width Rv64 word = begins_with word (codes "rv32")
+
+-- words say that the hart that boots is none that these registers are of: it is in another domain,
+-- or has another width
+abbrev pub is_another_hart : Xlen → List (List ℕ) → Bool
+is_another_hart xlen words = is_of_hart words
+    && (is_elsewhere words || not (list_all (λ word. not (is_other_width xlen word)) words))
 
 -- the number of a region, of `RegionNN`
 abbrev pub number_in : List ℕ → Option ℕ
@@ -107,10 +150,11 @@ entry_in xlen (domain ∷ region ∷ colon ∷ block ∷ rest) =
 entry_in xlen _ = None
 
 -- what words say: the entry of a region, or nothing; words on a register are not understood, nor
--- are those of a hart without entries
+-- are those of a hart without entries, or of another one
 abbrev pub said_by : Xlen → List (List ℕ) → Option (Option RegionEntry)
 said_by xlen words = if is_region words then option_map (λ e. Some e) (entry_in xlen words)
-    else if is_register words || lacks_entries words then None else Some None
+    else if is_register words || (lacks_entries words || is_another_hart xlen words) then None
+    else Some None
 
 -- what a line of a log of a hart of that width says, where it is understood
 abbrev pub log_says : Xlen → List ℕ → Option (Option RegionEntry)

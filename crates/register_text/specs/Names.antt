@@ -25,10 +25,15 @@ is_some_csr None = false
 abbrev pub numbers_csr : List ℕ → Bool
 numbers_csr word = is_some_csr (option_and_then number_of (after_name word (codes "csr")))
 
+-- a word that has some of the name of a register of the protection: a letter of it may be lost or
+-- another one
+abbrev pub resembles_pmp : List ℕ → Bool
+resembles_pmp word = (mentions word (codes "mpaddr") || mentions word (codes "mpcfg"))
+    || (mentions word (codes "msec") || mentions word (codes "ccfg"))
+
 -- a word that could be about the protection
 abbrev pub is_about_pmp : List ℕ → Bool
-is_about_pmp word = mentions word (codes "pmp")
-    || (mentions word (codes "mseccfg") || numbers_csr word)
+is_about_pmp word = mentions word (codes "pmp") || (resembles_pmp word || numbers_csr word)
 
 -- a word that names a hart where a number follows: what comes after it is of another one
 abbrev pub names_hart : List ℕ → Bool

@@ -1,13 +1,14 @@
 //! What the lines of a boot log say.
 
 ghost use Rattle.std.specs.Prelude.{◌≡◌, ◌<◌, IfOk, IfSome, option_map, not, codes};
+ghost use Rattle.std.specs.List.{list_all};
 ghost use Rattle.std.specs.Option.{is_some, option_and_then};
 ghost use Rattle.std.specs.Result.{result_ok};
 ghost use Rattle.text_lines.specs.Bytes.{after_text};
 ghost use Rattle.text_lines.specs.Numbers.{numeral_of};
 ghost use Rattle.text_lines.specs.Words.{split_words};
 ghost use Rattle.register_text.specs.Letters.{perm_of};
-ghost use Rattle.register_text.specs.LogLines.{block_in, entry_by, entry_in, is_boot_log, is_damaged, is_later, is_other_region, is_region, is_region_line, is_register, lacks_entries, letters_in, log_says, number_in, said_by, words_in};
+ghost use Rattle.register_text.specs.LogLines.{block_in, entry_by, entry_in, is_another_hart, is_boot_log, is_damaged, is_elsewhere, is_later, is_of_hart, is_of_time, is_other_region, is_other_width, is_region, is_region_line, is_register, is_time, lacks_entries, letters_in, log_says, number_in, resembles_region, said_by, without_times, words_in};
 
 use crate::block::block_from;
 use crate::entry::RegionEntry;
@@ -24,9 +25,38 @@ fn words_in(raw: &[u8]) -> Words<'_>
     ensures { split_words result.rest.now ≡ words_in raw.now }
 {
     match Words::of(without_return(raw)) {
-        Ok(words) => words,
+        Ok(words) => without_times(words),
         Err(_) => Words { rest: &[] },
     }
+}
+
+/// Whether a byte can be one of a time.
+fn is_of_time(b: u8) -> bool
+    ensures { result ≡ is_of_time b }
+{
+    ((b >= 40 && b <= 58) && b != 42) || (b == 91 || b == 93)
+}
+
+/// Whether a word is one of a time.
+fn is_time(word: &[u8]) -> bool
+    ensures { result ≡ is_time word.now }
+{
+    word.iter().all(|b| is_of_time(*b))
+}
+
+/// Words without those of a time before them.
+fn without_times(words: Words<'_>) -> Words<'_>
+    ensures { split_words result.rest.now ≡ without_times (split_words words.entry.rest.now) }
+{
+    let mut left = words;
+    let mut rest = words;
+    while let Some(word) = rest.next_word() {
+        if !is_time(word) {
+            return left;
+        }
+        left = rest;
+    }
+    left
 }
 
 /// Whether words are on a region of the first domain.
@@ -79,14 +109,20 @@ fn is_other_region(mut words: Words<'_>) -> bool
     is_later_domain(domain) && after_text(region, b"Region").is_some()
 }
 
+/// Whether a line could be on a region: two of what a region's line has are in it.
+fn resembles_region(raw: &[u8]) -> bool
+    ensures { result ≡ resembles_region raw.now }
+{
+    let is_of_domain = mentions(raw, b"Domain");
+    let is_of_region = mentions(raw, b"Region");
+    (is_of_domain && is_of_region) || ((is_of_domain || is_of_region) && mentions(raw, b"-0x"))
+}
+
 /// Whether a line could be on a region and is on none: it was damaged on its way.
 fn is_damaged(raw: &[u8]) -> bool
     ensures { result ≡ is_damaged raw.now }
 {
-    if !mentions(raw, b"Domain") || !mentions(raw, b"Region") {
-        return false;
-    }
-    !is_region(words_in(raw)) && !is_other_region(words_in(raw))
+    resembles_region(raw) && !(is_region(words_in(raw)) || is_other_region(words_in(raw)))
 }
 
 /// Whether words say that the hart has no entries.
@@ -103,6 +139,66 @@ fn lacks_entries(mut words: Words<'_>) -> bool
         return false;
     };
     (is_text(pmp, b"PMP") && is_text(count, b"Count")) && is_text(number, b"0")
+}
+
+/// Whether words are about the hart that boots.
+fn is_of_hart(mut words: Words<'_>) -> bool
+    ensures { result ≡ is_of_hart (split_words words.entry.rest.now) }
+{
+    let Some(boot) = words.next_word() else {
+        return false;
+    };
+    let Some(hart) = words.next_word() else {
+        return false;
+    };
+    is_text(boot, b"Boot") && is_text(hart, b"HART")
+}
+
+/// Whether words say its domain, which is not the first.
+fn is_elsewhere(mut words: Words<'_>) -> bool
+    ensures { result ≡ is_elsewhere (split_words words.entry.rest.now) }
+{
+    let (Some(_), Some(_)) = (words.next_word(), words.next_word()) else {
+        return false;
+    };
+    let (Some(domain), Some(_)) = (words.next_word(), words.next_word()) else {
+        return false;
+    };
+    let Some(name) = words.next_word() else {
+        return false;
+    };
+    is_text(domain, b"Domain") && !is_text(name, b"root")
+}
+
+/// Whether a word names the instruction set of the other width.
+fn is_other_width(xlen: Xlen, word: &[u8]) -> bool
+    ensures { result ≡ is_other_width xlen word.now }
+{
+    match xlen {
+        Xlen::Rv32 => begins_with(word, b"rv64"),
+        Xlen::Rv64 => begins_with(word, b"rv32"),
+    }
+}
+
+/// Whether none of the words does.
+fn are_of_width(xlen: Xlen, words: Words<'_>) -> bool
+    ensures { result ≡ list_all (λ word. not (is_other_width xlen word))
+        (split_words words.entry.rest.now) }
+{
+    let mut left = words;
+    while let Some(word) = left.next_word() {
+        if is_other_width(xlen, word) {
+            return false;
+        }
+    }
+    true
+}
+
+/// Whether words say that the hart that boots is none that these registers are of.
+fn is_another_hart(xlen: Xlen, words: Words<'_>) -> bool
+    ensures { result ≡ is_another_hart xlen (split_words words.entry.rest.now) }
+{
+    is_of_hart(words) && (is_elsewhere(words) || !are_of_width(xlen, words))
 }
 
 /// The number of a region.
@@ -200,7 +296,7 @@ fn said_by(xlen: Xlen, words: Words<'_>) -> Result<Option<RegionEntry>, NotUnder
             None => Err(NotUnderstood),
         };
     }
-    if is_register(words) || lacks_entries(words) {
+    if is_register(words) || (lacks_entries(words) || is_another_hart(xlen, words)) {
         Err(NotUnderstood)
     } else {
         Ok(None)

@@ -1,7 +1,7 @@
 //! Which words could be about the protection, which name a hart, and the values of registers.
 
 ghost use Rattle.std.specs.Prelude.{◌≡◌};
-ghost use Rattle.register_text.specs.Names.{is_about_pmp, is_csr_of_pmp, is_padded, mentions, names_hart, numbers_csr, unpadded, value_of};
+ghost use Rattle.register_text.specs.Names.{is_about_pmp, is_csr_of_pmp, is_padded, mentions, names_hart, numbers_csr, resembles_pmp, unpadded, value_of};
 
 use text_lines::{after_name, begins_with, is_name, number};
 
@@ -39,11 +39,19 @@ fn numbers_csr(word: &[u8]) -> bool
     }
 }
 
+/// Whether a word has some of the name of a register of the protection.
+fn resembles_pmp(word: &[u8]) -> bool
+    ensures { result ≡ resembles_pmp word.now }
+{
+    (mentions(word, b"mpaddr") || mentions(word, b"mpcfg"))
+        || (mentions(word, b"msec") || mentions(word, b"ccfg"))
+}
+
 /// Whether a word could be about the protection.
 pub(crate) fn is_about_pmp(word: &[u8]) -> bool
     ensures { result ≡ is_about_pmp word.now }
 {
-    mentions(word, b"pmp") || (mentions(word, b"mseccfg") || numbers_csr(word))
+    mentions(word, b"pmp") || (resembles_pmp(word) || numbers_csr(word))
 }
 
 /// Whether a word names a hart where a number follows it.

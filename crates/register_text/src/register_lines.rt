@@ -9,7 +9,7 @@ ghost use Rattle.text_lines.specs.Numbers.{number_of};
 ghost use Rattle.std.specs.List.{list_all};
 ghost use Rattle.std.specs.Option.{option_and_then};
 ghost use Rattle.std.specs.Str.{str_eq_ignore_ascii_case};
-ghost use Rattle.register_text.specs.Lines.{IsInside, address_setting, begins_with_letter, equals_at, has_leading_zero, index_of, is_between, is_foreign, is_harmless, is_letter, is_no_name, is_other, line_sets, named_setting, other_setting, pair_by_words, pair_setting, plain_setting, register_by_word, register_setting, set_by_many, set_by_three, set_by_words, value_word, width_sign, without_colon, word_setting};
+ghost use Rattle.register_text.specs.Lines.{IsInside, address_setting, are_passed, begins_with_letter, equals_at, has_leading_zero, has_no_number, index_of, is_dirty, is_index, is_index_byte, is_other_name, set_or_passed, without_index, is_between, is_foreign, is_harmless, is_letter, is_no_name, is_other, line_sets, named_setting, other_setting, pair_by_words, pair_setting, plain_setting, register_by_word, register_setting, set_by_many, set_by_three, set_by_words, value_word, width_sign, without_colon, word_setting};
 
 use crate::names::{is_about_pmp, names_hart, unpadded, value_of};
 use crate::setting::Setting;
@@ -180,7 +180,7 @@ fn named_setting(xlen: Xlen, name: &[u8], value: u64) -> Option<Setting>
     ensures inside { IfSome result (IsInside xlen) }
 {
     if is_text(name, b"entries") {
-        return Some(Setting::Nothing);
+        return Some(Setting::Count { entries: value });
     }
     register_setting(xlen, name, value)
 }
@@ -349,6 +349,19 @@ fn set_by_many(first: &[u8], second: &[u8], third: &[u8], rest: Words<'_>) -> Op
     }
 }
 
+/// Whether one word is left, which OpenOCD writes behind a value that was changed and not yet written.
+fn is_dirty(mut words: Words<'_>) -> bool
+    ensures { result ≡ is_dirty (split_words words.entry.rest.now) }
+{
+    let Some(word) = words.next_word() else {
+        return false;
+    };
+    match words.next_word() {
+        Some(_) => false,
+        None => is_text(word, b"(dirty)"),
+    }
+}
+
 /// What words set.
 fn set_by_words(xlen: Xlen, mut words: Words<'_>) -> Option<Setting>
     ensures value { result ≡ set_by_words xlen (split_words words.entry.rest.now) }
@@ -364,10 +377,89 @@ fn set_by_words(xlen: Xlen, mut words: Words<'_>) -> Option<Setting>
         return set_by_two(xlen, first, second);
     };
     let rest = words;
-    match words.next_word() {
-        Some(_) => set_by_many(first, second, third, rest),
-        None => set_by_three(xlen, first, second, third),
+    let Some(_) = words.next_word() else {
+        return set_by_three(xlen, first, second, third);
+    };
+    if is_dirty(rest) {
+        set_by_three(xlen, first, second, third)
+    } else {
+        set_by_many(first, second, third, rest)
     }
+}
+
+/// Whether a byte can follow the first of such a number: a digit, or the last parenthesis.
+fn is_index_byte(b: u8) -> bool
+    ensures { result ≡ is_index_byte b }
+{
+    (b >= 48 && b <= 57) || b == 41
+}
+
+fn are_index_bytes(bytes: &[u8]) -> bool
+    ensures { result ≡ list_all is_index_byte bytes.now }
+{
+    bytes.iter().all(|b| is_index_byte(*b))
+}
+
+/// Whether a word is the number under which OpenOCD lists a register.
+fn is_index(word: &[u8]) -> bool
+    ensures { result ≡ is_index word.now }
+{
+    let [first, rest @ ..] = word else {
+        return false;
+    };
+    *first == b'(' && are_index_bytes(rest)
+}
+
+/// Words without such a number before them.
+fn without_index(words: Words<'_>) -> Words<'_>
+    ensures { split_words result.rest.now ≡ without_index (split_words words.entry.rest.now) }
+{
+    let mut rest = words;
+    match rest.next_word() {
+        Some(first) if is_index(first) => rest,
+        _ => words,
+    }
+}
+
+/// Whether a word comes in the place of a value that is no number.
+fn has_no_number(word: &[u8]) -> bool
+    ensures { result ≡ has_no_number word.now }
+{
+    is_text(word, b"<unavailable>") || (begins_with(word, b"{") || begins_with(word, b"(/"))
+}
+
+/// Whether a word is a heading of OpenOCD, or the name of another register.
+fn is_other_name(word: &[u8]) -> bool
+    ensures { result ≡ is_other_name word.now }
+{
+    let name = without_colon(word);
+    is_text(word, b"=====") || (is_foreign(name) && !names_hart(name))
+}
+
+/// Whether words are passed over without a number.
+fn are_passed(words: Words<'_>) -> bool
+    ensures { result ≡ are_passed (split_words words.entry.rest.now) }
+{
+    let mut left = words;
+    let Some(first) = left.next_word() else {
+        return false;
+    };
+    let Some(second) = left.next_word() else {
+        return false;
+    };
+    are_no_names(words)
+        && (is_other_name(first) && (has_no_number(second) || is_text(first, b"=====")))
+}
+
+/// What words set, or that they are passed over.
+fn set_or_passed(xlen: Xlen, words: Words<'_>) -> Option<Setting>
+    ensures value { result ≡ set_or_passed xlen (split_words words.entry.rest.now) }
+    ensures inside { IfSome result (IsInside xlen) }
+{
+    if are_passed(words) {
+        return Some(Setting::Other);
+    }
+    set_by_words(xlen, words)
 }
 
 /// What a line sets, where it is understood, by the width of the hart's registers.
@@ -376,7 +468,7 @@ pub fn line_sets(xlen: Xlen, line: &[u8]) -> Result<Setting, NotUnderstood>
     ensures inside { IfOk result (IsInside xlen) }
 {
     let words = Words::of(line)?;
-    match set_by_words(xlen, words) {
+    match set_or_passed(xlen, without_index(words)) {
         Some(setting) => Ok(setting),
         None => Err(NotUnderstood),
     }

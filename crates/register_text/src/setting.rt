@@ -1,9 +1,9 @@
 //! What a line of a listing sets, and what the listing says after it.
 
-ghost use Rattle.std.specs.Prelude.{◌≡◌, ◌≤◌, ◌+◌};
+ghost use Rattle.std.specs.Prelude.{◌≡◌, ◌<◌, ◌≤◌, ◌+◌, ◌-◌, ◌^◌};
 ghost use Rattle.pmp_encoding.specs.Widths.{word_entries};
 ghost use Rattle.register_text.specs.Lines.{IsInside};
-ghost use Rattle.register_text.specs.Listings.{first_of, nothing_set, registers_by, set_by, set_bytes};
+ghost use Rattle.register_text.specs.Listings.{count_by, first_of, is_of_pmp, nothing_set, pairs_by, passed_by, registers_by, security_by, set_by, set_bytes};
 
 use crate::listing::Listing;
 use pmp_encoding::Xlen;
@@ -12,8 +12,13 @@ use pmp_match::Registers;
 /// What a line sets. Places are below 64.
 #[derive(Clone, Copy, Debug, PartialEq, Eq)]
 pub enum Setting {
-    /// A line without words, or a count of entries.
+    /// A line without words.
     Nothing,
+    /// How many entries are listed, each by its pair.
+    Count {
+        /// How many.
+        entries: u64,
+    },
     /// Another register, which is passed over.
     Other,
     /// `mseccfg`, the register of Smepmp.
@@ -58,6 +63,9 @@ pub(crate) fn nothing_set(xlen: Xlen) -> Listing
         },
         mseccfg: 0,
         passed: None,
+        entries: None,
+        pairs: 0,
+        is_set: false,
     }
 }
 
@@ -93,7 +101,8 @@ impl Setting {
     {
         let mut registers = *registers;
         match self {
-            Setting::Nothing | Setting::Other | Setting::Security { .. } => {}
+            Setting::Nothing | Setting::Count { .. } | Setting::Other | Setting::Security { .. } =>
+                {}
             Setting::Pair {
                 place,
                 cfg,
@@ -111,27 +120,67 @@ impl Setting {
         registers
     }
 
-    /// What the listing says after the setting of line n.
-    pub(crate) fn of(self, listing: &Listing, n: u64) -> Listing
-        requires { IsInside listing.now.registers.xlen self }
-        ensures { result ≡ set_by listing.now n self }
+    /// `mseccfg` after it.
+    fn security(self, mseccfg: u64) -> u64
+        ensures { result ≡ security_by mseccfg self }
     {
         match self {
-            Setting::Other => Listing {
-                registers: listing.registers,
-                mseccfg: listing.mseccfg,
-                passed: first_of(listing.passed, n),
-            },
-            Setting::Security { value } => Listing {
-                registers: listing.registers,
-                mseccfg: value,
-                passed: listing.passed,
-            },
-            _ => Listing {
-                registers: self.registers(&listing.registers),
-                mseccfg: listing.mseccfg,
-                passed: listing.passed,
-            },
+            Setting::Security { value } => value,
+            _ => mseccfg,
+        }
+    }
+
+    /// The first line that is passed over after it, where it is that of line n.
+    fn passed(self, passed: Option<u64>, n: u64) -> Option<u64>
+        ensures { result ≡ passed_by passed n self }
+    {
+        match self {
+            Setting::Other => first_of(passed, n),
+            _ => passed,
+        }
+    }
+
+    /// How many entries should be listed after it.
+    fn count(self, entries: Option<u64>) -> Option<u64>
+        ensures { result ≡ count_by entries self }
+    {
+        match self {
+            Setting::Count { entries } => Some(entries),
+            _ => entries,
+        }
+    }
+
+    /// How many pairs are listed after it.
+    fn pairs(self, pairs: u64) -> u64
+        requires { pairs < 2 ^ 64 - 1 }
+        ensures { result ≡ pairs_by pairs self }
+    {
+        match self {
+            Setting::Pair { .. } => pairs + 1,
+            _ => pairs,
+        }
+    }
+
+    /// Whether it is about the protection.
+    fn is_of_pmp(self) -> bool
+        ensures { result ≡ is_of_pmp self }
+    {
+        !matches!(self, Setting::Nothing | Setting::Other)
+    }
+
+    /// What the listing says after the setting of line n.
+    pub(crate) fn of(self, listing: &Listing, n: u64) -> Listing
+        requires inside { IsInside listing.now.registers.xlen self }
+        requires few { listing.now.pairs < 2 ^ 64 - 1 }
+        ensures { result ≡ set_by listing.now n self }
+    {
+        Listing {
+            registers: self.registers(&listing.registers),
+            mseccfg: self.security(listing.mseccfg),
+            passed: self.passed(listing.passed, n),
+            entries: self.count(listing.entries),
+            pairs: self.pairs(listing.pairs),
+            is_set: listing.is_set || self.is_of_pmp(),
         }
     }
 }

@@ -33,3 +33,7 @@ returns-in-Map c = rw c.in-Map.is refl
 pub returns-in-Lint : goal.returns-in-Lint
 unfolding with_arguments
 returns-in-Lint c = rw c.in-Lint.is refl
+
+pub returns-in-Measure : goal.returns-in-Measure
+unfolding with_arguments
+returns-in-Measure c = rw c.in-Measure.is refl
