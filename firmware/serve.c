@@ -4,9 +4,6 @@
  */
 #include "board.h"
 
-/* The proved loop (crates/pmpmon_monitor). */
-int64_t pmpmon_serve(void);
-
 struct world worlds[MOST_HARTS];
 struct bank banks[MOST_HARTS];
 uint64_t world_number[MOST_HARTS];
@@ -176,9 +173,8 @@ _Noreturn void trapped(uint64_t cause, uint64_t pc, uint64_t value)
     end_board(1);
 }
 
-_Noreturn void serve(void)
+_Noreturn void served(int64_t told)
 {
-    int64_t told = pmpmon_serve();
     put("monitor: the loop ended with ");
     put_number(told);
     put("\n");

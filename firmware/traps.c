@@ -117,11 +117,10 @@ _Noreturn void ended(const struct end_frame *end)
     end_board(1);
 }
 
-_Noreturn void boot(uint64_t hart, uint64_t tree)
+void boot(uint64_t hart, uint64_t tree)
 {
     (void)hart;
     device_tree = tree;
     forget_private();
     find_board(tree);
-    serve();
 }

@@ -196,7 +196,7 @@ def booted(image, payload, harts, *more, seconds=240):
 
 
 def built(platform, out, flags="", pool=""):
-    subprocess.run([FIRMWARE / "build", platform, out], check=True, env={**os.environ, "CFLAGS": flags, "POOL": pool})
+    subprocess.run([FIRMWARE / "build", platform, out], check=True, env={**os.environ, "CFLAGS": flags, "POOL": pool, "IMAGE": "pmpmon-virt.elf"})
 
 
 def worlds(folder, told):
@@ -289,12 +289,12 @@ def devices(folder, told):
 
 
 def storm(folder, told):
-    """Four harts of a host that do at random what may race, for STORM_SECONDS (3, or as the environment has it)."""
+    """Four harts of a host that do at random what may race, for STORM_SECONDS (2, or as the environment has it)."""
     four = folder / "four.toml"
     four.write_text((FIRMWARE / "platform.toml").read_text().replace("harts = 1\n", "harts = 4\n"))
     built(four, folder / "four")
     payload = host(folder / "storm.elf", "harts.S", "two_hosts.S", "storm.c", flags=("-DHARTS=4",))
-    seconds = int(os.environ.get("STORM_SECONDS", "3"))
+    seconds = int(os.environ.get("STORM_SECONDS", "2"))
     said = booted(folder / "four/pmpmon-virt.elf", payload, 4, *kind(seconds), seconds=60 + 4 * seconds)
     turns = [int(it) for it in re.findall(r"turns (\d+)", said)]
     right = said.endswith("stood still 0\nwrong 0\nodd 0\n") and min(turns, default=0) and "made 0\n" not in said
