@@ -22,11 +22,11 @@ def count(path):
 
 
 def table():
-    """The files with their lines, the largest first, as a table of the README, with a blank line at each end."""
+    """The files with their lines, the largest first, as a table of the README."""
     counts = {it.name: count(it) for it in FIRMWARE.iterdir() if it.suffix in KINDS}
     rows = [f"| `{name}` | {number} |" for name, number in sorted(counts.items(), key=lambda it: (-it[1], it[0]))]
-    return "\n".join(["\n| File | Lines |", "|---|---|", *rows, f"| all | {sum(counts.values())} |\n", ""])
+    return "\n".join(["| File | Lines |", "|---|---|", *rows, f"| all | {sum(counts.values())} |"])
 
 
 if __name__ == "__main__":
-    print(table().strip())
+    print(table())
