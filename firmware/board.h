@@ -50,6 +50,8 @@ void private_answered(uint64_t status, uint64_t zero_first, uint64_t zero_count)
 void forget_private(void);
 /* The board ends, or begins anew, and nothing private is left. */
 _Noreturn void end_board(uint64_t status);
+/* The same, with the words that say why, and a number. */
+_Noreturn void end_because(const char *why, int64_t number);
 _Noreturn void begin_anew(void);
 
 /* traps.c: runs the hart's world until the monitor has to know of a trap, and says which it is: TAG_CALL or TAG_STOP. */

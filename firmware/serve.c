@@ -175,8 +175,5 @@ _Noreturn void trapped(uint64_t cause, uint64_t pc, uint64_t value)
 
 _Noreturn void served(int64_t told)
 {
-    put("monitor: the loop ended with ");
-    put_number(told);
-    put("\n");
-    end_board(1);
+    end_because("the loop ended with ", told);
 }

@@ -325,11 +325,11 @@ def ends(folder, told):
         told(f"{name}: {'the host runs' if want == HOST else 'the board ends and says so'}", said == want, "" if said == want else said)
     built(folder / "two.toml", folder / "late", "-DTEN_SECONDS=0ul")
     said = booted(folder / "late/pmpmon-virt.elf", folder / "race.elf", 2)
-    told("a hart that does not stop in time ends the board", said == "monitor: a hart does not stop\n", said)
+    told("a hart that does not stop in time ends the board", said == "monitor: a hart does not stop, asked by hart 0\n", said)
     with Wired(image, folder / "reset-1.elf", 1, kind=5) as board:
         board.until("it waits\n")
         board.written(symbol(image, "stack_guard"), bytes(8))
-        right = board.has_ended() and board.said.endswith("monitor: the stack is full\n")
+        right = board.has_ended() and board.said.endswith("monitor: the stack is full on hart 0\n")
         told("a stack that has grown into its guard ends the board", right, "" if right else board.said)
     said = subprocess.run(["riscv64-unknown-elf-readelf", "-lW", image], capture_output=True, text=True).stdout
     flags = re.findall(r"  LOAD .*0x[0-9a-f]+ ([RWE ]{3}) 0x", said)
