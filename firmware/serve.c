@@ -95,8 +95,8 @@ static void keep_bank(unsigned hart, const struct answer_frame *answer)
     struct bank *bank = &banks[hart];
     if (!differ(bank->cfg, answer->cfg, ENTRIES / 8) && !differ(bank->addr, answer->addr, ENTRIES))
         return;
-    memcpy(bank->cfg, answer->cfg, sizeof answer->cfg);
-    memcpy(bank->addr, answer->addr, sizeof answer->addr);
+    memcpy(bank->cfg, answer->cfg, ENTRIES);
+    memcpy(bank->addr, answer->addr, 8 * ENTRIES);
     is_stale[hart] = 1;
 }
 
