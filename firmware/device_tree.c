@@ -392,6 +392,44 @@ static int is_status(const struct walk *walk)
     return has_name(walk, walk->here + 4, NAMES + STATUS);
 }
 
+/* Extensions whose bits in `menvcfg`, `mseccfg` or `mstateen0` stay zero, or that want calls that are not there (control.c). */
+static const char *const closed_extensions[] = {"svadu", "zkr", "zicfilp", "zicfiss", "ssnpm", "sscofpmf", "smcdeleg", "ssccfg", "ssctr", "ssdbltrp"};
+
+static int is_closed_extension(const uint8_t *name, uint32_t size)
+{
+    for (unsigned i = 0; i < sizeof closed_extensions / sizeof closed_extensions[0]; i++) {
+        uint32_t n = 0;
+        while (n < size && closed_extensions[i][n] == name[n] && name[n])
+            n++;
+        if (n == size && !closed_extensions[i][n])
+            return 1;
+    }
+    return 0;
+}
+
+/* A property that names a hart's extensions, after one another with `_` or each with the byte that ends it, without those. */
+static void put_extensions(struct out *out, const struct walk *walk)
+{
+    const uint8_t *text = walk->tree + walk->here + 12;
+    uint32_t start = out->size, size = load(walk->tree + walk->here + 4), next;
+    put_bytes(out, walk->tree + walk->here, 12);
+    for (uint32_t at = 0; at < size; at = next) {
+        /* (a separator and the name after it) */
+        for (next = at + 1; next < size && text[next] && text[next] != '_';)
+            next++;
+        if (!is_closed_extension(text + at + 1, next - at - 1))
+            put_bytes(out, text + at, next - at);
+    }
+    if (!out->is_full)
+        store(written + start + 4, out->size - start - 12);
+    put_bytes(out, "\0\0\0", -out->size & 3);
+}
+
+static int has_extensions(const struct walk *walk)
+{
+    return is_hart(walk) && (has_name(walk, walk->here + 4, "riscv,isa") || has_name(walk, walk->here + 4, "riscv,isa-extensions"));
+}
+
 /* The tokens up to the end of the root; whether it came there. */
 static int put_nodes(struct out *out, struct walk *walk, const struct platform_frame *platform, const struct reserved *ranges, uint32_t count)
 {
@@ -400,7 +438,9 @@ static int put_nodes(struct out *out, struct walk *walk, const struct platform_f
     while ((token = step(walk)) && has_cells(&walk->path[0])) {
         if (token == END_NODE && !is_put)
             is_put = put_ranges(out, walk, ranges, count);
-        if (token != PROP || closed != walk->depth || !is_status(walk))
+        if (token == PROP && has_extensions(walk))
+            put_extensions(out, walk);
+        else if (token != PROP || closed != walk->depth || !is_status(walk))
             put_bytes(out, walk->tree + walk->here, walk->at - walk->here);
         if (token == BEGIN_NODE && is_closed(walk, platform)) {
             closed = walk->depth;
