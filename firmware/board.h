@@ -32,7 +32,7 @@ uint64_t clear_beyond(void);
 /* entries.c: the board ends where the hart that calls has not the entries of the platform. */
 void check_entries(void);
 
-/* serve.c: the loop of the monitor, from its first frame on. It returns only where nothing can be served. */
+/* serve.c: what the loop of the monitor has of the board, by hart. */
 extern struct world worlds[MOST_HARTS];
 extern struct bank banks[MOST_HARTS];
 extern uint64_t world_number[MOST_HARTS];
@@ -42,7 +42,6 @@ extern uint8_t is_stale[MOST_HARTS];
 int differ(const uint64_t *a, const uint64_t *b, unsigned words);
 /* Makes pages of memory that are not the monitor's zero. */
 void make_zero(uint64_t first, uint64_t count);
-_Noreturn void serve(void);
 
 /* reset.c: pages were asked for, which a creation that is answered makes private; pages were made zero. */
 void private_asked(uint64_t first, uint64_t count);
@@ -51,6 +50,8 @@ void private_answered(uint64_t status, uint64_t zero_first, uint64_t zero_count)
 void forget_private(void);
 /* The board ends, or begins anew, and nothing private is left. */
 _Noreturn void end_board(uint64_t status);
+/* The same, with the words that say why, and a number. */
+_Noreturn void end_because(const char *why, int64_t number);
 _Noreturn void begin_anew(void);
 
 /* traps.c: runs the hart's world until the monitor has to know of a trap, and says which it is: TAG_CALL or TAG_STOP. */

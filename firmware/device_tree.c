@@ -7,23 +7,10 @@
 
 void *memcpy(void *to, const void *from, size_t n);
 
-/* Section 5.2: the header, in words of 32 bits with the highest byte first. */
+/* Section 5.2: the header, in words of 32 bits with the highest byte first; where each of them is. */
 #define MAGIC 0xd00dfeedu
-enum {
-    WORD_MAGIC,
-    WORD_SIZE,
-    WORD_STRUCT,
-    WORD_STRINGS,
-    WORD_RESERVED,
-    WORD_VERSION,
-    WORD_COMPATIBLE,
-    WORD_BOOT_HART,
-    WORD_STRINGS_SIZE,
-    WORD_STRUCT_SIZE,
-    HEADER_WORDS
-};
-#define HEADER (4 * HEADER_WORDS)
 #define VERSION 17
+enum { AT_SIZE = 4, AT_NODES = 8, AT_NAMES = 12, AT_RESERVED = 16, AT_VERSION = 20, AT_COMPATIBLE = 24, AT_NAMES_SIZE = 32, AT_NODES_SIZE = 36, HEADER = 40 };
 /* What a boot loader adds to the tree in place, as U-Boot does, has room in so many bytes. */
 #define SLACK 4096u
 /* Section 5.4.1: the tokens of the structure block. */
@@ -75,14 +62,14 @@ static int begin(struct walk *walk, const uint8_t *tree, uint64_t room)
     *walk = (struct walk){.tree = tree, .path = {{.address_cells = 2, .size_cells = 1}}};
     if ((uintptr_t)tree % 8 || room < HEADER || load(tree) != MAGIC)
         return 0;
-    if (load(tree + 4 * WORD_VERSION) < VERSION || load(tree + 4 * WORD_COMPATIBLE) > VERSION)
+    if (load(tree + AT_VERSION) < VERSION || load(tree + AT_COMPATIBLE) > VERSION)
         return 0;
-    walk->size = load(tree + 4 * WORD_SIZE);
-    walk->reserved = load(tree + 4 * WORD_RESERVED);
-    walk->at = walk->nodes = load(tree + 4 * WORD_STRUCT);
-    nodes_size = load(tree + 4 * WORD_STRUCT_SIZE);
-    walk->names = load(tree + 4 * WORD_STRINGS);
-    walk->names_size = load(tree + 4 * WORD_STRINGS_SIZE);
+    walk->size = load(tree + AT_SIZE);
+    walk->reserved = load(tree + AT_RESERVED);
+    walk->at = walk->nodes = load(tree + AT_NODES);
+    nodes_size = load(tree + AT_NODES_SIZE);
+    walk->names = load(tree + AT_NAMES);
+    walk->names_size = load(tree + AT_NAMES_SIZE);
     if (walk->size > room || walk->reserved < HEADER || walk->reserved > walk->nodes || walk->reserved % 8 || walk->nodes % 4)
         return 0;
     if (!is_inside(walk->names, walk->names_size, walk->size) || !is_inside(walk->nodes, nodes_size, walk->names))
@@ -254,14 +241,19 @@ const char *read_board(const uint8_t *tree, uint64_t room, struct board_in_tree 
     return NOT_READ;
 }
 
+static int has(uint64_t range, uint64_t range_size, uint64_t base, uint64_t size)
+{
+    return base - range < range_size && size <= range_size - (base - range);
+}
+
 /* Whether all of some bytes are in a range of the platform's devices or memory. */
 static int is_hosts(const struct platform_frame *platform, uint64_t base, uint64_t size)
 {
     for (uint64_t i = 0; i < platform->device_count; i++)
-        if (base - platform->device[i].base < platform->device[i].size && size <= platform->device[i].size - (base - platform->device[i].base))
+        if (has(platform->device[i].base, platform->device[i].size, base, size))
             return 1;
     for (uint64_t i = 0; i < platform->ram_count; i++)
-        if (base - platform->ram[i].base < platform->ram[i].size && size <= platform->ram[i].size - (base - platform->ram[i].base))
+        if (has(platform->ram[i].base, platform->ram[i].size, base, size))
             return 1;
     return 0;
 }
@@ -400,6 +392,44 @@ static int is_status(const struct walk *walk)
     return has_name(walk, walk->here + 4, NAMES + STATUS);
 }
 
+/* Extensions whose bits in `menvcfg`, `mseccfg` or `mstateen0` stay zero, or that want calls that are not there (control.c). */
+static const char *const closed_extensions[] = {"svadu", "zkr", "zicfilp", "zicfiss", "ssnpm", "sscofpmf", "smcdeleg", "ssccfg", "ssctr", "ssdbltrp"};
+
+static int is_closed_extension(const uint8_t *name, uint32_t size)
+{
+    for (unsigned i = 0; i < sizeof closed_extensions / sizeof closed_extensions[0]; i++) {
+        uint32_t n = 0;
+        while (n < size && closed_extensions[i][n] == name[n] && name[n])
+            n++;
+        if (n == size && !closed_extensions[i][n])
+            return 1;
+    }
+    return 0;
+}
+
+/* A property that names a hart's extensions, after one another with `_` or each with the byte that ends it, without those. */
+static void put_extensions(struct out *out, const struct walk *walk)
+{
+    const uint8_t *text = walk->tree + walk->here + 12;
+    uint32_t start = out->size, size = load(walk->tree + walk->here + 4), next;
+    put_bytes(out, walk->tree + walk->here, 12);
+    for (uint32_t at = 0; at < size; at = next) {
+        /* (a separator and the name after it) */
+        for (next = at + 1; next < size && text[next] && text[next] != '_';)
+            next++;
+        if (!is_closed_extension(text + at + 1, next - at - 1))
+            put_bytes(out, text + at, next - at);
+    }
+    if (!out->is_full)
+        store(written + start + 4, out->size - start - 12);
+    put_bytes(out, "\0\0\0", -out->size & 3);
+}
+
+static int has_extensions(const struct walk *walk)
+{
+    return is_hart(walk) && (has_name(walk, walk->here + 4, "riscv,isa") || has_name(walk, walk->here + 4, "riscv,isa-extensions"));
+}
+
 /* The tokens up to the end of the root; whether it came there. */
 static int put_nodes(struct out *out, struct walk *walk, const struct platform_frame *platform, const struct reserved *ranges, uint32_t count)
 {
@@ -408,7 +438,9 @@ static int put_nodes(struct out *out, struct walk *walk, const struct platform_f
     while ((token = step(walk)) && has_cells(&walk->path[0])) {
         if (token == END_NODE && !is_put)
             is_put = put_ranges(out, walk, ranges, count);
-        if (token != PROP || closed != walk->depth || !is_status(walk))
+        if (token == PROP && has_extensions(walk))
+            put_extensions(out, walk);
+        else if (token != PROP || closed != walk->depth || !is_status(walk))
             put_bytes(out, walk->tree + walk->here, walk->at - walk->here);
         if (token == BEGIN_NODE && is_closed(walk, platform)) {
             closed = walk->depth;
@@ -428,11 +460,11 @@ static void put_ends(struct out *out, const struct walk *walk)
     uint32_t nodes = HEADER + walk->nodes - walk->reserved;
     put_word(out, END);
     memcpy(written, walk->tree, HEADER);
-    store(written + 4 * WORD_RESERVED, HEADER);
-    store(written + 4 * WORD_STRUCT, nodes);
-    store(written + 4 * WORD_STRUCT_SIZE, out->size - nodes);
-    store(written + 4 * WORD_STRINGS, out->size);
-    store(written + 4 * WORD_STRINGS_SIZE, walk->names_size + (uint32_t)sizeof NAMES);
+    store(written + AT_RESERVED, HEADER);
+    store(written + AT_NODES, nodes);
+    store(written + AT_NODES_SIZE, out->size - nodes);
+    store(written + AT_NAMES, out->size);
+    store(written + AT_NAMES_SIZE, walk->names_size + (uint32_t)sizeof NAMES);
     put_bytes(out, walk->tree + walk->names, walk->names_size);
     put_bytes(out, NAMES, sizeof NAMES);
 }
@@ -450,7 +482,7 @@ const char *write_tree(uint8_t *tree, uint64_t room, const struct platform_frame
     put_ends(&out, &walk);
     if (out.is_full || out.size > room)
         return NO_ROOM;
-    store(written + 4 * WORD_SIZE, out.size + SLACK <= room ? out.size + SLACK : out.size);
+    store(written + AT_SIZE, out.size + SLACK <= room ? out.size + SLACK : out.size);
     memcpy(tree, written, out.size);
     return 0;
 }

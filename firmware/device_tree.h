@@ -30,7 +30,8 @@ struct reserved {
 /*
  * Writes the tree as the host gets it in its place, where it may have `room` bytes. Each range is a child of /reserved-memory
  * with `no-map` (sections 3.5 and 5). Harts that the platform has not, and devices that it does not give to the host, have the
- * status "disabled" (section 2.3.4). After its end are some bytes for who adds to it in place, where there is room for them. It
+ * status "disabled" (section 2.3.4). Extensions that the monitor
+ * closes are not named. After its end are some bytes for who adds to it in place, where there is room for them. It
  * answers 0, or why the tree is left as it was.
  */
 const char *write_tree(uint8_t *tree, uint64_t room, const struct platform_frame *platform, const struct reserved *ranges, uint32_t count);

@@ -41,10 +41,6 @@ static int are_there(void)
 
 void check_entries(void)
 {
-    if (are_there())
-        return;
-    put("monitor: the entries of a hart are not those of the platform: hart ");
-    put_number(this_hart());
-    put("\n");
-    end_board(1);
+    if (!are_there())
+        end_because("the entries of a hart are not those of the platform: hart ", this_hart());
 }

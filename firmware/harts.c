@@ -43,10 +43,8 @@ int are_stopped(uint64_t harts)
 
 void stop_harts(uint64_t harts)
 {
-    if (are_stopped(harts))
-        return;
-    put("monitor: a hart does not stop\n");
-    end_board(1);
+    if (!are_stopped(harts))
+        end_because("a hart does not stop, asked by hart ", this_hart());
 }
 
 static volatile uint8_t is_interrupted[MOST_HARTS];
@@ -87,12 +85,8 @@ static void wait_for(unsigned hart)
 {
     uint64_t last = timer_now() + TEN_SECONDS;
     while (!arrived[hart])
-        if (timer_now() > last) {
-            put("monitor: the platform has a hart that does not come: ");
-            put_number(hart);
-            put("\n");
-            power_off(1);
-        }
+        if (timer_now() > last)
+            end_because("the platform has a hart that does not come: ", hart);
 }
 
 void start_others(void)

@@ -18,7 +18,8 @@ size_t heap_most, heap_blocks, heap_calls, heap_refused_call;
 
 void *memcpy(void *to, const void *from, size_t n);
 
-static struct tried take(size_t bytes)
+/* No frame of its own: it is the deepest call of a boot. */
+static __attribute__((noinline)) struct tried take(size_t bytes)
 {
     uint64_t class = 0;
     heap_calls++;

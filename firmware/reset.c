@@ -75,6 +75,15 @@ _Noreturn void end_board(uint64_t status)
     power_off(status);
 }
 
+_Noreturn void end_because(const char *why, int64_t number)
+{
+    put("monitor: ");
+    put(why);
+    put_number(number);
+    put("\n");
+    end_board(1);
+}
+
 _Noreturn void begin_anew(void)
 {
     forget();

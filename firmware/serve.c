@@ -4,9 +4,6 @@
  */
 #include "board.h"
 
-/* The proved loop (crates/pmpmon_monitor). */
-int64_t pmpmon_serve(void);
-
 struct world worlds[MOST_HARTS];
 struct bank banks[MOST_HARTS];
 uint64_t world_number[MOST_HARTS];
@@ -98,8 +95,8 @@ static void keep_bank(unsigned hart, const struct answer_frame *answer)
     struct bank *bank = &banks[hart];
     if (!differ(bank->cfg, answer->cfg, ENTRIES / 8) && !differ(bank->addr, answer->addr, ENTRIES))
         return;
-    memcpy(bank->cfg, answer->cfg, sizeof answer->cfg);
-    memcpy(bank->addr, answer->addr, sizeof answer->addr);
+    memcpy(bank->cfg, answer->cfg, ENTRIES);
+    memcpy(bank->addr, answer->addr, 8 * ENTRIES);
     is_stale[hart] = 1;
 }
 
@@ -176,11 +173,7 @@ _Noreturn void trapped(uint64_t cause, uint64_t pc, uint64_t value)
     end_board(1);
 }
 
-_Noreturn void serve(void)
+_Noreturn void served(int64_t told)
 {
-    int64_t told = pmpmon_serve();
-    put("monitor: the loop ended with ");
-    put_number(told);
-    put("\n");
-    end_board(1);
+    end_because("the loop ended with ", told);
 }

@@ -21,7 +21,9 @@ _start:
 1:  sd      t1, (t0)
     addi    t0, t0, 8
     bltu    t0, sp, 1b
-    call    boot                # boot(hart, device tree): it does not return
+    call    boot                # boot(hart, device tree)
+    call    pmpmon_serve        # the proved loop: it returns only where nothing can be served
+    call    served              # served(what it told): it does not return
 
 /* harts_run is 0, then the number of harts that the platform has. */
 other:

@@ -71,10 +71,8 @@ static int is_of_board(struct world *world, unsigned hart)
 static void check_stack(void)
 {
     extern const uint64_t stack_guard;
-    if (stack_guard == STACK_MARK)
-        return;
-    put("monitor: the stack is full\n");
-    end_board(1);
+    if (stack_guard != STACK_MARK)
+        end_because("the stack is full on hart ", this_hart());
 }
 
 uint64_t next_trap(void)
@@ -117,11 +115,10 @@ _Noreturn void ended(const struct end_frame *end)
     end_board(1);
 }
 
-_Noreturn void boot(uint64_t hart, uint64_t tree)
+void boot(uint64_t hart, uint64_t tree)
 {
     (void)hart;
     device_tree = tree;
     forget_private();
     find_board(tree);
-    serve();
 }

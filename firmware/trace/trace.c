@@ -185,10 +185,9 @@ static void forget_tree(uint64_t at)
     memset((void *)at, 0, (size_t)size[0] << 24 | (size_t)size[1] << 16 | (size_t)size[2] << 8 | size[3]);
 }
 
-_Noreturn void boot(uint64_t hart, uint64_t tree)
+void boot(uint64_t hart, uint64_t tree)
 {
     (void)hart;
     forget_tree(tree);
     heap_refused_call = trace->refused_call;
-    serve();
 }

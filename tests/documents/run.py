@@ -19,9 +19,10 @@
                                  - a line of a crate's specs/ has more than 100 characters,
                                  - a sentence of a document that people wrote has more than 35 words,
                                  - a document names a file of this repository that is not there,
+                                 - firmware/README.md's table of lines is not what firmware_lines.py counts,
                                  - a choice of docs/DECISIONS.md has the number of another,
                                  - a wrong body of tests/documents/edits.txt has no edit of its name any more
-  tests/documents/run.py --write  writes the tables and the graph anew
+  tests/documents/run.py --write  writes the tables, the graph and the lines of the firmware anew
 
 The last line that is printed is 'N passed, M failed'.
 """
@@ -29,8 +30,11 @@ import re
 import sys
 from pathlib import Path
 
+from firmware_lines import table as firmware_lines
+
 TOP = Path(__file__).resolve().parents[2]
 PAGE = TOP / "docs" / "ARCHITECTURE.md"
+FIRMWARE = TOP / "firmware" / "README.md"
 EXAMPLE = TOP / "crates" / "library_example" / "src" / "main.rt"
 DOCUMENTS = ["README.md", "CHANGELOG.md", "CONTRIBUTING.md", "SECURITY.md", "examples/README.md", "bench/README.md", "bench/CHOICES.md", "bench/PROOFS.md", "bench/NOTES.md", "bench/DIARY.md", "tests/REFUSED.md", *sorted(f"docs/{it.name}" for it in TOP.glob("docs/*.md"))]
 # Those that no script writes. CHANGELOG.md is of its day.
@@ -266,6 +270,12 @@ def wrong_bodies():
     yield "tests/documents/edits.txt names wrong bodies", len(names) > 30 and len(set(names)) == len(names)
 
 
+def firmware_is_counted():
+    """Whether the firmware's README has the lines of each of its files."""
+    text = FIRMWARE.read_text()
+    return text[slice(*between(text, "lines"))] == firmware_lines()
+
+
 def main():
     graph = crates()
     parts = {"crates": tables(), "graph": drawing(graph)}
@@ -275,6 +285,9 @@ def main():
             start, end = between(text, name)
             text = text[:start] + wanted + text[end:]
         PAGE.write_text(text)
+        text = FIRMWARE.read_text()
+        start, end = between(text, "lines")
+        FIRMWARE.write_text(text[:start] + firmware_lines() + text[end:])
         return 0
     text = PAGE.read_text()
     places = {name: between(text, name) for name in parts}
@@ -298,6 +311,7 @@ def main():
         "the files that documents name": list(files_named()),
         "the numbers of choices": list(decisions()),
         "wrong bodies that stay": list(wrong_bodies()),
+        "the lines of the firmware": [("firmware/README.md: lines (tests/documents/run.py --write)", firmware_is_counted())],
     }
     failed = 0
     for name, checks in kinds.items():

@@ -61,7 +61,7 @@ def trees(folder, told):
     pools(folder, told, program)
     closed(folder, told, program)
     boards(folder, told, program)
-    tree = compiled(folder, "in", WITHOUT.format(more=BOARD.format(off="", on=""), **TWO))
+    tree = compiled(folder, "in", WITHOUT.format(more=BOARD.format(off="", on="", **SOME), **TWO))
     for room in (tree.stat().st_size, tree.stat().st_size + 700):
         done = subprocess.run([program, "random", tree, str(room), str(RANDOM)], capture_output=True, text=True)
         told(f"{RANDOM} trees with changed bytes and room of {room}: nothing beside them is touched, and no refused one",
@@ -108,7 +108,7 @@ def pools(folder, told, program):
 # What the host has not is marked: {off} is put where a node gets the status, {on} where one keeps its own.
 BOARD = """
 cpus {{ #address-cells = <1>; #size-cells = <0>;
-    cpu@0 {{ reg = <0>; {on} intc {{ reg = <9>; }}; }}; cpu@1 {{ reg = <1>; }}; cpu@2 {{ reg = <2>; {off} intc {{ reg = <9>; }}; }}; cpu@3 {{ {off} reg = <3>; }}; }};
+    cpu@0 {{ reg = <0>; {on} riscv,isa = "rv64imafdch_zicsr{closed}_sstc"; riscv,isa-extensions = "i", "m"{closed_list}, "zicsr"; intc {{ reg = <9>; }}; }}; cpu@1 {{ reg = <1>; }}; cpu@2 {{ reg = <2>; {off} intc {{ reg = <9>; }}; }}; cpu@3 {{ {off} reg = <3>; }}; }};
 soc {{ #address-cells = <2>; #size-cells = <2>; ranges;
     rtc@101000 {{ reg = <0 0x101000 0 0x1000>; {on} }}; test@100000 {{ reg = <0 0x100000 0 0x1000>; {off} }};
     serial@10000000 {{ reg = <0 0x10000000 0 0x100>; }}; two@10000000 {{ reg = <0 0x10000000 0 0x100 0 0x10001000 0 0x100>; {off} }};
@@ -120,12 +120,16 @@ flash@20000000 {{ reg = <0 0x20000000 0 0x2000000>; {off} }}; poweroff {{ regmap
 """
 
 
+# Extensions that are closed, one after another and at an end, and one whose name begins as such.
+SOME = {"closed": "_svadu_zkr_zkrx_ssctr", "closed_list": ', "svadu", "zkr"'}
+
+
 def closed(folder, told, program):
     """Harts and devices that are not the host's are marked as disabled, and keep all else."""
     off, on = 'status = "disabled";', 'status = "okay";'
     for was in ("", on, off):
-        tree = compiled(folder, "in", WITHOUT.format(more=BOARD.format(off=was, on=on), **TWO))
-        want = compiled(folder, "want", WITHOUT.format(more=BOARD.format(off=off, on=on) + PARENT.format(nodes=RANGE.format(**TWO), **TWO), **TWO))
+        tree = compiled(folder, "in", WITHOUT.format(more=BOARD.format(off=was, on=on, **SOME), **TWO))
+        want = compiled(folder, "want", WITHOUT.format(more=BOARD.format(off=off, on=on, closed="_zkrx", closed_list="") + PARENT.format(nodes=RANGE.format(**TWO), **TWO), **TWO))
         done = subprocess.run([program, "one", tree, "8192", str(BASE), str(SIZE), folder / "out.dtb"], capture_output=True, text=True)
         right = done.stdout == "taken\n" and listed(folder / "out.dtb") == listed(want)
         told(f"what is not the host's is marked where its status was {was or 'not said'}", right, "" if right else done.stdout + done.stderr[-300:])
