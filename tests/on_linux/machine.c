@@ -6,7 +6,7 @@
  *   hotplug          CPUs stop and start
  *   load[:WORDS]     the driver is loaded, with parameters apart by `;`; `unload` unloads it
  *   sbi              what SBI's calls take (sbi_bench.c)
- *   both:N           N lives of enclaves by each of four workers while CPUs stop and start
+ *   both:N           N lives of enclaves by each of four workers, or fewer in 30 seconds, while CPUs stop and start
  *   PROGRAM:WORD...  a program of /bin with its words, which has to end with 0
  */
 #define _GNU_SOURCE
@@ -119,7 +119,7 @@ static void counters(void)
 static void forks(void)
 {
     double begun = now();
-    int wrong = 0, n = 200;
+    int wrong = 0, n = 100;
     for (int i = 0; i < n; i++) {
         int status = -1;
         pid_t child = vfork();
@@ -260,7 +260,7 @@ static int mmap_(void)
 static int code_(void)
 {
     uint32_t *code = mmap(0, 4096, PROT_READ | PROT_WRITE | PROT_EXEC, MAP_PRIVATE | MAP_ANONYMOUS, -1, 0);
-    for (int i = 0; i < 500; i++) {
+    for (int i = 0; i < 200; i++) {
         code[0] = 0x00000513u | (uint32_t)(i & 0x7ff) << 20; /* li a0, i */
         code[1] = 0x00008067u;                               /* ret */
         __builtin___clear_cache((char *)code, (char *)(code + 2));
@@ -397,7 +397,7 @@ static int signals_(void)
     int got;
     if (!child) {
         pin(cpus - 1);
-        for (int i = 0; i < 2000; i++) {
+        for (int i = 0; i < 1000; i++) {
             sigwait(&set, &got);
             kill(parent, SIGUSR1);
         }
@@ -405,17 +405,17 @@ static int signals_(void)
     }
     pin(0);
     double begun = now();
-    for (int i = 0; i < 2000; i++) {
+    for (int i = 0; i < 1000; i++) {
         kill(child, SIGUSR1);
         sigwait(&set, &got);
     }
-    printf("    a signal there and back on two CPUs: %.1f us\n", (now() - begun) / 2000 * 1e6);
+    printf("    a signal there and back on two CPUs: %.1f us\n", (now() - begun) / 1000 * 1e6);
     return 0;
 }
 
 static int pipes_(void)
 {
-    int a[2], b[2], n = 5000;
+    int a[2], b[2], n = 1000;
     char c = 0;
     if (pipe(a) || pipe(b))
         return 1;
@@ -489,8 +489,8 @@ static long free_kilobytes(void)
 }
 static int memory_(void)
 {
-    /* In several processes together five sixths of what is free; three times. */
-    for (int round = 0; round < 3; round++) {
+    /* In several processes together five sixths of what is free; twice. */
+    for (int round = 0; round < 2; round++) {
         size_t each = (size_t)free_kilobytes() * 1024 / 6 * 5 / 6 / 4096 * 4096;
         pid_t child[6];
         for (int i = 0; i < 6; i++) {
@@ -648,7 +648,7 @@ static void both(const char *lives)
 {
     int status = -1;
     char words[64];
-    snprintf(words, sizeof words, "enclaves:lives:4:%s", lives);
+    snprintf(words, sizeof words, "enclaves:lives:4:%s:30", lives);
     pid_t child = start(words, 900);
     do {
         hotplug();

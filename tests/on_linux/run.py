@@ -38,9 +38,9 @@ DIGEST = re.compile(r"\b[0-9a-f]{64}\b")
 MANY = "unload,load:most=64"
 BOOTS = {
     (4, 256): f"basic,hotplug,load,pmpmon-look:/enclaves/hello.elf,enclaves:wrong,enclaves:faults,enclaves:times,enclaves:killed,enclaves:limit:32,{MANY},"
-    "enclaves:fit:1:3,enclaves:fit:16:1,enclaves:stuck,enclaves:parallel:20,enclaves:lives:4:150,both:20,unload",
-    (2, 512): "basic,hotplug,load:most=64,enclaves:faults,enclaves:fit:4:1,enclaves:stuck,enclaves:parallel:10,enclaves:lives:2:100,unload",
-    (1, 128): "basic,load:most=64,enclaves:faults,enclaves:times,enclaves:killed,enclaves:fit:1:1,enclaves:lives:4:50,unload",
+    "enclaves:fit:1:3,enclaves:fit:16:0,enclaves:stuck,enclaves:parallel:20,enclaves:lives:4:200:40,both:20,unload",
+    (2, 256): "basic,hotplug,load:most=64,enclaves:faults,enclaves:fit:4:0,enclaves:parallel:10,enclaves:lives:2:100:20,unload",
+    (1, 128): "basic,load:most=64,enclaves:faults,enclaves:times,enclaves:killed,enclaves:lives:2:50:20,unload",
 }
 MOST_SECONDS = 400
 passed = failed = 0
@@ -125,7 +125,7 @@ def boot(out, place, harts, megabytes, tests, firmware=None, is_shown=False):
 
 
 def machine(out, place, harts, megabytes, tests):
-    """The tests of one boot, each counted."""
+    """The tests of one boot, each counted; how many enclaves lived."""
     began = time.monotonic()
     lines = boot(out, place, harts, megabytes, tests)
     name = f"{harts} hart{'s' if harts > 1 else ''}"
@@ -139,6 +139,7 @@ def machine(out, place, harts, megabytes, tests):
     for it in lines:
         if it.startswith(("fit: ", "stuck: ", "lives: ")):
             print(f"    {it}")
+    return sum(int(it.split()[3]) for it in lines if it.startswith("lives: "))
 
 
 class Prompt:
@@ -300,8 +301,8 @@ def main():
         if len(sys.argv) > 1 and sys.argv[1] != "guide":
             harts, megabytes = sys.argv[2] if len(sys.argv) > 2 else 4, sys.argv[3] if len(sys.argv) > 3 else 256
             return 0 if any(", 0 failed" in it for it in boot(out, place, harts, megabytes, sys.argv[1], os.environ.get("FIRMWARE"), True)) else 1
-        for (harts, megabytes), tests in [] if len(sys.argv) > 1 else BOOTS.items():
-            machine(out, place, harts, megabytes, tests)
+        lives = [machine(out, place, harts, megabytes, tests) for (harts, megabytes), tests in ([] if len(sys.argv) > 1 else BOOTS.items())]
+        print(f"    {sum(lives)} lives of enclaves")
         guide(place)
         bad_input(place, out)
     print(f"{passed} passed, {failed} failed")
