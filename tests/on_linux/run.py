@@ -37,7 +37,7 @@ DIGEST = re.compile(r"\b[0-9a-f]{64}\b")
 # The enclaves of one process are 32 at most, but where a test says more.
 MANY = "unload,load:most=64"
 BOOTS = {
-    (4, 256): f"basic,hotplug,load,pmpmon-look:/enclaves/hello.elf,enclaves:wrong,enclaves:faults,enclaves:times,enclaves:killed,enclaves:limit:32,{MANY},"
+    (4, 128): f"basic,hotplug,load,pmpmon-look:/enclaves/hello.elf,enclaves:wrong,enclaves:faults,enclaves:times,enclaves:killed,enclaves:limit:32,{MANY},"
     "enclaves:fit:1:3,enclaves:fit:16:0,enclaves:stuck,enclaves:parallel:20,enclaves:lives:4:200:40,both:20,unload",
     (2, 256): "basic,hotplug,load:most=64,enclaves:faults,enclaves:fit:4:0,enclaves:parallel:10,enclaves:lives:2:100:20,unload",
     (1, 128): "basic,load:most=64,enclaves:faults,enclaves:times,enclaves:killed,enclaves:lives:2:50:20,unload",

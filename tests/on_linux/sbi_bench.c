@@ -6,7 +6,7 @@
 #include <linux/smp.h>
 #include <asm/sbi.h>
 
-#define ROUNDS 500
+#define ROUNDS 50
 
 static void one(const char *name, unsigned long extension, unsigned long function, unsigned long first, unsigned long second)
 {
