@@ -106,13 +106,17 @@ static int by_call(void) { struct timespec t; return (int)syscall(SYS_clock_gett
 static int by_rdtime(void) { uint64_t t; __asm__ volatile("rdtime %0" : "=r"(t)); return t == 0; }
 static int by_rdcycle(void) { uint64_t t; __asm__ volatile("rdcycle %0" : "=r"(t)); return t == 0; }
 static int by_rdinstret(void) { uint64_t t; __asm__ volatile("rdinstret %0" : "=r"(t)); return t == 0; }
+/* Time is there for all; of the others the firmware may close what it wants, and then they are illegal instructions. */
 static void counters(void)
 {
-    static const struct { const char *name; int (*what)(void); } all[] = {
-        {"clock_gettime by system call", by_call}, {"clock_gettime by the vDSO", by_vdso}, {"rdtime", by_rdtime}, {"rdcycle", by_rdcycle}, {"rdinstret", by_rdinstret}};
+    static const struct {
+        const char *name;
+        int (*what)(void);
+        int may_be_closed;
+    } all[] = {{"clock_gettime by system call", by_call, 0}, {"clock_gettime by the vDSO", by_vdso, 0}, {"rdtime", by_rdtime, 0}, {"rdcycle", by_rdcycle, 1}, {"rdinstret", by_rdinstret, 1}};
     for (unsigned i = 0; i < sizeof all / sizeof *all; i++) {
-        int status = in_child(all[i].what, 5);
-        report(all[i].name, status == 0, "%s", ended(status));
+        int status = in_child(all[i].what, 5), is_closed = WIFSIGNALED(status) && WTERMSIG(status) == SIGILL;
+        report(all[i].name, status == 0 || (all[i].may_be_closed && is_closed), "%s", is_closed ? "closed" : ended(status));
     }
 }
 
