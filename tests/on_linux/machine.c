@@ -6,7 +6,7 @@
  *   hotplug          CPUs stop and start
  *   load[:WORDS]     the driver is loaded, with parameters apart by `;`; `unload` unloads it
  *   sbi              what SBI's calls take (sbi_bench.c)
- *   both:N           N lives of enclaves by each of four workers, or fewer in 30 seconds, while CPUs stop and start
+ *   both:N           N lives of enclaves by each of four workers, or fewer in 15 seconds, while CPUs stop and start
  *   PROGRAM:WORD...  a program of /bin with its words, which has to end with 0
  */
 #define _GNU_SOURCE
@@ -652,7 +652,7 @@ static void both(const char *lives)
 {
     int status = -1;
     char words[64];
-    snprintf(words, sizeof words, "enclaves:lives:4:%s:30", lives);
+    snprintf(words, sizeof words, "enclaves:lives:4:%s:15", lives);
     pid_t child = start(words, 900);
     do {
         hotplug();

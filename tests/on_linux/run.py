@@ -14,6 +14,7 @@ has to be what is below them; `...` is any lines. Last, what wrong files, a boar
 PMPMON_MODULE=FILE.o is a module of the monitor that nobody proved, as in firmware/build. What is missing is said, and nothing tested.
 The last line that is printed is 'N passed, M failed'.
 """
+import concurrent.futures
 import gzip
 import os
 import re
@@ -38,7 +39,7 @@ DIGEST = re.compile(r"\b[0-9a-f]{64}\b")
 MANY = "unload,load:most=64"
 BOOTS = {
     (4, 128): f"basic,hotplug,load,pmpmon-look:/enclaves/hello.elf,enclaves:wrong,enclaves:faults,enclaves:times,enclaves:killed,enclaves:limit:32,{MANY},"
-    "enclaves:fit:1:3,enclaves:fit:16:0,enclaves:stuck,enclaves:parallel:20,enclaves:lives:4:200:40,both:20,unload",
+    "enclaves:fit:1:3,enclaves:fit:16:0,enclaves:stuck,enclaves:parallel:20,enclaves:lives:4:200:25,both:20,unload",
     (2, 256): "basic,hotplug,load:most=64,enclaves:faults,enclaves:fit:4:0,enclaves:parallel:10,enclaves:lives:2:100:20,unload",
     (1, 128): "basic,load:most=64,enclaves:faults,enclaves:times,enclaves:killed,enclaves:lives:2:50:20,unload",
 }
@@ -124,22 +125,33 @@ def boot(out, place, harts, megabytes, tests, firmware=None, is_shown=False):
     return lines
 
 
-def machine(out, place, harts, megabytes, tests):
+def machine(harts, tests, lines, seconds):
     """The tests of one boot, each counted; how many enclaves lived."""
-    began = time.monotonic()
-    lines = boot(out, place, harts, megabytes, tests)
     name = f"{harts} hart{'s' if harts > 1 else ''}"
     found = [it for it in lines if it.startswith(("ok: ", "FAILED: "))]
     for it in found:
         report(f"{name}: {it.split(': ', 1)[1]}", it.startswith("ok: "))
     last = [it for it in lines if re.fullmatch(r"machine: \d+ passed, \d+ failed, .*", it)]
-    report(f"{name}: the boot comes to its end", last and int(last[0].split()[1]) >= len(tests.split(",")), f"{time.monotonic() - began:.0f} s")
+    report(f"{name}: the boot comes to its end", last and int(last[0].split()[1]) >= len(tests.split(",")), f"{seconds:.0f} s")
     if not last or any(it.startswith("FAILED") for it in found):
         print("\n".join(lines[-150:]))
     for it in lines:
         if it.startswith(("fit: ", "stuck: ", "lives: ")):
             print(f"    {it}")
     return sum(int(it.split()[3]) for it in lines if it.startswith("lives: "))
+
+
+def machines(out, place):
+    """All boots, side by side."""
+    began = time.monotonic()
+
+    def timed(row):
+        (harts, megabytes), tests = row
+        return harts, tests, boot(out, place, harts, megabytes, tests), time.monotonic() - began
+
+    with concurrent.futures.ThreadPoolExecutor(len(BOOTS)) as pool:
+        lives = [machine(*it) for it in pool.map(timed, BOOTS.items())]
+    report("enclaves live and end under load", sum(lives) >= 100, f"{sum(lives)} lives")
 
 
 class Prompt:
@@ -301,8 +313,8 @@ def main():
         if len(sys.argv) > 1 and sys.argv[1] != "guide":
             harts, megabytes = sys.argv[2] if len(sys.argv) > 2 else 4, sys.argv[3] if len(sys.argv) > 3 else 256
             return 0 if any(", 0 failed" in it for it in boot(out, place, harts, megabytes, sys.argv[1], os.environ.get("FIRMWARE"), True)) else 1
-        lives = [machine(out, place, harts, megabytes, tests) for (harts, megabytes), tests in ([] if len(sys.argv) > 1 else BOOTS.items())]
-        print(f"    {sum(lives)} lives of enclaves")
+        if len(sys.argv) == 1:
+            machines(out, place)
         guide(place)
         bad_input(place, out)
     print(f"{passed} passed, {failed} failed")
