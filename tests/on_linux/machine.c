@@ -264,7 +264,7 @@ static int mmap_(void)
 static int code_(void)
 {
     uint32_t *code = mmap(0, 4096, PROT_READ | PROT_WRITE | PROT_EXEC, MAP_PRIVATE | MAP_ANONYMOUS, -1, 0);
-    for (int i = 0; i < 200; i++) {
+    for (int i = 0; i < 100; i++) {
         code[0] = 0x00000513u | (uint32_t)(i & 0x7ff) << 20; /* li a0, i */
         code[1] = 0x00008067u;                               /* ret */
         __builtin___clear_cache((char *)code, (char *)(code + 2));
@@ -388,7 +388,7 @@ static int timers_(void)
         usleep(1000);
     double slept = now() - begun;
     printf("    1 kHz signals in a second: %d; 1000 periods of 0.5 ms took %.3f s; 100 sleeps of 1 ms took %.3f s\n", ticks, took, slept);
-    return !(ticks > 50 && took > 0.49 && took < 1.5 && slept >= 0.1 && slept < 1.5);
+    return !(ticks > 50 && took > 0.49 && took < 5 && slept >= 0.1 && slept < 5);
 }
 
 static int signals_(void)

@@ -43,7 +43,7 @@ BOOTS = {
     (2, 256): "basic,hotplug,load:most=64,enclaves:faults,enclaves:fit:4:0,enclaves:parallel:10,enclaves:lives:2:100:20,unload",
     (1, 128): "basic,load:most=64,enclaves:faults,enclaves:times,enclaves:killed,enclaves:lives:2:50:20,unload",
 }
-MOST_SECONDS = 400
+MOST_SECONDS = 900
 passed = failed = 0
 
 
