@@ -4,6 +4,7 @@
  *   enclaves faults          what an enclave may not: memory of others, floating point, the time
  *   enclaves wrong           calls with wrong words, in a wrong order, and by a user that is not root
  *   enclaves times           time limits and signals
+ *   enclaves user            a user that is not root makes and runs one, where the driver's parameter `mode` lets it
  *   enclaves killed          the process of an enclave that never stops is killed
  *   enclaves fit PAGES N     64 enclaves of so many pages in the pool, and all go, in N random orders
  *   enclaves stuck           enclaves of which none can go but by filled gaps
@@ -204,6 +205,18 @@ static int wrong_words(void)
     }
     waitpid(child, &status, 0);
     want(status == 0, "another user than root opens it");
+    return wrong;
+}
+
+static int user(void)
+{
+    struct image it = tried_image();
+    struct loaded made;
+    struct pmpmon_run_args r;
+    uint64_t words[512] = {0};
+    want(!setgid(1000) && !setuid(1000), "another user than root");
+    want(tried(&it, &made, WORK, 1000, 7) && !run_for(made.file, &r, 0) && r.error == 0 && r.value == work(words, 1000, 7), "it has an enclave");
+    want(open("/dev/mem", O_RDONLY) < 0, "and no memory of others");
     return wrong;
 }
 
@@ -661,6 +674,8 @@ int main(int count, char **words)
         return faults();
     if (!strcmp(what, "wrong"))
         return wrong_words();
+    if (!strcmp(what, "user"))
+        return user();
     if (!strcmp(what, "times"))
         return times();
     if (!strcmp(what, "killed"))

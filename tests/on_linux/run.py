@@ -20,6 +20,7 @@ import os
 import re
 import select
 import shutil
+import struct
 import subprocess
 import sys
 import tempfile
@@ -34,9 +35,10 @@ TOOLS = ["qemu-system-riscv64", CROSS, BARE, "make", "bc", "bison", "flex", "cpi
 PACKAGES = "linux-source-6.1 gcc-riscv64-linux-gnu libc6-dev-riscv64-cross gcc-riscv64-unknown-elf qemu-system-misc make bc bison flex cpio xz-utils"
 SECTION = "## An enclave in C on Linux\n"
 GUIDES_COMPILER = "12.2.0"
+FOREVER = 5  # of tried.h
 DIGEST = re.compile(r"\b[0-9a-f]{64}\b")
 # The enclaves of one process are 32 at most, but where a test says more.
-MANY = "unload,load:most=64"
+MANY = "unload,load:most=64;mode=0666,enclaves:user"
 BOOTS = {
     (4, 128): f"basic,hotplug,load,pmpmon-look:/enclaves/hello.elf,enclaves:wrong,enclaves:faults,enclaves:times,enclaves:killed,enclaves:limit:32,{MANY},"
     "enclaves:fit:1:3,enclaves:fit:16:0,enclaves:stuck,enclaves:parallel:20,enclaves:lives:4:200:25,both:20,unload",
@@ -256,6 +258,7 @@ def wrong_files(place, out):
     (bad / "own.c").write_text("int main(void) { return 0; }\n")
     subprocess.run([CROSS, "-static", "-nostdlib", "-Wl,-emain", "-o", bad / "linux.elf", bad / "own.c"], check=True)
     (bad / "own.c").unlink()
+    (bad / "forever.bin").write_bytes(struct.pack("<3Q", FOREVER, 0, 0))
     archive(bad.parent, place / "bad.cpio")
     (place / "bad.gz").write_bytes((out / "initramfs.gz").read_bytes() + (place / "bad.cpio").read_bytes())
     return {
@@ -282,6 +285,10 @@ def bad_input(place, out):
         report("it ends with 125", prompt.answer("status") == ["125"])
         got = prompt.answer("pmpmon-run -i /init hello.elf")
         report("an input that is too large", got[-1:] == ["pmpmon-run: /init: larger than the 4096 bytes of the shared pages"], repr(got[-1:]))
+        got = prompt.answer("pmpmon-run tried.elf")
+        report("an enclave that reads address 0", got[1:] == ["stopped by load access fault, at 0x0000000000000000"], repr(got))
+        got = prompt.answer("pmpmon-run -t 0.2 -i /bad/forever.bin tried.elf")
+        report("an enclave that never stops", got[1:] == ["pmpmon-run: the time is over"] and prompt.answer("status") == ["124"], repr(got))
         report("a time of letters", prompt.answer("pmpmon-run -t soon hello.elf") == ["usage: pmpmon-run [-i FILE] [-t SECONDS] ENCLAVE.elf [WORD...]"])
     (place / "bare").mkdir()
     subprocess.run([TOP / "firmware/build", LINUX / "platform.toml", place / "bare"], check=True, stderr=subprocess.DEVNULL)
