@@ -48,10 +48,11 @@ if [ ! -d "$kernel" ]; then
     tar -C "$place" --strip-components=1 --exclude='*/drivers/gpu/drm/amd/include' --exclude='*/arch/arm*/boot/dts' -xf "$archive"
     make -s -C "$place" tinyconfig >/dev/null
     (cd "$place" && scripts/kconfig/merge_config.sh -m .config "${options[@]}" >/dev/null 2>&1)
-    make -s -C "$place" olddefconfig
-    make -s -j"${JOBS:-$(nproc)}" -C "$place" Image modules
-    mv -T "$place" "$kernel"
-    trap - EXIT
+    make -s -C "$place" olddefconfig >&2
+    make -s -j"${JOBS:-$(nproc)}" -C "$place" Image modules >&2
+    # (where another build was first, its kernel is the same)
+    mv -T "$place" "$kernel" 2>/dev/null || [ -d "$kernel" ]
+    [ -d "$place" ] || trap - EXIT
 fi
 
 if [ "$out" = --kernel ]; then

@@ -4,11 +4,13 @@
  *   enclaves faults          what an enclave may not: memory of others, floating point, the time
  *   enclaves wrong           calls with wrong words, in a wrong order, and by a user that is not root
  *   enclaves times           time limits and signals
+ *   enclaves user            a user that is not root makes and runs one, where the driver's parameter `mode` lets it
  *   enclaves killed          the process of an enclave that never stops is killed
  *   enclaves fit PAGES N     64 enclaves of so many pages in the pool, and all go, in N random orders
  *   enclaves stuck           enclaves of which none can go but by filled gaps
  *   enclaves limit N         a process has N enclaves at most (the driver's parameter)
- *   enclaves lives WORKERS N so many processes make, run and end N enclaves each, beside processes that load the machine
+ *   enclaves lives WORKERS N SECONDS
+ *                            so many processes make, run and end N enclaves each, or fewer in that time, beside others that load the machine
  *   enclaves parallel N      two enclaves at once on two CPUs, N millions of rounds each
  *   enclaves costs N         what a run to the next stop takes by ioctl, a creation, and how long another CPU stands still
  *   enclaves fuzz SECONDS    four threads with calls of random words
@@ -203,6 +205,18 @@ static int wrong_words(void)
     }
     waitpid(child, &status, 0);
     want(status == 0, "another user than root opens it");
+    return wrong;
+}
+
+static int user(void)
+{
+    struct image it = tried_image();
+    struct loaded made;
+    struct pmpmon_run_args r;
+    uint64_t words[512] = {0};
+    want(!setgid(1000) && !setuid(1000), "another user than root");
+    want(tried(&it, &made, WORK, 1000, 7) && !run_for(made.file, &r, 0) && r.error == 0 && r.value == work(words, 1000, 7), "it has an enclave");
+    want(open("/dev/mem", O_RDONLY) < 0, "and no memory of others");
     return wrong;
 }
 
@@ -454,7 +468,7 @@ static void end_loads(pid_t *loads)
     }
 }
 
-static int lives(unsigned workers, unsigned n)
+static int lives(unsigned workers, unsigned n, unsigned seconds)
 {
     struct image it = tried_image();
     struct counts *counts = mmap(0, 4096, PROT_READ | PROT_WRITE, MAP_SHARED | MAP_ANONYMOUS, -1, 0), all = {0};
@@ -467,7 +481,7 @@ static int lives(unsigned workers, unsigned n)
         child[w] = fork();
         if (child[w])
             continue;
-        for (unsigned i = 0; i < n; i++)
+        for (unsigned i = 0; i < n && now() - begun < seconds; i++)
             live(&it, &counts[w], 1000 + (i * 7919) % 200000, w * 1000003 + i);
         _exit(0);
     }
@@ -480,7 +494,7 @@ static int lives(unsigned workers, unsigned n)
     end_loads(loads);
     printf("lives: %u workers, %lu lives, %lu wrong, %lu refused, %lu interrupts stopped an enclave, %lu tries again, %.1f s\n", workers, all.done, all.wrong,
            all.refused, all.interrupts, all.again, now() - begun);
-    return wrong || all.wrong || all.done + all.refused != (uint64_t)workers * n || all.refused;
+    return wrong || all.wrong || all.refused || all.done < workers;
 }
 
 static int one_of_two(const struct image *it, unsigned cpu, uint64_t rounds)
@@ -653,13 +667,15 @@ static int fuzz(unsigned seconds)
 int main(int count, char **words)
 {
     const char *what = count > 1 ? words[1] : "";
-    unsigned first = count > 2 ? (unsigned)atoi(words[2]) : 1, second = count > 3 ? (unsigned)atoi(words[3]) : 1;
+    unsigned first = count > 2 ? (unsigned)atoi(words[2]) : 1, second = count > 3 ? (unsigned)atoi(words[3]) : 1, third = count > 4 ? (unsigned)atoi(words[4]) : 900;
     program_name = "enclaves";
     setvbuf(stdout, 0, _IOLBF, 0);
     if (!strcmp(what, "faults"))
         return faults();
     if (!strcmp(what, "wrong"))
         return wrong_words();
+    if (!strcmp(what, "user"))
+        return user();
     if (!strcmp(what, "times"))
         return times();
     if (!strcmp(what, "killed"))
@@ -671,7 +687,7 @@ int main(int count, char **words)
     if (!strcmp(what, "limit"))
         return limit(first);
     if (!strcmp(what, "lives"))
-        return lives(first, second);
+        return lives(first, second, third);
     if (!strcmp(what, "parallel"))
         return parallel(first);
     if (!strcmp(what, "costs"))

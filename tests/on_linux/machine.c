@@ -6,7 +6,7 @@
  *   hotplug          CPUs stop and start
  *   load[:WORDS]     the driver is loaded, with parameters apart by `;`; `unload` unloads it
  *   sbi              what SBI's calls take (sbi_bench.c)
- *   both:N           N lives of enclaves by each of four workers while CPUs stop and start
+ *   both:N           N lives of enclaves by each of four workers, or fewer in 15 seconds, while CPUs stop and start
  *   PROGRAM:WORD...  a program of /bin with its words, which has to end with 0
  */
 #define _GNU_SOURCE
@@ -106,6 +106,7 @@ static int by_call(void) { struct timespec t; return (int)syscall(SYS_clock_gett
 static int by_rdtime(void) { uint64_t t; __asm__ volatile("rdtime %0" : "=r"(t)); return t == 0; }
 static int by_rdcycle(void) { uint64_t t; __asm__ volatile("rdcycle %0" : "=r"(t)); return t == 0; }
 static int by_rdinstret(void) { uint64_t t; __asm__ volatile("rdinstret %0" : "=r"(t)); return t == 0; }
+/* Time is there for all; the firmware closes the other two, which are illegal instructions then. */
 static void counters(void)
 {
     static const struct { const char *name; int (*what)(void), signal; } all[] = {
@@ -121,7 +122,7 @@ static void counters(void)
 static void forks(void)
 {
     double begun = now();
-    int wrong = 0, n = 200;
+    int wrong = 0, n = 100;
     for (int i = 0; i < n; i++) {
         int status = -1;
         pid_t child = vfork();
@@ -262,7 +263,7 @@ static int mmap_(void)
 static int code_(void)
 {
     uint32_t *code = mmap(0, 4096, PROT_READ | PROT_WRITE | PROT_EXEC, MAP_PRIVATE | MAP_ANONYMOUS, -1, 0);
-    for (int i = 0; i < 500; i++) {
+    for (int i = 0; i < 100; i++) {
         code[0] = 0x00000513u | (uint32_t)(i & 0x7ff) << 20; /* li a0, i */
         code[1] = 0x00008067u;                               /* ret */
         __builtin___clear_cache((char *)code, (char *)(code + 2));
@@ -386,7 +387,7 @@ static int timers_(void)
         usleep(1000);
     double slept = now() - begun;
     printf("    1 kHz signals in a second: %d; 1000 periods of 0.5 ms took %.3f s; 100 sleeps of 1 ms took %.3f s\n", ticks, took, slept);
-    return !(ticks > 50 && took > 0.49 && took < 1.5 && slept >= 0.1 && slept < 1.5);
+    return !(ticks > 50 && took > 0.49 && took < 5 && slept >= 0.1 && slept < 5);
 }
 
 static int signals_(void)
@@ -399,7 +400,7 @@ static int signals_(void)
     int got;
     if (!child) {
         pin(cpus - 1);
-        for (int i = 0; i < 2000; i++) {
+        for (int i = 0; i < 1000; i++) {
             sigwait(&set, &got);
             kill(parent, SIGUSR1);
         }
@@ -407,17 +408,17 @@ static int signals_(void)
     }
     pin(0);
     double begun = now();
-    for (int i = 0; i < 2000; i++) {
+    for (int i = 0; i < 1000; i++) {
         kill(child, SIGUSR1);
         sigwait(&set, &got);
     }
-    printf("    a signal there and back on two CPUs: %.1f us\n", (now() - begun) / 2000 * 1e6);
+    printf("    a signal there and back on two CPUs: %.1f us\n", (now() - begun) / 1000 * 1e6);
     return 0;
 }
 
 static int pipes_(void)
 {
-    int a[2], b[2], n = 5000;
+    int a[2], b[2], n = 1000;
     char c = 0;
     if (pipe(a) || pipe(b))
         return 1;
@@ -491,8 +492,8 @@ static long free_kilobytes(void)
 }
 static int memory_(void)
 {
-    /* In several processes together five sixths of what is free; three times. */
-    for (int round = 0; round < 3; round++) {
+    /* In several processes together five sixths of what is free; twice. */
+    for (int round = 0; round < 2; round++) {
         size_t each = (size_t)free_kilobytes() * 1024 / 6 * 5 / 6 / 4096 * 4096;
         pid_t child[6];
         for (int i = 0; i < 6; i++) {
@@ -650,7 +651,7 @@ static void both(const char *lives)
 {
     int status = -1;
     char words[64];
-    snprintf(words, sizeof words, "enclaves:lives:4:%s", lives);
+    snprintf(words, sizeof words, "enclaves:lives:4:%s:15", lives);
     pid_t child = start(words, 900);
     do {
         hotplug();

@@ -14,11 +14,13 @@ has to be what is below them; `...` is any lines. Last, what wrong files, a boar
 PMPMON_MODULE=FILE.o is a module of the monitor that nobody proved, as in firmware/build. What is missing is said, and nothing tested.
 The last line that is printed is 'N passed, M failed'.
 """
+import concurrent.futures
 import gzip
 import os
 import re
 import select
 import shutil
+import struct
 import subprocess
 import sys
 import tempfile
@@ -33,16 +35,17 @@ TOOLS = ["qemu-system-riscv64", CROSS, BARE, "make", "bc", "bison", "flex", "cpi
 PACKAGES = "linux-source-6.1 gcc-riscv64-linux-gnu libc6-dev-riscv64-cross gcc-riscv64-unknown-elf qemu-system-misc make bc bison flex cpio xz-utils"
 SECTION = "## An enclave in C on Linux\n"
 GUIDES_COMPILER = "12.2.0"
+FOREVER = 5  # of tried.h
 DIGEST = re.compile(r"\b[0-9a-f]{64}\b")
 # The enclaves of one process are 32 at most, but where a test says more.
-MANY = "unload,load:most=64"
+MANY = "unload,load:most=64;mode=0666,enclaves:user"
 BOOTS = {
-    (4, 256): f"basic,hotplug,load,pmpmon-look:/enclaves/hello.elf,enclaves:wrong,enclaves:faults,enclaves:times,enclaves:killed,enclaves:limit:32,{MANY},"
-    "enclaves:fit:1:3,enclaves:fit:16:1,enclaves:stuck,enclaves:parallel:20,enclaves:lives:4:150,both:20,unload",
-    (2, 512): "basic,hotplug,load:most=64,enclaves:faults,enclaves:fit:4:1,enclaves:stuck,enclaves:parallel:10,enclaves:lives:2:100,unload",
-    (1, 128): "basic,load:most=64,enclaves:faults,enclaves:times,enclaves:killed,enclaves:fit:1:1,enclaves:lives:4:50,unload",
+    (4, 128): f"basic,hotplug,load,pmpmon-look:/enclaves/hello.elf,enclaves:wrong,enclaves:faults,enclaves:times,enclaves:killed,enclaves:limit:32,{MANY},"
+    "enclaves:fit:1:3,enclaves:fit:16:0,enclaves:stuck,enclaves:parallel:20,enclaves:lives:4:200:25,both:20,unload",
+    (2, 256): "basic,hotplug,load:most=64,enclaves:faults,enclaves:fit:4:0,enclaves:parallel:10,enclaves:lives:2:100:20,unload",
+    (1, 128): "basic,load:most=64,enclaves:faults,enclaves:times,enclaves:killed,enclaves:lives:2:50:20,unload",
 }
-MOST_SECONDS = 400
+MOST_SECONDS = 900
 passed = failed = 0
 
 
@@ -124,21 +127,33 @@ def boot(out, place, harts, megabytes, tests, firmware=None, is_shown=False):
     return lines
 
 
-def machine(out, place, harts, megabytes, tests):
-    """The tests of one boot, each counted."""
-    began = time.monotonic()
-    lines = boot(out, place, harts, megabytes, tests)
+def machine(harts, tests, lines, seconds):
+    """The tests of one boot, each counted; how many enclaves lived."""
     name = f"{harts} hart{'s' if harts > 1 else ''}"
     found = [it for it in lines if it.startswith(("ok: ", "FAILED: "))]
     for it in found:
         report(f"{name}: {it.split(': ', 1)[1]}", it.startswith("ok: "))
     last = [it for it in lines if re.fullmatch(r"machine: \d+ passed, \d+ failed, .*", it)]
-    report(f"{name}: the boot comes to its end", last and int(last[0].split()[1]) >= len(tests.split(",")), f"{time.monotonic() - began:.0f} s")
+    report(f"{name}: the boot comes to its end", last and int(last[0].split()[1]) >= len(tests.split(",")), f"{seconds:.0f} s")
     if not last or any(it.startswith("FAILED") for it in found):
         print("\n".join(lines[-150:]))
     for it in lines:
         if it.startswith(("fit: ", "stuck: ", "lives: ")):
             print(f"    {it}")
+    return sum(int(it.split()[3]) for it in lines if it.startswith("lives: "))
+
+
+def machines(out, place):
+    """All boots, side by side."""
+    began = time.monotonic()
+
+    def timed(row):
+        (harts, megabytes), tests = row
+        return harts, tests, boot(out, place, harts, megabytes, tests), time.monotonic() - began
+
+    with concurrent.futures.ThreadPoolExecutor(len(BOOTS)) as pool:
+        lives = [machine(*it) for it in pool.map(timed, BOOTS.items())]
+    report("enclaves live and end under load", sum(lives) >= 100, f"{sum(lives)} lives")
 
 
 class Prompt:
@@ -243,6 +258,7 @@ def wrong_files(place, out):
     (bad / "own.c").write_text("int main(void) { return 0; }\n")
     subprocess.run([CROSS, "-static", "-nostdlib", "-Wl,-emain", "-o", bad / "linux.elf", bad / "own.c"], check=True)
     (bad / "own.c").unlink()
+    (bad / "forever.bin").write_bytes(struct.pack("<3Q", FOREVER, 0, 0))
     archive(bad.parent, place / "bad.cpio")
     (place / "bad.gz").write_bytes((out / "initramfs.gz").read_bytes() + (place / "bad.cpio").read_bytes())
     return {
@@ -269,6 +285,10 @@ def bad_input(place, out):
         report("it ends with 125", prompt.answer("status") == ["125"])
         got = prompt.answer("pmpmon-run -i /init hello.elf")
         report("an input that is too large", got[-1:] == ["pmpmon-run: /init: larger than the 4096 bytes of the shared pages"], repr(got[-1:]))
+        got = prompt.answer("pmpmon-run tried.elf")
+        report("an enclave that reads address 0", got[1:] == ["stopped by load access fault, at 0x0000000000000000"], repr(got))
+        got = prompt.answer("pmpmon-run -t 0.2 -i /bad/forever.bin tried.elf")
+        report("an enclave that never stops", got[1:] == ["pmpmon-run: the time is over"] and prompt.answer("status") == ["124"], repr(got))
         report("a time of letters", prompt.answer("pmpmon-run -t soon hello.elf") == ["usage: pmpmon-run [-i FILE] [-t SECONDS] ENCLAVE.elf [WORD...]"])
     (place / "bare").mkdir()
     subprocess.run([TOP / "firmware/build", LINUX / "platform.toml", place / "bare"], check=True, stderr=subprocess.DEVNULL)
@@ -300,8 +320,8 @@ def main():
         if len(sys.argv) > 1 and sys.argv[1] != "guide":
             harts, megabytes = sys.argv[2] if len(sys.argv) > 2 else 4, sys.argv[3] if len(sys.argv) > 3 else 256
             return 0 if any(", 0 failed" in it for it in boot(out, place, harts, megabytes, sys.argv[1], os.environ.get("FIRMWARE"), True)) else 1
-        for (harts, megabytes), tests in [] if len(sys.argv) > 1 else BOOTS.items():
-            machine(out, place, harts, megabytes, tests)
+        if len(sys.argv) == 1:
+            machines(out, place)
         guide(place)
         bad_input(place, out)
     print(f"{passed} passed, {failed} failed")
