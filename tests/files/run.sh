@@ -556,6 +556,7 @@ show --help
 audit --help
 map --help
 lint --help
+measure --help
 
 other
 --other

@@ -1,5 +1,6 @@
 #!/usr/bin/env python3
-"""Runs the commands that README.md and docs/GUIDE.md show, and compares what they print with what stands below them.
+"""Runs the commands that README.md and docs/GUIDE.md show, and compares what they print with what is below them. The session above
+Linux is tests/on_linux's.
 
   tests/readme/run.py PROGRAM
 
@@ -43,6 +44,11 @@ def is_told(lines, told):
     return re.fullmatch(pattern, told) is not None
 
 
+def without_linux(text):
+    """A document without the session above Linux, which tests/on_linux types."""
+    return re.sub(r"^## An enclave in C on Linux\n.*?(?=^## |\Z)", "", text, flags=re.M | re.S)
+
+
 def tried(document, program):
     """Each command of a document, whether it prints what stands below it, and what it printed."""
     with tempfile.TemporaryDirectory() as made:
@@ -50,7 +56,7 @@ def tried(document, program):
         (folder / "examples").symlink_to(TOP / "examples")
         (folder / "pmpmon").symlink_to(program)
         (folder / "pmpmon-on-hart").symlink_to(TOP / "pmpmon-on-hart")
-        for command, lines in commands(document.read_text()):
+        for command, lines in commands(without_linux(document.read_text())):
             if "pmpmon-on-hart" in command and not HAS_HART:
                 print(f"left out: {command}, for want of QEMU or the compiler for RV64")
                 continue
