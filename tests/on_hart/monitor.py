@@ -323,7 +323,7 @@ def ends(folder, told):
     for name, firmware, more, want in rows:
         said = booted(firmware, payload, 1, *more)
         told(f"{name}: {'the host runs' if want == HOST else 'the board ends and says so'}", said == want, "" if said == want else said)
-    built(folder / "two.toml", folder / "late", "-DTEN_SECONDS=0ul")
+    built(folder / "two.toml", folder / "late", "-DLEAVE_RUNNING -DTEN_SECONDS=10000000ul")
     said = booted(folder / "late/pmpmon-virt.elf", folder / "race.elf", 2)
     told("a hart that does not stop in time ends the board", said == "monitor: a hart does not stop, asked by hart 0\n", said)
     with Wired(image, folder / "reset-1.elf", 1, kind=5) as board:

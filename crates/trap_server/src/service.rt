@@ -220,7 +220,8 @@ fn serve_stop<W: Sink>(
     write_answer(monitor, hosts, trap.hart, NOTHING, None, woken, sink)
 }
 
-/// Serves a trap.
+/// Serves a trap. It is not inlined, so that its locals are not on the stack while the monitor boots.
+#[inline(never)]
 pub(crate) fn serve_trap<R: Source, W: Sink>(
     monitor: &mut Monitor,
     hosts: &mut HostWords,

@@ -63,8 +63,9 @@ fn platform_in<R: Source, W: Sink>(
     }
 }
 
-/// Boots the monitor on the platform that comes first.
-#[inline(never)]
+/// Boots the monitor on the platform that comes first. It is inlined, so that the stack has one copy of the monitor less
+/// while it is made.
+#[inline(always)]
 fn boot<R: Source, W: Sink>(
     alloc: Global,
     source: &mut R,
