@@ -33,6 +33,7 @@
 #include <sys/time.h>
 #include <sys/wait.h>
 #include <time.h>
+#include <ucontext.h>
 #include <unistd.h>
 
 #define MOST_LIVE 64
@@ -641,8 +642,17 @@ static void *fuzz_thread(void *given)
     return (void *)(uintptr_t)calls;
 }
 
+static void report_fault(int number, siginfo_t *info, void *context)
+{
+    unsigned long pc = (unsigned long)((ucontext_t *)context)->uc_mcontext.__gregs[0];
+    printf("WRONG: signal %d, code %d, at %p, pc %lx\n", number, info->si_code, info->si_addr, pc);
+    _exit(1);
+}
+
 static int fuzz(unsigned seconds)
 {
+    struct sigaction act = {.sa_sigaction = report_fault, .sa_flags = SA_SIGINFO};
+    sigaction(SIGSEGV, &act, 0);
     pthread_t threads[4];
     uint64_t calls = 0;
     int files[MOST_LIVE];
