@@ -30,9 +30,11 @@
 #include <sys/ioctl.h>
 #include <sys/mman.h>
 #include <sys/resource.h>
+#include <sys/syscall.h>
 #include <sys/time.h>
 #include <sys/wait.h>
 #include <time.h>
+#include <ucontext.h>
 #include <unistd.h>
 
 #define MOST_LIVE 64
@@ -43,7 +45,8 @@ static int wrong;
 static double now(void)
 {
     struct timespec t;
-    clock_gettime(CLOCK_MONOTONIC, &t);
+    /* By the system call: a kernel without CONFIG_JUMP_LABEL may fault in the vDSO while it sets the time. */
+    syscall(SYS_clock_gettime, CLOCK_MONOTONIC, &t);
     return (double)t.tv_sec + 1e-9 * (double)t.tv_nsec;
 }
 
@@ -641,8 +644,17 @@ static void *fuzz_thread(void *given)
     return (void *)(uintptr_t)calls;
 }
 
+static void report_fault(int number, siginfo_t *info, void *context)
+{
+    unsigned long pc = (unsigned long)((ucontext_t *)context)->uc_mcontext.__gregs[0];
+    printf("WRONG: signal %d, code %d, at %p, pc %lx\n", number, info->si_code, info->si_addr, pc);
+    _exit(1);
+}
+
 static int fuzz(unsigned seconds)
 {
+    struct sigaction act = {.sa_sigaction = report_fault, .sa_flags = SA_SIGINFO};
+    sigaction(SIGSEGV, &act, 0);
     pthread_t threads[4];
     uint64_t calls = 0;
     int files[MOST_LIVE];
