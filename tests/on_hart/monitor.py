@@ -183,7 +183,7 @@ def most_taken(on_hart, folder, told):
     on_hart.platform_of = lambda path: ({"harts": 4}, 128)
     _, notes, _ = on_hart.report_of(largest(folder), trace, has_notes=True)
     most = {it.split()[1]: int(it.split()[2]) for it in notes.splitlines() if it.startswith("note ")}
-    told(f"a boot on the largest platform: {notes.replace(chr(10), ', ')}", most and most["stack"] < 36864 and most["heap"] < 163840)
+    told(f"a boot on the largest platform: {notes.replace(chr(10), ', ')}", most and most["stack"] < 32768 and most["heap"] < 163840)
 
 
 def booted(image, payload, harts, *more, seconds=240):
