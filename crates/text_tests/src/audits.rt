@@ -44,7 +44,7 @@ fn a_page_that_is_meant_and_a_line_and_a_device_that_fail(rt: HostRuntime) {
     expect_audit(
         &rt,
         rt.alloc(),
-        b"",
+        b"pmpcfg0 0\n",
         Some(2),
         Err(AuditFault::Device),
         b"differs",
