@@ -5,7 +5,7 @@ use Rattle.byte_streams.specs.declared.fakes.PieceSink.{PieceSink}
 use Rattle.byte_streams.specs.declared.fakes.PieceSource.{PieceSource}
 use Rattle.byte_streams.specs.declared.streams.DeviceFault.{DeviceFault}
 
--- the number of the call after so many others, in 64 bits
+-- the number of the call after that many others, in 64 bits
 abbrev pub next_call : ℕ → ℕ
 next_call n = min (n + 1) (2 ^ 64 - 1)
 
@@ -14,7 +14,7 @@ abbrev pub is_failing : Option ℕ → ℕ → Bool
 is_failing None n = false
 is_failing (Some k) n = k == n
 
--- the answer of call n, which would give or take so many bytes
+-- the answer of call n, which would give or take that many bytes
 abbrev pub answered : Option ℕ → ℕ → ℕ → Result ℕ DeviceFault
 answered failing n count = if is_failing failing n then Err (record {}) else Ok count
 
@@ -50,6 +50,6 @@ failing_write sink = sink.failing
 abbrev pub writes_of : PieceSink → ℕ
 writes_of sink = sink.writes
 
--- how many bytes are taken of so many, where there is room for 4096 in all
+-- how many bytes are taken of that many, where there is room for 4096 in all
 abbrev pub taken_by : PieceSink → ℕ → ℕ
 taken_by sink offered = min (min (width_of sink) offered) (4096 - length (written_of sink))

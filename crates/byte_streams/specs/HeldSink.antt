@@ -3,7 +3,7 @@ use Rattle.std.specs.Prelude.{ℕ, ◌≤◌, List, length, take, Option}
 use Rattle.std.specs.Io.KnownBytes.{append_known, Appends}
 use Rattle.byte_streams.specs.declared.held_sink.HeldSink.{HeldSink}
 
--- the writer behind a sink that holds bytes for it
+-- the writer below a sink that holds bytes for it
 abbrev pub writer_of : {T : Type 0} → HeldSink T → T
 writer_of sink = sink.writer
 

@@ -1,4 +1,4 @@
--- A text behind a number, in two arrays.
+-- A text after a number, in two arrays.
 use Rattle.std.specs.Prelude.{ℕ, List, ◌∷◌, ◌++◌, take}
 use Rattle.byte_streams.specs.declared.streams.Numbered.{Numbered}
 

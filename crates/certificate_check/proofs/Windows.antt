@@ -17,7 +17,7 @@ use Rattle.certificate_format.specs.declared.header.Header.{Header}
 use Rattle.pmp_encoding.specs.Views.{View}
 use Rattle.certificate_check.specs.declared.stop.Stop.{Stop}
 use Rattle.certificate_check.specs.declared.stop.Stop.TheVariants.{Refused, Unheld}
-use Rattle.certificate_check.specs.Certificates.{AreUnheld, IsJudged, IsRightWith, RefusalStands, TellsOfFew}
+use Rattle.certificate_check.specs.Certificates.{CertificateNotStored, IsJudged, IsRightWith, RefusalStands, ClaimFitsFile}
 use Rattle.certificate_check.specs.Listed.{AreListed}
 use Rattle.certificate_format.specs.Spelling.{header_bytes}
 use Rattle.certificate_check.proofs.Entered.{listed_long}
@@ -390,7 +390,7 @@ few_listed count bytes behind rest header headed (es, listed, all) =
     let long = listed_long listed.listed es listed.spelled in
     omega (arith, whole, long, all)
 
-few_told : (most : ℕ) (bytes rest : List ℕ) → AreUnheld most bytes rest → length bytes ≤ most → TellsOfFew most bytes
+few_told : (most : ℕ) (bytes rest : List ℕ) → CertificateNotStored most bytes rest → length bytes ≤ most → ClaimFitsFile most bytes
 few_told most bytes rest are short = record {
   header = are.header;
   rest = are.behind;
@@ -400,14 +400,14 @@ few_told most bytes rest are short = record {
 }
 
 pub memory_from :
-    (old new : WindowState) (most : ℕ) → Reads old new (AreUnheld old.window.most) → IsFresh old most → most < 2 ^ 32
+    (old new : WindowState) (most : ℕ) → Reads old new (CertificateNotStored old.window.most) → IsFresh old most → most < 2 ^ 32
     → stopped_by new.window.inflow ≡ faults.Memory
-    → (bytes : List ℕ) × Consumes old.remaining new.remaining bytes × TellsOfFew most bytes
+    → (bytes : List ℕ) × Consumes old.remaining new.remaining bytes × ClaimFitsFile most bytes
 memory_from old new most read fresh small is =
-    let came = came_from old new (AreUnheld old.window.most) read fresh.empty fresh.zero in
+    let came = came_from old new (CertificateNotStored old.window.most) read fresh.empty fresh.zero in
     let within = within_as new.window.inflow old.failures new (read.sound old.failures (fresh_sound old most fresh)) is in
     let short = few_came (length came.0) new.window.came most came.2 (omega (arith, within, read.most, fresh.most)) small in
-    (came.0, came.1, few_told most came.0 new.window.buffer (subst (λ (n : ℕ). AreUnheld n came.0 new.window.buffer) fresh.most came.3) short)
+    (came.0, came.1, few_told most came.0 new.window.buffer (subst (λ (n : ℕ). CertificateNotStored n came.0 new.window.buffer) fresh.most came.3) short)
 
 pub stopped_well : (i : Inflow) → stopped_by i ≢ faults.Read → fault_of i ≢ Some faults.Read
 stopped_well Open other = λ e. cc

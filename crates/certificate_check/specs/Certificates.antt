@@ -38,7 +38,7 @@ pub record HoldsFewest (view : View) (bytes : List ℕ) (n : ℕ) : Type 0 where
   pub count : length entries ≡ n
   pub fewest : IsFewest view entries
 
--- header, entries of a page at least and a right root stand at the front of the bytes, before the
+-- header, entries of a page at least and a right root are at the front of the bytes, before the
 -- rest
 pub record IsReadWhole (view : View) (bytes rest : List ℕ) (entries : List Entry)
     (tree : BoundTree) : Type 0 where
@@ -50,7 +50,7 @@ pub record IsReadWhole (view : View) (bytes rest : List ℕ) (entries : List Ent
   pub listed : IsListed behind (node_bytes tree ++ rest) entries
   pub right : IsRightNode view 44 0 tree
 
--- header and entries of a page at least stand at the front of the bytes, before the rest; the list
+-- header and entries of a page at least are at the front of the bytes, before the rest; the list
 -- has the bytes of the entries
 pub record IsBegun (bytes list rest : List ℕ) (header : Header) (entries : List Entry) :
     Type 0 where
@@ -61,7 +61,7 @@ pub record IsBegun (bytes list rest : List ℕ) (header : Header) (entries : Lis
   pub listed : IsListed behind rest entries
   pub spelled : SpellsEntries list entries
 
--- the fault of a refusal stands in the bytes
+-- the fault of a refusal is in the bytes
 pub data RefusalStands (view : View) (bytes : List ℕ) : CheckRefusal → Type 0 where
   in_header : (fault : ReadFault) → HeaderFault bytes fault
       → RefusalStands view bytes (refusal_of fault)
@@ -90,7 +90,7 @@ pub data RefusalStands (view : View) (bytes : List ℕ) : CheckRefusal → Type 
       → Means entries view → rest ≢ []
       → RefusalStands view bytes Trailing
 
--- a header that was read stands at the front of the bytes, which are a right certificate
+-- a header that was read is at the front of the bytes, which are a right certificate
 pub record IsRightWith (view : View) (bytes : List ℕ) (header : Header) : Type 0 where
   pub right : IsRight view bytes header.count
   pub behind : List ℕ
@@ -98,20 +98,20 @@ pub record IsRightWith (view : View) (bytes : List ℕ) (header : Header) : Type
   pub small : header.count < 2 ^ 32
 
 -- what was found of the bytes is so: they are a right certificate with that header, or the fault of
--- that refusal stands in them
+-- that refusal is in them
 abbrev pub IsJudged : View → List ℕ → Result Header CheckRefusal → Type 0
 IsJudged view bytes found = MatchResult found (IsRightWith view bytes) (RefusalStands view bytes)
 
 -- the bytes begin with a header, and the entries that it tells of may come: nine bytes each, and so
 -- many bytes may
-pub record TellsOfFew (most : ℕ) (bytes : List ℕ) : Type 0 where
+pub record ClaimFitsFile (most : ℕ) (bytes : List ℕ) : Type 0 where
   pub header : Header
   pub rest : List ℕ
   pub headed : bytes ≡ header_bytes header ++ rest
   pub few : 9 * header.count ≤ most
 
--- the entries that a header tells of are not held: so many may come, or all of them have come
-pub record AreUnheld (most : ℕ) (bytes rest : List ℕ) : Type 0 where
+-- the entries that a header tells of are not held: that many may come, or all of them have come
+pub record CertificateNotStored (most : ℕ) (bytes rest : List ℕ) : Type 0 where
   pub header : Header
   pub behind : List ℕ
   pub headed : bytes ≡ header_bytes header ++ behind

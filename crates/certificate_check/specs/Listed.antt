@@ -14,11 +14,11 @@ pub record IsListed (bytes rest : List ℕ) (entries : List Entry) : Type 0 wher
   pub spelled : SpellsEntries listed entries
   pub pages : AreNoSubPages entries
 
--- so many entries stand before the rest
+-- that many entries come before the rest
 abbrev pub AreListed : ℕ → List ℕ → List ℕ → Type 0
 AreListed count bytes rest = (es : List Entry) × IsListed bytes rest es × (length es ≡ count)
 
--- the fault of a refusal stands in the nine bytes of an entry
+-- the fault of a refusal is in the nine bytes of an entry
 abbrev pub EntryFault : List ℕ → CheckRefusal → Type 0
 EntryFault bytes Truncated = length bytes < 9
 EntryFault bytes BadEntry = (pair : ℕ × ℕ) × (rest : List ℕ) × (bytes ≡ pair_bytes pair ++ rest)
@@ -27,7 +27,7 @@ EntryFault bytes SubPageEntry = (pair : ℕ × ℕ) × (rest : List ℕ) × (byt
     × (e : Entry) × MeansEntry pair.0 pair.1 e × (e.region.log2 < 12)
 EntryFault bytes _ = ⊥
 
--- it stands after the entries before it
+-- it comes after the entries before it
 pub record ListFault (bytes : List ℕ) (count : ℕ) (refusal : CheckRefusal) : Type 0 where
   pub entries : List Entry
   pub rest : List ℕ

@@ -50,14 +50,14 @@ abbrev pub IsTooHigh : (Perm → ℕ) → (Perm → ℕ) → (Perm → ℕ) → 
 IsTooHigh costs lower upper = (p : Perm) × (q : Perm)
     × ((lower p + upper p < costs p) ⊎ (1 + (lower q + upper q) < costs p))
 
--- the fault of a refusal stands in the costs of a split block: sums that are too large come before
+-- the fault of a refusal is in the costs of a split block: sums that are too large come before
 -- costs that are too high
 abbrev pub BranchFault : (Perm → ℕ) → (Perm → ℕ) → (Perm → ℕ) → CheckRefusal → Type 0
 BranchFault costs lower upper CostOverflow = IsTooLarge lower upper
 BranchFault costs lower upper CostTooHigh = HaveSums lower upper × IsTooHigh costs lower upper
 BranchFault costs lower upper _ = ⊥
 
--- the fault of a refusal stands in the node at the front of the bytes, for the 2 ^ k pages from
+-- the fault of a refusal is in the node at the front of the bytes, for the 2 ^ k pages from
 -- `first` on
 pub data NodeFault (view : View) : ℕ → ℕ → List ℕ → CheckRefusal → Type 0 where
   in_tag : {k first : ℕ} {bytes : List ℕ} (fault : ReadFault) → TagFault bytes fault
@@ -113,7 +113,7 @@ pub record IsNodeRead (view : View) (k first : ℕ) (bytes rest : List ℕ) (num
   pub numbers_of : AreNumbersOf tree numbers
 
 -- what the reading of the node at the front of the bytes comes to, for each view that is the known
--- one from its first page on: it is right, or its fault stands there
+-- one from its first page on: it is right, or its fault is there
 abbrev pub ReadsNode : View → ℕ → ℕ → Result SixCosts CheckRefusal → List ℕ → List ℕ → Type 0
 ReadsNode known k first answer left rest = (view : View) → AgreeFrom first known view
     → MatchResult answer (IsNodeRead view k first left rest) (NodeFault view k first left)

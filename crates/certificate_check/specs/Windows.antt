@@ -63,11 +63,11 @@ pub record Reads (old new : WindowState) (P : List ℕ → List ℕ → Type 0) 
 abbrev pub Stays : List ℕ → List ℕ → Type 0
 Stays left rest = left ≡ rest
 
--- so many bytes are there, or no more come
+-- that many bytes are there, or no more come
 abbrev pub HasEnough : ℕ → WindowState → Type 0
 HasEnough need at = (at.window.inflow ≡ Open) → need ≤ length at.window.buffer
 
--- a stop for what is at fault in the bytes is one where it stands, and one for entries that are not
+-- a stop for what is at fault in the bytes is one where it is, and one for entries that are not
 -- held says nothing of them
 abbrev pub StandsIn : (CheckRefusal → Type 0) → Stop → Type 0
 StandsIn fault (Refused refusal) = fault refusal

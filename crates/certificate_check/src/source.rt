@@ -6,7 +6,7 @@ ghost use Rattle.byte_streams.specs.Streams.{one_failure_more};
 ghost use Rattle.pmp_encoding.specs.declared.region.Entry.{Entry};
 ghost use Rattle.certificate_format.specs.Spelling.{SpellsEntries};
 ghost use Rattle.permission_map.specs.Runs.{view_of_runs};
-ghost use Rattle.certificate_check.specs.Certificates.{AreUnheld, IsJudged, IsRightWith, RefusalStands, TellsOfFew};
+ghost use Rattle.certificate_check.specs.Certificates.{CertificateNotStored, IsJudged, IsRightWith, RefusalStands, ClaimFitsFile};
 ghost use Rattle.certificate_check.specs.Listed.{AreListed, IsListed, ListFault};
 ghost use Rattle.certificate_check.specs.Spans.{count_in, AreEntries};
 ghost use Rattle.certificate_check.specs.Windows.{found_of, place, Reads, StandsIn};
@@ -81,7 +81,8 @@ fn read_parts<R: Source>(
         (StandsIn (RefusalStands (view_of_runs map.now) left))) }
     ensures unheld { result ≡ Err Unheld
         → Reads (place R.remaining R.failures window.old source.old)
-        (place R.remaining R.failures window.new source.new) (AreUnheld window.old.most) }
+        (place R.remaining R.failures window.new source.new)
+        (CertificateNotStored window.old.most) }
 {
     let header = header(window, source)?;
     if ENTRY_BYTES * u64::from(header.count) > window.most() {
@@ -127,7 +128,7 @@ pub fn check_source<R: Source>(
         × (most < length bytes) }
     ensures memory { result ≡ Err SourceFault.Memory
         → (bytes : List ℕ) × Consumes (R.remaining source.old) (R.remaining source.new) bytes
-        × TellsOfFew most bytes }
+        × ClaimFitsFile most bytes }
     ensures failed { result ≡ Err SourceFault.Read
         → R.failures source.new ≡ one_failure_more (R.failures source.old) }
     ensures well { result ≢ Err SourceFault.Read

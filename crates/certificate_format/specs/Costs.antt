@@ -1,4 +1,4 @@
--- The six costs of a split block, one for each permission that can stand around it.
+-- The six costs of a split block, one for each permission that can surround it.
 use Rattle.std.specs.Prelude.{ℕ, List, drop}
 use Rattle.byteorder.specs.Endian.{little_number}
 use Rattle.pmp_encoding.specs.declared.perm.Perm.{Perm}

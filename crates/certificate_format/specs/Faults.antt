@@ -38,7 +38,7 @@ VersionFault bytes BadLimit = (b : ℕ) × (rest : List ℕ) × (bytes ≡ 2 ∷
     × (b ≢ 0x40)
 VersionFault bytes _ = ⊥
 
--- in the magic; or the magic stands there, and it is in the version; or both stand there, and it is
+-- in the magic; or the magic is there, and it is in the version; or both are there, and it is
 -- in the count
 pub data HeaderFault (bytes : List ℕ) (fault : ReadFault) : Type 0 where
   in_magic : MagicFault bytes fault → HeaderFault bytes fault

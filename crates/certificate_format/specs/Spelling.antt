@@ -1,4 +1,4 @@
--- The bytes of a certificate. All numbers stand with their lowest byte first.
+-- The bytes of a certificate. All numbers have their lowest byte first.
 use Rattle.std.specs.Prelude.{◌≡◌, ℕ, zero, suc, ◌+◌, ◌^◌, ◌<◌, ◌≤◌, List, [], ◌∷◌, ◌++◌, length}
 use Rattle.byteorder.specs.Endian.{little_bytes}
 use Rattle.pmp_encoding.specs.declared.perm.Perm.{Perm}
@@ -44,7 +44,7 @@ header_bytes header = magic ++ (version_bytes header.version ++ u32_bytes header
 abbrev pub pair_bytes : ℕ × ℕ → List ℕ
 pair_bytes pair = pair.0 ∷ u64_bytes pair.1
 
--- an entry stands as some pair that means it, the canonical one or another
+-- an entry is spelt as some pair that means it, the canonical one or another
 pub record SpellsEntry (bytes : List ℕ) (e : Entry) : Type 0 where
   pub pair : ℕ × ℕ
   pub means : MeansEntry pair.0 pair.1 e

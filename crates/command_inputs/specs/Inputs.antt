@@ -34,13 +34,13 @@ reading remaining failures old new = record {
 abbrev pub IsUnread : {R : Type 0} → Reading R → Type 0
 IsUnread source = source.new ≡ source.old
 
--- all the bytes of a source, at most so many
+-- all the bytes of a source, at most that many
 pub record IsWhole (most : ℕ) (before after : Option (List ℕ)) (bytes : List ℕ) : Type 0 where
   pub consumed : Consumes before after bytes
   pub at_end : IsAtEnd after
   pub few : length bytes ≤ most
 
--- a file was read to its end, without a failure: at most so many bytes
+-- a file was read to its end, without a failure: at most that many bytes
 pub record HasBytes {R : Type 0} (most : ℕ) (source : Reading R) (bytes : List ℕ) : Type 0 where
   pub whole : IsWhole most source.before source.after bytes
   pub well : source.failed ≡ source.failures

@@ -13,13 +13,13 @@ is_control b = nat_lt b 32 || b == 127
 abbrev pub is_control_pair : ℕ → ℕ → Bool
 is_control_pair b next = b == 194 && (nat_le 128 next && nat_le next 159)
 
--- a byte and the first of those behind it are one
+-- a byte and the first of those after it are one
 abbrev pub begins_pair : ℕ → List ℕ → Bool
 begins_pair b [] = false
 begins_pair b (next ∷ behind) = is_control_pair b next
 
 -- a byte is a control character, or one of the two bytes of one, by the byte before it and those
--- behind it
+-- after it
 abbrev pub is_hidden : ℕ → ℕ → List ℕ → Bool
 is_hidden before b behind = is_control b || (is_control_pair before b || begins_pair b behind)
 
@@ -31,7 +31,7 @@ escaped b = codes "\\x" ++ hex 2 b
 abbrev pub shown_byte : ℕ → ℕ → List ℕ → List ℕ
 shown_byte before b behind = if is_hidden before b behind then escaped b else b ∷ []
 
--- bytes as they are shown behind this one
+-- bytes as they are shown after this one
 abbrev pub shown_behind : ℕ → List ℕ → List ℕ
 shown_behind before [] = []
 shown_behind before (b ∷ bytes) = shown_byte before b bytes ++ shown_behind b bytes

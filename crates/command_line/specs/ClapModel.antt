@@ -33,7 +33,7 @@ unfoldable pub with_arguments : App → List Argument → App
 with_arguments app [] = app
 with_arguments app (argument ∷ rest) = with_arguments (with_rule app (rule_by argument)) rest
 
--- what a subcommand is told as
+-- what a subcommand is described as
 abbrev pub app_by : Subcommand → App
 app_by Run = run_app
 app_by Plan = plan_app

@@ -11,7 +11,7 @@ use Rattle.pmp_match.specs.Meaning.{View}
 use Rattle.pmp_encoding.specs.declared.xlen.Xlen.{Xlen}
 use Rattle.program_tasks.specs.declared.options.Format.TheVariants as formats
 use Rattle.command_inputs.specs.declared.trouble.Trouble.TheVariants.{Memory}
-use Rattle.commands.specs.CertifiedPlan.{Placing, IsTooFar, IsUnplanned, IsUntouched, IsWithin, NeedsMore, beyond, starved, unreached}
+use Rattle.commands.specs.CertifiedPlan.{Placing, IsTooFar, IsUnplanned, WritesNothing, IsWithin, NeedsMore, beyond, starved, unreached}
 use Rattle.commands.specs.Plan.{most_entries}
 use Rattle.commands.specs.Stops.{Stops}
 
@@ -33,7 +33,7 @@ stops does refuses starves old new before after held holds runs.Memory line long
 -- no plan, where there is none within the bound
 pub unplanned :
     {C X : Type 0} (view : View) (xlen : Xlen) (limit : Limit) (most : Option ℕ) (map : Bor (List ℕ)) (file : Option (Bor (List ℕ))) (cert : Placing C)
-    (result : Result X Trouble) → IsUntouched cert
+    (result : Result X Trouble) → WritesNothing cert
     → IfErr result (λ trouble. (trouble ≡ Memory) ⊎ (NeedsMore view most trouble ⊎ IsTooFar view xlen most map trouble))
     → IfErr result (λ trouble. IsUnplanned view xlen limit most map file cert trouble)
 unplanned view xlen limit most map file cert (Ok x) quiet refused = tt

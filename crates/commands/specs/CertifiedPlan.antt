@@ -28,8 +28,8 @@ use Rattle.command_inputs.specs.declared.trouble.Trouble.{Trouble}
 use Rattle.command_inputs.specs.declared.trouble.Trouble.TheVariants.{TooFar, NeedsEntries}
 use Rattle.command_inputs.specs.declared.trouble.Trouble.TheVariants.{CannotWrite, Memory}
 
--- a sink whose bytes come to stand in a place, over a call: whether the place is apart from it, and
--- the bytes that stood there before the call and stand there after it, where they are known
+-- a sink whose bytes come into a place, over a call: whether the place is apart from it, and
+-- the bytes that were there before the call and are there after it, where they are known
 pub record Placing (C : Type 0) : Type 0 where
   pub sink : Writing C
   pub is_apart : Bool
@@ -45,15 +45,15 @@ placing contents failures stalls stands is_apart old new = record {
   stands = stands new;
 }
 
--- nothing was written, and what stood in the place stands there
-abbrev pub IsUntouched : {C : Type 0} → Placing C → Type 0
-IsUntouched cert = IsUnwritten cert.sink × (cert.stands ≡ cert.stood)
+-- nothing was written, and what was in the place is there
+abbrev pub WritesNothing : {C : Type 0} → Placing C → Type 0
+WritesNothing cert = IsUnwritten cert.sink × (cert.stands ≡ cert.stood)
 
--- what stood in a place that is apart stands there
-abbrev pub IsKept : {C : Type 0} → Placing C → Type 0
-IsKept cert = cert.is_apart ≡ true → cert.stands ≡ cert.stood
+-- what was in a place that is apart is still there
+abbrev pub KeepsOldFile : {C : Type 0} → Placing C → Type 0
+KeepsOldFile cert = cert.is_apart ≡ true → cert.stands ≡ cert.stood
 
--- the map of a file's bytes needs so many entries
+-- the map of a file's bytes needs that many entries
 pub record AreNeeded (bytes : List ℕ) (n : ℕ) : Type 0 where
   pub map : List Run
   pub makes : Makes bytes map
@@ -72,19 +72,19 @@ pub record IsCertificateOf (view : View) (limit : Limit) (entries : List Entry) 
 -- nothing was
 abbrev pub IsCertified : {C : Type 0} → View → Limit → List Entry → Option (Bor (List ℕ))
     → Placing C → Type 0
-IsCertified view limit entries None cert = IsUntouched cert
+IsCertified view limit entries None cert = WritesNothing cert
 IsCertified view limit entries (Some file) cert =
     (bytes : List ℕ) × IsCertificateOf view limit entries bytes × TakesAll bytes cert.sink
     × (cert.stands ≡ cert.sink.after)
 
--- bytes were not written whole, or they were not put in their place: what stood there stands there
-pub data IsNotPlaced {C : Type 0} (bytes : List ℕ) (cert : Placing C) : Type 0 where
-  not_written : Breaks bytes cert.sink → IsKept cert → IsNotPlaced bytes cert
+-- bytes were not written whole, or they were not put in their place: what was there is there
+pub data CertificateNotWritten {C : Type 0} (bytes : List ℕ) (cert : Placing C) : Type 0 where
+  not_written : Breaks bytes cert.sink → KeepsOldFile cert → CertificateNotWritten bytes cert
   not_moved :
       Appends cert.sink.before cert.sink.after bytes
       → cert.sink.failed ≡ one_failure_more cert.sink.failures
-      → cert.sink.stalled ≡ cert.sink.stalls → IsKept cert
-      → IsNotPlaced bytes cert
+      → cert.sink.stalled ≡ cert.sink.stalls → KeepsOldFile cert
+      → CertificateNotWritten bytes cert
 
 -- as many entries as that are within the bound, or beyond it
 abbrev pub IsWithin : Option ℕ → ℕ → Type 0
@@ -121,7 +121,7 @@ pub record BreaksCertificate {C : Type 0} (view : View) (limit : Limit) (most : 
   pub planned : IsPlanned view most entries
   pub bytes : List ℕ
   pub certificate : IsCertificateOf view limit entries bytes
-  pub broken : IsNotPlaced bytes cert
+  pub broken : CertificateNotWritten bytes cert
 
 -- the plan of a map has more entries than may be
 pub record NeedsMore (view : View) (most : Option ℕ) (trouble : Trouble) : Type 0 where
@@ -159,11 +159,11 @@ pub data IsUnloaded (view : View) (xlen : Xlen) (limit : Limit) (map : Bor (List
 pub data IsUnplanned {C : Type 0} (view : View) (xlen : Xlen) (limit : Limit) (most : Option ℕ)
     (map : Bor (List ℕ)) (file : Option (Bor (List ℕ))) (cert : Placing C) (trouble : Trouble) :
     Type 0 where
-  starved : trouble ≡ Memory → IsUntouched cert
+  starved : trouble ≡ Memory → WritesNothing cert
       → IsUnplanned view xlen limit most map file cert trouble
-  beyond : NeedsMore view most trouble → IsUntouched cert
+  beyond : NeedsMore view most trouble → WritesNothing cert
       → IsUnplanned view xlen limit most map file cert trouble
-  unreached : IsTooFar view xlen most map trouble → IsUntouched cert
+  unreached : IsTooFar view xlen most map trouble → WritesNothing cert
       → IsUnplanned view xlen limit most map file cert trouble
   uncertified : BreaksCertificate view limit most file cert trouble
       → IsUnplanned view xlen limit most map file cert trouble

@@ -49,7 +49,7 @@ pub data JudgesTrace {R W : Type 0} (does : Meaning (Unit {0})) (trace : Bor (Li
       → JudgesTrace does trace second out (Err (run_trouble trace fault))
 
 -- a trace is judged so and its answers are compared with those that its comments say: where one
--- differs, the first that does is told behind the answers, and the status is 1
+-- differs, the first that does is reported after the answers, and the status is 1
 pub data JudgesExpecting {R W : Type 0} (does : Meaning (Unit {0})) (trace : Bor (List ℕ))
     (second : Reading R) (out : Writing W) : Result ℕ Trouble → Type 0 where
   compared :
@@ -71,7 +71,7 @@ pub data JudgesExpecting {R W : Type 0} (does : Meaning (Unit {0})) (trace : Bor
       → CountsWrites (Err fault) out.failures out.failed out.stalls out.stalled
       → JudgesExpecting does trace second out (Err (run_trouble trace fault))
 
--- a trace is judged; with `--explain` a comment behind each answer says which entry decided it, and
+-- a trace is judged; with `--explain` a comment after each answer says which entry decided it, and
 -- with `--expect` the answers are compared
 abbrev pub JudgesTraceAs : {R W : Type 0} → Answers → Outcomes → Decides → Bor (List ℕ) → Reading R
     → Writing W → Result ℕ Trouble → Type 0

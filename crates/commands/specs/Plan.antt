@@ -19,7 +19,7 @@ use Rattle.program_tasks.specs.declared.options.Format.TheVariants as formats
 use Rattle.command_inputs.specs.declared.trouble.Trouble.{Trouble}
 use Rattle.command_inputs.specs.declared.trouble.Trouble.TheVariants.{Output, Memory}
 use Rattle.command_inputs.specs.Inputs.{Reading, HasMap, HasNoMap}
-use Rattle.commands.specs.CertifiedPlan.{Placing, IsCertified, IsPlanned, IsUntouched}
+use Rattle.commands.specs.CertifiedPlan.{Placing, IsCertified, IsPlanned, WritesNothing}
 use Rattle.commands.specs.CertifiedPlan.{BreaksCertificate, NeedsMore, IsTooFar}
 
 -- how many entries a plan may have, where there is a bound: what was asked for, and for C and
@@ -53,19 +53,19 @@ pub data Plans {R C W : Type 0} (map : Bor (List ℕ)) (file : Option (Bor (List
       → AreReached xlen entries → IsCertified (view_of_runs runs) limit entries file cert
       → IsPrinted format map.now name xlen limit first entries text → TakesAll text out
       → Plans map file xlen limit at_most format name first source cert out (Ok 0)
-  no_map : (trouble : Trouble) → HasNoMap map source trouble → IsUntouched cert → IsUnwritten out
+  no_map : (trouble : Trouble) → HasNoMap map source trouble → WritesNothing cert → IsUnwritten out
       → Plans map file xlen limit at_most format name first source cert out (Err trouble)
-  no_memory : (runs : List Run) → HasMap source runs → IsUntouched cert → IsUnwritten out
+  no_memory : (runs : List Run) → HasMap source runs → WritesNothing cert → IsUnwritten out
       → Plans map file xlen limit at_most format name first source cert out (Err Memory)
   too_many :
       (runs : List Run) (trouble : Trouble) → HasMap source runs
       → NeedsMore (view_of_runs runs) (most_entries limit first at_most format) trouble
-      → IsUntouched cert → IsUnwritten out
+      → WritesNothing cert → IsUnwritten out
       → Plans map file xlen limit at_most format name first source cert out (Err trouble)
   too_far :
       (runs : List Run) (trouble : Trouble) → HasMap source runs
       → IsTooFar (view_of_runs runs) xlen (most_entries limit first at_most format) map trouble
-      → IsUntouched cert → IsUnwritten out
+      → WritesNothing cert → IsUnwritten out
       → Plans map file xlen limit at_most format name first source cert out (Err trouble)
   no_certificate :
       (runs : List Run) (trouble : Trouble) → HasMap source runs

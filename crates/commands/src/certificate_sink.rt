@@ -6,7 +6,7 @@ ghost use Rattle.permission_map.specs.Runs.{view_of_runs};
 ghost use Rattle.prefix_tree.specs.Counts.{splits};
 ghost use Rattle.prefix_tree.specs.TreeOf.{tree_of};
 ghost use Rattle.plan_certificate.specs.Written.{certificate_for};
-ghost use Rattle.commands.specs.CertifiedPlan.{placing, IsNotPlaced};
+ghost use Rattle.commands.specs.CertifiedPlan.{placing, CertificateNotWritten};
 
 use byte_streams::{DeviceFault, Sink};
 use entry_planner::PackedPlan;
@@ -42,7 +42,7 @@ pub trait CertificateSink<M>: Sink {
             (writing Self.contents Self.failures Self.stalls self.old self.new)
             × (stands self.new ≡ Self.contents self.new)) }
         ensures broken { IfErr result (λ _.
-            IsNotPlaced (certificate_for limit plan.now (tree_of (view_of_runs map.now)))
+            CertificateNotWritten (certificate_for limit plan.now (tree_of (view_of_runs map.now)))
             (placing Self.contents Self.failures Self.stalls stands is_apart self.old self.new)) };
 }
 

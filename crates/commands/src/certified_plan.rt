@@ -13,7 +13,7 @@ ghost use Rattle.entry_planner.specs.Order.{AreInOrder};
 ghost use Rattle.plan_certificate.specs.Written.{certificate_for};
 ghost use Rattle.byte_streams.specs.Writings.{writing, TakesAll};
 ghost use Rattle.pmp_encoding.specs.Widths.{AreReached};
-ghost use Rattle.commands.specs.CertifiedPlan.{placing, AreNeeded, IsBeyond, IsCertified, IsLoaded, IsNotPlaced, IsPlanned, IsTooFar, IsUnloaded, IsUnplanned, IsWithin, NeedsMore};
+ghost use Rattle.commands.specs.CertifiedPlan.{placing, AreNeeded, IsBeyond, IsCertified, IsLoaded, CertificateNotWritten, IsPlanned, IsTooFar, IsUnloaded, IsUnplanned, IsWithin, NeedsMore};
 
 use crate::certificate_sink::CertificateSink;
 use byte_streams::DeviceFault;
@@ -48,7 +48,7 @@ pub fn fewest_in<'a>(
         ⊎ IsTooFar (view_of_runs map.now) xlen None file.entry trouble) }
 {
     let plan = plan_of_map(alloc, map)?;
-    reached(&plan, xlen, file)?;
+    check_reach(&plan, xlen, file)?;
     Ok(plan.entries().len() as u64)
 }
 
@@ -106,7 +106,7 @@ fn within<'a>(plan: &PackedPlan, most: Option<u64>) -> Result<(), Trouble<'a>>
 }
 
 /// Refuses a plan that has an entry which the hart's address registers do not reach.
-fn reached<'a>(plan: &PackedPlan, xlen: Xlen, file: &'a str) -> Result<(), Trouble<'a>>
+fn check_reach<'a>(plan: &PackedPlan, xlen: Xlen, file: &'a str) -> Result<(), Trouble<'a>>
     ensures reached { IfOk result (λ _. AreReached xlen plan.now.entries) }
     ensures beyond { IfErr result (λ trouble. (AreReached xlen plan.now.entries → ⊥)
         × (trouble ≡ Trouble.TooFar file.entry)) }
@@ -133,14 +133,14 @@ pub fn planned_near<'a>(
         ⊎ IsTooFar (view_of_runs map.now) xlen most file.entry trouble)) }
 {
     let plan = planned_within(alloc, map, most)?;
-    reached(&plan, xlen, file)?;
+    check_reach(&plan, xlen, file)?;
     Ok(plan)
 }
 
 /// Puts the certificate of a map's plan in its place. (Out of line, so that a plan without one has no room for its pieces on the
 /// stack.)
 #[inline(never)]
-fn put<'a, M, C: CertificateSink<M>>(
+fn put_certificate<'a, M, C: CertificateSink<M>>(
     map: &PermissionMap,
     plan: &PackedPlan,
     limit: Limit,
@@ -154,7 +154,7 @@ fn put<'a, M, C: CertificateSink<M>>(
         × (C.stands sink.new ≡ C.contents sink.new)) }
     ensures broken { IfErr result (λ trouble.
         (trouble ≡ Trouble.CannotWrite file.entry)
-        × IsNotPlaced (certificate_for limit plan.now (tree_of (view_of_runs map.now)))
+        × CertificateNotWritten (certificate_for limit plan.now (tree_of (view_of_runs map.now)))
         (placing C.contents C.failures C.stalls C.stands C.is_apart sink.old sink.new)) }
 {
     match sink.take(map, plan, limit) {
@@ -190,8 +190,8 @@ pub fn plan_and_certify<'a, M, C: CertificateSink<M>>(
     };
     let plan = plan_map(alloc, map)?;
     within(&plan, most)?;
-    reached(&plan, xlen, name)?;
-    put::<M, C>(map, &plan, limit, file, sink)?;
+    check_reach(&plan, xlen, name)?;
+    put_certificate::<M, C>(map, &plan, limit, file, sink)?;
     Ok(plan)
 }
 
@@ -210,7 +210,7 @@ pub fn bank_in<'a>(
     let entries = plan.entries();
     match bank_of(entries, limit) {
         Some(bank) => {
-            reached(&plan, xlen, file)?;
+            check_reach(&plan, xlen, file)?;
             Ok(bank)
         }
         None => Err(Trouble::NeedsEntries {

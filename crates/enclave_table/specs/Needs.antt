@@ -7,7 +7,7 @@ use Rattle.enclave_table.specs.Views.{host_view}
 use Rattle.enclave_table.specs.declared.enclave.Enclave.{Enclave}
 use Rattle.measurement.specs.declared.request.Create.{Create}
 
--- the host's view needs so many entries with one more enclave of what is asked for under the next
+-- the host's view needs that many entries with one more enclave of what is asked for under the next
 -- id, whatever its pages hold
 abbrev pub NeedsWithCreated : EnclaveTable → Create → ℕ → Type 0
 NeedsWithCreated table asked n =

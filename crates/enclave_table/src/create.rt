@@ -29,7 +29,7 @@ impl Table {
         ensures none { IfNone result
             (AllPass (create_checks self.now.table world (parts_of asked)) → ⊥) }
     {
-        let parts = asked.kept();
+        let parts = asked.normalized();
         match self.checked_create(world, &parts) {
             Ok(_) => Some(parts),
             Err(_) => None,
@@ -83,7 +83,7 @@ impl Table {
         ensures kept { OnErr result (self.new ≡ self.old) }
     {
         self.cite_invariant();
-        let parts = asked.kept();
+        let parts = asked.normalized();
         let id = self.checked_create(world, &parts)?;
         let host = self.host_with(parts.private_pages(), Perm::NoAccess)?;
         let list = enclave_list(self.alloc(), self.limit(), &parts)?;

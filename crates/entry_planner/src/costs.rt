@@ -1,8 +1,8 @@
 //! What a block costs: its least number of entries, and under which permissions.
 
-use crate::beside::beside;
 use crate::packed_cost::PackedCost;
 use crate::perm_set::PermSet;
+use crate::sibling::sibling_of;
 use pmp_encoding::Perm;
 use prefix_tree::{Chain, Halving};
 use std::alloc::AllocError;
@@ -215,7 +215,7 @@ fn add_chain_costs(
     let mut rest = chain.place;
     for level in 0..chain.levels {
         // Which of the halves is the lower makes no difference to what they cost.
-        cost = add_split(beside(rest, before, behind), cost, costs)?;
+        cost = add_split(sibling_of(rest, before, behind), cost, costs)?;
         rest /= 2;
     }
     Ok(cost)

@@ -1,9 +1,9 @@
 //! The pass down the tree: which blocks take an entry.
 
-use crate::beside::beside;
 use crate::costs::SplitCost;
 use crate::packed_cost::PackedCost;
 use crate::shelves::Shelves;
+use crate::sibling::sibling_of;
 use pmp_encoding::{Entry, PAGE_SIZE, PackedEntry, Perm, Region, pages_of};
 use prefix_tree::{Chain, Halving};
 use std::alloc::AllocError;
@@ -72,7 +72,7 @@ impl PageBlock {
 
 /// The permission that the halves of a split block inherit: the first that is best for both, where there is one
 /// and the permission that the block inherits is best for neither; otherwise that one.
-fn chosen(cost: SplitCost, inherited: Perm) -> Perm
+fn halves_perm(cost: SplitCost, inherited: Perm) -> Perm
     ensures { (low high : PermTree) → cost ≡ split_cost low high
         → result ≡ handed_on low high inherited }
 {
@@ -117,7 +117,7 @@ fn own_entry(pages: PageBlock, inherited: Perm, perm: Perm) -> Option<PackedEntr
 /// Adds the entry that gives a block another permission than the inherited one, which goes before that of the upper half where
 /// this is the lower.
 #[inline(always)]
-fn turn(
+fn push_entry_in_order(
     pages: PageBlock,
     inherited: Perm,
     perm: Perm,
@@ -134,7 +134,7 @@ fn turn(
 
 /// The same for the half beside the next block of a chain: no entry of its size has a higher address.
 #[inline(always)]
-fn turn_beside(
+fn push_entry(
     pages: PageBlock,
     inherited: Perm,
     perm: Perm,
@@ -161,7 +161,7 @@ fn place_at(chain: Chain, depth: u32) -> u64
 
 /// The place of the other half, by that of one.
 #[inline(always)]
-fn place_beside(place: u64) -> u64
+fn sibling_index(place: u64) -> u64
     requires { place < 2 ^ 44 }
     ensures upper { place % 2 ≡ 1 → result + 1 ≡ place }
     ensures lower { place % 2 ≡ 0 → result ≡ place + 1 }
@@ -169,7 +169,7 @@ fn place_beside(place: u64) -> u64
     if place % 2 == 1 { place - 1 } else { place + 1 }
 }
 
-/// Adds the entries of the largest block of a chain, as [`place`] does.
+/// Adds the entries of the largest block of a chain, as [`place_entries`] does.
 #[cycle(placing)]
 fn place_chain<'a, H: Halving>(
     chain: Chain,
@@ -197,29 +197,29 @@ fn place_chain<'a, H: Halving>(
         let [others @ .., packed] = left else {
             unreachable!();
         };
-        let perm = chosen(packed.cost(), from);
-        turn(
+        let perm = halves_perm(packed.cost(), from);
+        push_entry_in_order(
             pages.part(depth, place_at(chain, depth)),
             from,
             perm,
             entries,
         )?;
         let place = place_at(chain, depth + 1);
-        let half = pages.part(depth + 1, place_beside(place));
-        let own = beside(place, chain.before, chain.behind);
-        turn_beside(half, perm, own, entries)?;
+        let half = pages.part(depth + 1, sibling_index(place));
+        let own = sibling_of(place, chain.before, chain.behind);
+        push_entry(half, perm, own, entries)?;
         from = perm;
         left = others;
     }
     let block = pages.part(chain.levels, chain.place);
-    let others = place(smallest, block, from, left, entries)?;
+    let others = place_entries(smallest, block, from, left, entries)?;
     Ok(others)
 }
 
 /// Adds the entries of a block that inherits a permission. The costs of its split blocks come last in the list, the first in
 /// preorder last; what comes before them is handed back.
 #[cycle(placing)]
-pub fn place<'a, H: Halving>(
+pub fn place_entries<'a, H: Halving>(
     block: &H,
     pages: PageBlock,
     inherited: Perm,
@@ -236,7 +236,7 @@ pub fn place<'a, H: Halving>(
         entries.old entries.new) }
 {
     if let Some(perm) = block.one_perm() {
-        turn(pages, inherited, perm, entries)?;
+        push_entry_in_order(pages, inherited, perm, entries)?;
         return Ok(costs);
     }
     if let Some((chain, smallest)) = block.chain() {
@@ -244,7 +244,7 @@ pub fn place<'a, H: Halving>(
             // No entry is placed on the way down.
             let others = &costs[..costs.len() - chain.levels as usize];
             let block = pages.part(chain.levels, chain.place);
-            let rest = place(&smallest, block, inherited, others, entries)?;
+            let rest = place_entries(&smallest, block, inherited, others, entries)?;
             return Ok(rest);
         }
         let rest = place_chain(chain, &smallest, pages, inherited, costs, entries)?;
@@ -254,9 +254,9 @@ pub fn place<'a, H: Halving>(
     let [rest @ .., packed] = costs else {
         unreachable!();
     };
-    let perm = chosen(packed.cost(), inherited);
-    let rest = place(&lower, pages.lower(), perm, rest, entries)?;
-    let rest = place(&upper, pages.upper(), perm, rest, entries)?;
-    turn(pages, inherited, perm, entries)?;
+    let perm = halves_perm(packed.cost(), inherited);
+    let rest = place_entries(&lower, pages.lower(), perm, rest, entries)?;
+    let rest = place_entries(&upper, pages.upper(), perm, rest, entries)?;
+    push_entry_in_order(pages, inherited, perm, entries)?;
     Ok(rest)
 }

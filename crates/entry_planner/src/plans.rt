@@ -17,7 +17,7 @@ use crate::costs::add_costs;
 use crate::order::in_order;
 use crate::packed_cost::PackedCost;
 use crate::packed_plan::PackedPlan;
-use crate::placement::{PageBlock, place};
+use crate::placement::{PageBlock, place_entries};
 use crate::planned::Plan;
 use crate::shelves::Shelves;
 use permission_map::{Memory, PermissionMap};
@@ -39,7 +39,7 @@ fn entries_of<H: Halving>(
 {
     let mut placed = Shelves::with_room(alloc, least)?;
     let space = PageBlock { first: 0, log2: 44 };
-    let _ = place(root, space, Perm::NoAccess, costs, &mut placed)?;
+    let _ = place_entries(root, space, Perm::NoAccess, costs, &mut placed)?;
     Ok(in_order(alloc, placed))
 }
 

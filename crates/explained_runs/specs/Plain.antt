@@ -5,7 +5,7 @@ use Rattle.hart_sim.specs.Reports.{DoesLine}
 use Rattle.trace_answers.specs.Explained.{explained}
 use Rattle.explained_runs.specs.Accounts.{Account, ExplainsLine}
 
--- each of these is an answer with a comment behind it
+-- each of these is an answer with a comment after it
 abbrev pub AreExplained : List (List ℕ) → List (List ℕ) → Type 0
 AreExplained [] [] = Unit {0}
 AreExplained (answer ∷ answers) (said ∷ rest) =

@@ -48,8 +48,8 @@ kind_name Refusals kind = codes "-" ++ decimal kind
 abbrev pub part_text : Subject → Count → List ℕ
 part_text subject count = kind_name subject count.kind ++ codes ": " ++ decimal count.number
 
--- the counts that are not zero, after one that was told, each behind a comma, and the bracket that
--- closes
+-- the counts that are not zero, after one that was written, each after a comma, and the bracket
+-- that closes
 abbrev pub more_text : Subject → List Count → List ℕ
 more_text subject [] = codes ")"
 more_text subject (count ∷ counts) = if count.number == 0 then more_text subject counts

@@ -127,7 +127,7 @@ abbrev pub HasAccount : Machine → Tally → (Account → Type 0) → Type 0
 HasAccount machine tally Holds = (happened : List Happening) × IsTallyOf happened tally
     × Holds (record { machine = machine; happened = happened })
 
--- what a line does, told of the machine and the tally: of whatever the tally has counted, the
+-- what a line does, said of the machine and the tally: of whatever the tally has counted, the
 -- account goes on, and the tally with it
 abbrev pub ExplainsNext : Machine → Tally → ℕ → List ℕ → Option (List ℕ) → Machine → Tally → Type 0
 ExplainsNext old counted n line said new counts =

@@ -54,7 +54,7 @@ abbrev pub numbered : ℕ → Data → Option Data
 numbered zero value = None
 numbered (suc i) value = at i value
 
--- what stands at a place of a document: a range of memory and a device are counted from 1
+-- what is at a place of a document: a range of memory and a device are counted from 1
 abbrev pub value_of : Members → TomlPath → Option Data
 value_of document File = Some (table document)
 value_of document Monitor = get_member (codes "monitor") document
@@ -78,7 +78,7 @@ Breaks fields place (NoPerm spot) =
     × (get_member (codes "perm") fields ≡ Some value) × (perm_of value ≡ None)
 Breaks fields place _ = ⊥
 
--- what stands at a place breaks this: it is no table, or one that breaks it
+-- what is at a place breaks this: it is no table, or one that breaks it
 abbrev pub BreaksAt : Data → TomlPath → Breach → Type 0
 BreaksAt value place breach =
     ((as_table value ≡ None) × (breach ≡ NoTable place))
@@ -105,7 +105,7 @@ IsBroken fault ram devices (breaches.Overlap one other) = (fault ≡ Overlap)
     × IsOverlap (placed_ranges ram devices) one other
 IsBroken fault ram devices _ = ⊥
 
--- a document breaks this: what stands at a place does, a value is no array, two ranges have a page
+-- a document breaks this: what is at a place does, a value is no array, two ranges have a page
 -- in common, or another rule is broken
 pub data IsBreach (document : Members) : Breach → Type 0 where
   at_place : (place : TomlPath) (value : Data) (breach : Breach)

@@ -39,8 +39,8 @@ abbrev pub Begins : List PlacedWord → EventKind → Type 0
 Begins words kind = (first : PlacedWord) × (slice_get words 0 ≡ Some first)
     × (kind_of first.1 ≡ Some kind)
 
--- an event's words break this, at a word and so many bytes before it. A word that is wanting would
--- stand after the last
+-- an event's words break this, at a word and that many bytes before it. A word that is wanting
+-- would come after the last
 abbrev pub BreaksEvent : List PlacedWord → ℕ → Word → Reason → Type 0
 BreaksEvent words before word UnknownEvent = (slice_get words 0 ≡ Some (before, word))
     × (kind_of word ≡ None)

@@ -1,4 +1,4 @@
--- The forms of events: the words that stand after the one that begins an event.
+-- The forms of events: the words that come after the one that begins an event.
 use Rattle.std.specs.Prelude.{ℕ, Bool, true, false, ◌&&◌, List, [], ◌∷◌, Option, Some, None}
 use Rattle.std.specs.Prelude.{if◌then◌else◌, bytes_eq, codes, is_some}
 use Rattle.pmp_match.specs.declared.access.Kind.{Kind}
@@ -48,7 +48,7 @@ abbrev pub size_fits : Kind → Option ℕ → Bool
 size_fits kind None = false
 size_fits kind (Some size) = has_size kind size
 
--- whether a word is what should stand there
+-- whether a word is what should be there
 abbrev pub fits : Slot → Word → Bool
 fits Mode word = is_some (mode_of word)
 fits (Size kind) word = size_fits kind (number_of word)
@@ -57,7 +57,7 @@ fits Value word = is_some (number_of word)
 fits Register word = is_some (register_of word)
 fits Argument word = is_some (number_of word)
 
--- whether words are what should stand there, one for each, or fewer where that may be
+-- whether words are what should be there, one for each, or fewer where that may be
 abbrev pub fit_all : Bool → List Slot → List Word → Bool
 fit_all fewer [] [] = true
 fit_all fewer [] (word ∷ words) = false

@@ -19,7 +19,7 @@ place_part Monitor = 1
 place_part (Ram n) = 2
 place_part (Device n) = 3
 
--- the part that a key of the file stands for
+-- the part that a key of the file means
 abbrev pub file_part : Key → ℕ
 file_part keys.Monitor = 1
 file_part keys.Ram = 2
@@ -97,7 +97,7 @@ abbrev pub BreaksNoneBelow : Members → TomlPath → ℕ → Type 0
 BreaksNoneBelow fields place step = (other : Breach) → Breaks fields place other
     → step_of other < step → ⊥
 
--- the same of what stands at a place
+-- the same of what is at a place
 abbrev pub BreaksNoneBelowAt : Data → TomlPath → ℕ → Type 0
 BreaksNoneBelowAt value place step = (other : Breach) → BreaksAt value place other
     → step_of other < step → ⊥

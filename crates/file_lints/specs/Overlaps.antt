@@ -18,8 +18,8 @@ placed_from place n (range ∷ ranges) = record { place = place n; bounds = rang
 abbrev pub placed_ranges : List (ℕ × ℕ) → List (ℕ × ℕ × Perm) → List PlacedRange
 placed_ranges ram devices = placed_from Ram 1 ram ++ placed_from Device 1 (map device_range devices)
 
--- of these ranges one has a page in common with another, which stands before it. They are the first
--- such two: each range that stands before the other is apart from all behind it, and the other from
+-- of these ranges one has a page in common with another, which comes before it. They are the first
+-- such two: each range before the other is apart from all after it, and the other from
 -- those between
 pub record IsOverlap (ranges : List PlacedRange) (one other : PlacedRange) : Type 0 where
   pub before : ℕ

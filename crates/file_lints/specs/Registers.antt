@@ -26,7 +26,7 @@ named_register word =
     else if bytes_eq word (codes "fp") then Some 8
     else None
 
--- the register that a word means by the number after its first letter, where one stands there
+-- the register that a word means by the number after its first letter, where one is there
 abbrev pub meant_by : Word → ℕ → Option ℕ → Option ℕ
 meant_by word letter (Some n) = numbered_register letter n
 meant_by word letter None = named_register word

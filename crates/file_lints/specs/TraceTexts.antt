@@ -61,7 +61,7 @@ abbrev pub register_fault : Option ℕ → List ℕ
 register_fault None = codes " is no register; write x0 to x31"
 register_fault (Some n) = codes " is not written so; write x" ++ decimal n
 
--- what is wrong with a word that is not what should stand there
+-- what is wrong with a word that is not what should be there
 abbrev pub misfit_fault : Slot → Word → List ℕ
 misfit_fault Mode word = mode_fault word
 misfit_fault (Size kind) word = size_fault kind word (number_of word)

@@ -3,7 +3,7 @@ use Rattle.std.proofs.Common.{◌≡◌, ◌≢◌, ℕ, ◌+◌, ◌<◌, ◌++
 use Rattle.std.specs.Prelude.{IfOk, IfErr}
 use Rattle.text_lines.specs.declared.line_loop.LineRefusal.{LineRefusal}
 use Rattle.text_lines.specs.declared.line_loop.LineRefusal.TheVariants.{Memory, NotUnderstood}
-use Rattle.text_lines.specs.LineLoop.{Comes}
+use Rattle.text_lines.specs.LineLoop.{IsLineResult}
 use Rattle.hart_trace.specs.declared.event.Event.{Event}
 use Rattle.hart_trace.specs.Events.{meaning_of}
 use Rattle.hart_trace.specs.declared.reply.Reply.{Reply}
@@ -26,7 +26,7 @@ pub comes :
     → meaning_of harts line ≡ Some (Some (hart, event))
     → IfOk r (λ answered. answered ≡ true) → IfOk r (λ _. Replied old hart event new behind) → IfErr r (λ refusal. refusal ≡ Memory)
     → IfErr r (λ _. Happens old hart event NoMemory new)
-    → Comes DoesLine RefusesLine StarvesLine old count line r behind new
+    → IsLineResult DoesLine RefusesLine StarvesLine old count line r behind new
 comes old new harts hart count line behind event (Ok true) is said answered done refused starved =
     (hart, event, done.0, rw is at said, done.1, done.2, done.3 (count + 1))
 comes old new harts hart count line behind event (Ok false) is said answered done refused starved = absurd (let h : false ≡ true = answered in cc)

@@ -7,7 +7,7 @@ use Rattle.hart_trace.specs.Events.{meaning_of}
 use Rattle.text_lines.specs.declared.fault.RunFault.{RunFault}
 use Rattle.text_lines.specs.declared.fault.RunFault.TheVariants as faults
 use Rattle.text_lines.specs.Lines.{has_no_end, AreLines, IsShortLine, without_return}
-use Rattle.text_lines.specs.LineLoop.{Meaning, Does, none, silent, answer, ended, Stands, ComesTo, DoesAll, DoesLines, StopsAt, StopsTooLong, StopsReading}
+use Rattle.text_lines.specs.LineLoop.{Meaning, Does, none, silent, answer, ended, IsFront, ComesTo, DoesAll, DoesLines, StopsAt, StopsTooLong, StopsReading}
 use Rattle.text_lines.specs.LineLoop.{StopsWriting, StopsForMemory}
 use Rattle.hart_sim.specs.declared.machine.Machine.{Machine}
 use Rattle.hart_trace.specs.declared.reply.Reply.{Reply}
@@ -46,7 +46,7 @@ are_lines [] last h e some = (e, [], inr (some, refl, refl), refl)
 are_lines (line ∷ lines) last h e some = (h.0, ended lines ++ last, inl (append_assoc line (10 ∷ ended lines) last), are_lines lines last h.1 e some)
 
 -- with a line that stands in what came, what was read begins
-one_begins : (lines : List (List ℕ)) (bytes line : List ℕ) (after : Option (List ℕ)) → NoEnds lines → IsShortLine line → Stands bytes after line
+one_begins : (lines : List (List ℕ)) (bytes line : List ℕ) (after : Option (List ℕ)) → NoEnds lines → IsShortLine line → IsFront bytes after line
     → BeginsWith (ended lines ++ bytes) (lines ++ line ∷ [])
 one_begins lines bytes line after h short (inl p) = inl (p.0, ap (λ xs. ended lines ++ xs) p.1 ∙ ended-rest lines line p.0)
 one_begins lines bytes line after h short (inr p) =

@@ -1,4 +1,4 @@
--- A machine, after boot made it of a platform and so many events happened to it.
+-- A machine, after boot made it of a platform and that many events happened to it.
 use Rattle.std.specs.Prelude.{◌≡◌, ◌≢◌, ℕ, ◌<◌, List, [], ◌∷◌, ◌++◌}
 use Rattle.platforms.specs.Platform.{PlatformLayout, IsLayout}
 use Rattle.hart_trace.specs.declared.event.Event.{Event}

@@ -21,8 +21,8 @@ use Rattle.hart_sim.specs.Steps.{Run}
 use Rattle.hart_trace.specs.Texts.{reply_text, report_text}
 use Rattle.enclave_table.specs.Views.{current_view}
 
--- what a line, which may name each hart of the platform, does after so many replies: nothing where
--- it has no words; else its event happens, and the reply is told
+-- what a line, which may name each hart of the platform, does after that many replies: nothing
+-- where it has no words; else its event happens, and the reply is written
 abbrev pub DoesLine : Machine → ℕ → List ℕ → Option (List ℕ) → Machine → Type 0
 DoesLine old count line None new = (meaning_of (state_of old).table.layout.harts line ≡ Some None)
     × (new ≡ old)

@@ -6,7 +6,7 @@ use std::marker::Model;
 use std::mem;
 
 /// The bank of a hart. A world and the one before it run in turns, so the bank that was loaded before is kept: it rests, and is put
-/// back where it has the list that is wanted. Both are behind pointers, so that an exchange moves no registers.
+/// back where it has the list that is wanted. Both are pointed to, so that an exchange moves no registers.
 #[derive(Drop)]
 pub(crate) struct HartBank {
     loaded: Box<Bank>,

@@ -13,7 +13,7 @@ use Rattle.hart_trace.specs.declared.event.Event.{Event}
 use Rattle.hart_trace.specs.declared.event.Event.TheVariants as events
 use Rattle.hart_trace.specs.Events.{meaning_of}
 
--- what stands behind the number of an answer: ` ok` or ` fault CAUSE`
+-- what comes after the number of an answer: ` ok` or ` fault CAUSE`
 abbrev pub answer_end : Result (Unit {0}) Cause → List ℕ
 answer_end (Ok done) = codes " ok\n"
 answer_end (Err cause) = codes " fault " ++ decimal (cause_number cause) ++ codes "\n"

@@ -43,12 +43,12 @@ access_of kind (m ∷ s ∷ a ∷ rest) = do
   Some (access, rest)
 access_of kind _ = None
 
--- a fetch or a load: nothing stands after the address
+-- a fetch or a load: nothing comes after the address
 abbrev pub with_no_value : Access × List Word → Option Event
 with_no_value (access, []) = Some (events.Access access 0)
 with_no_value (access, word ∷ words) = None
 
--- a store: VALUE stands after the address
+-- a store: VALUE comes after the address
 abbrev pub with_value : Access × List Word → Option Event
 with_value (access, word ∷ []) = option_map (events.Access access) (number_of word)
 with_value (access, _) = None

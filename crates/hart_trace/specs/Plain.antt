@@ -24,7 +24,7 @@ Starts text mode size behind = (m s x : ℕ) × (text ≡ m ∷ 32 ∷ s ∷ 32 
     × (mode_of (m ∷ []) ≡ Some mode) × (number_of (s ∷ []) ≡ Some size) × (is_letter m ≡ true)
     × (is_letter s ≡ true) × (is_mark x ≡ true)
 
--- a text begins with letters that spell a number, and after them stands the rest
+-- a text begins with letters that spell a number, and after them comes the rest
 abbrev pub BeginsNumber : List ℕ → ℕ → List ℕ → Type 0
 BeginsNumber text value rest = (b : ℕ) × (word : List ℕ) × (text ≡ (b ∷ word) ++ rest)
     × (list_all is_letter (b ∷ word) ≡ true) × (number_of (b ∷ word) ≡ Some value)

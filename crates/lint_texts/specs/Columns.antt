@@ -1,10 +1,10 @@
--- The words of a line, each with how many bytes of the line stand before it.
+-- The words of a line, each with how many bytes of the line come before it.
 use Rattle.std.specs.Prelude.{ℕ, ◌+◌, ◌-◌, Bool, if◌then◌else◌, List, [], ◌∷◌, length, map, take}
 use Rattle.std.specs.Prelude.{drop}
 use Rattle.std.specs.List.{position_or_len, prefix_len}
 use Rattle.text_lines.specs.Words.{is_blank}
 
--- how many bytes stand before the first word that begins at a place or after it
+-- how many bytes come before the first word that begins at a place or after it
 abbrev pub begin_from : List ℕ → ℕ → ℕ
 begin_from text at = at + prefix_len is_blank (drop at text)
 
@@ -16,15 +16,15 @@ end_from text at = begin_from text at + position_or_len is_blank (drop (begin_fr
 abbrev pub word_from : List ℕ → ℕ → List ℕ
 word_from text at = take (end_from text at - begin_from text at) (drop (begin_from text at) text)
 
--- a word, and how many bytes stand before it
+-- a word, and how many bytes come before it
 abbrev pub PlacedWord : Type 0
 PlacedWord = ℕ × List ℕ
 
--- how many bytes stand before its end
+-- how many bytes come before its end
 abbrev pub end_of : PlacedWord → ℕ
 end_of placed = placed.0 + length placed.1
 
--- a byte before some words: it stands alone where a blank or nothing follows it, otherwise it
+-- a byte before some words: it is alone where a blank or nothing follows it, otherwise it
 -- begins the first of them
 abbrev pub placed_joined : (ℕ → Bool) → ℕ → ℕ → List ℕ → List PlacedWord → List PlacedWord
 placed_joined blank at b [] words = (at, b ∷ []) ∷ words
@@ -32,7 +32,7 @@ placed_joined blank at b (next ∷ rest) [] = (at, b ∷ []) ∷ []
 placed_joined blank at b (next ∷ rest) (placed ∷ words) = if blank next then (at, b ∷ []) ∷ placed
     ∷ words else (at, b ∷ placed.1) ∷ words
 
--- the words of a text before which so many bytes stand, which one or more blanks part
+-- the words of a text before which that many bytes come, which one or more blanks part
 abbrev pub placed_by : (ℕ → Bool) → ℕ → List ℕ → List PlacedWord
 placed_by blank at [] = []
 placed_by blank at (b ∷ bytes) = if blank b then placed_by blank (at + 1) bytes

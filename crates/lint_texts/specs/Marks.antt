@@ -16,7 +16,7 @@ abbrev pub begins_with_both : ℕ → ℕ → List ℕ → Bool
 begins_with_both byte next [] = false
 begins_with_both byte next (first ∷ rest) = first == byte && begins_with next rest
 
--- what is wrong with a text whose first byte may not stand outside a comment
+-- what is wrong with a text whose first byte may not be outside a comment
 abbrev pub byte_fault : List ℕ → List ℕ
 byte_fault text =
     if begins_with 13 text then codes "a CR that no LF follows; end lines with LF"

@@ -3,11 +3,11 @@ use Rattle.std.proofs.Common.{◌≡◌, List, [], Bool, true, false, refl}
 use Rattle.pmp_encoding.specs.declared.perm.Perm.TheVariants.{NoAccess}
 use Rattle.permission_map.specs.declared.runs.Run.{Run}
 use Rattle.map_lint.specs.declared.idle.Numbered.{Numbered}
-use Rattle.map_lint.specs.Settings.{IsAllowedOn, IsDeniedOn, IsSaidAnyway, SetTo, allowed, denied}
+use Rattle.map_lint.specs.Settings.{IsAllowedOn, IsDeniedOn, IsRedundantDenial, SetTo, allowed, denied}
 
 pub said_by :
     (kept : List Numbered) (setting : Run) (before : List Run) (b : Bool) → SetTo [] kept before → setting.perm ≡ NoAccess
     → (b ≡ true → IsDeniedOn before setting)
-    → (b ≡ false → IsAllowedOn before setting) → IsSaidAnyway kept setting b
+    → (b ≡ false → IsAllowedOn before setting) → IsRedundantDenial kept setting b
 said_by kept setting before true set none d a = denied before set none (d refl)
 said_by kept setting before false set none d a = allowed before set (a refl)

@@ -4,18 +4,18 @@ use Rattle.std.proofs.lemmas.Grind.{common_steps}
 use Rattle.std.proofs.lemmas.List.{drop_more}
 use Rattle.permission_map.specs.declared.runs.Run.{Run}
 use Rattle.map_lint.specs.declared.idle.Numbered.{Numbered}
-use Rattle.map_lint.specs.Settings.{AreNamed, IsSaidAnyway, LeadElsewhere, Named, SetTo, idle, needed}
+use Rattle.map_lint.specs.Settings.{AreNamed, IsRedundantDenial, LeadElsewhere, Named, SetTo, idle, needed}
 
 -- `&settings[i..]` is read as its whole length from there
 pub rest_from : (i : ℕ) (settings : List Numbered) → take (length settings - i) (drop i settings) ≡ drop i settings
 rest_from i settings = grind (arith, common_steps)
 
 pub name_it :
-    (whole : List Run) (kept settings : List Numbered) (i : ℕ) (d : Numbered) (named : List Named) (left : List Numbered) (anyway : Bool) → i < length settings
-    → IsSaidAnyway kept (get_or settings i d).setting anyway → SetTo [] (kept ++ drop (i + 1) settings) whole
+    (whole : List Run) (kept settings : List Numbered) (i : ℕ) (d : Numbered) (named : List Named) (left : List Numbered) (redundant : Bool) → i < length settings
+    → IsRedundantDenial kept (get_or settings i d).setting redundant → SetTo [] (kept ++ drop (i + 1) settings) whole
     → AreNamed whole kept (drop (i + 1) settings) named left
-    → AreNamed whole kept (drop i settings) (record { line = (get_or settings i d).line; anyway = anyway } ∷ named) left
-name_it whole kept settings i d named left anyway less said set are = rw (drop_more settings i d less) (idle (get_or settings i d) anyway said set are)
+    → AreNamed whole kept (drop i settings) (record { line = (get_or settings i d).line; redundant = redundant } ∷ named) left
+name_it whole kept settings i d named left redundant less said set are = rw (drop_more settings i d less) (idle (get_or settings i d) redundant said set are)
 
 pub keep_it :
     (whole : List Run) (kept settings : List Numbered) (i : ℕ) (d : Numbered) (named : List Named) (left : List Numbered) → i < length settings

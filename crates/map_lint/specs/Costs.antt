@@ -9,7 +9,7 @@ use Rattle.text_lines.specs.Lines.{raw_lines}
 use Rattle.map_lint.specs.declared.idle.Numbered.{Numbered}
 use Rattle.map_lint.specs.Settings.{IsTooManyAfter, SetTo, settings_from}
 
--- settings make a map whose fewest entries are so many
+-- settings make a map whose fewest entries are that many
 pub record Needs (settings : List Numbered) (n : ℕ) : Type 0 where
   pub map : List Run
   pub set : SetTo [] settings map
@@ -22,7 +22,7 @@ abbrev pub HasCost : List Numbered → Option ℕ → Type 0
 HasCost settings (Some n) = Needs settings n
 HasCost settings None = (line : ℕ) × IsTooManyAfter line [] settings
 
--- what stands after a number of entries
+-- what comes after a number of entries
 abbrev pub entries_named : ℕ → List ℕ
 entries_named n = if n == 1 then codes " entry\n" else codes " entries\n"
 
@@ -32,8 +32,8 @@ cost_text line (Some n) = codes "without line " ++ decimal line ++ codes ": " ++
     ++ entries_named n
 cost_text line None = codes "without line " ++ decimal line ++ codes ": more than 4096 ranges\n"
 
--- what is said of so many of these settings, from the first on: of each how many entries the map of
--- all others needs
+-- what is said of that many of these settings, from the first on: of each how many entries the map
+-- of all others needs
 pub data AreCosts (settings : List Numbered) : ℕ → List ℕ → Type 0 where
   none : AreCosts settings 0 []
   more :
@@ -42,7 +42,7 @@ pub data AreCosts (settings : List Numbered) : ℕ → List ℕ → Type 0 where
       → HasCost (take i settings ++ drop (i + 1) settings) cost
       → AreCosts settings (i + 1) (text ++ cost_text numbered.line cost)
 
--- how many of so many settings are not looked at, where there are more than 512
+-- how many of the settings are not looked at, where there are more than 512
 abbrev pub unlooked_text : ℕ → List ℕ
 unlooked_text n = if nat_lt 512 n then codes "lines after these that are not looked at: "
     ++ decimal (n - 512) ++ codes "\n" else []

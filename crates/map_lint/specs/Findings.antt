@@ -18,7 +18,7 @@ findings_from name n [] = []
 findings_from name n (raw ∷ lines) = finding_by name n raw (raw_says raw)
     ++ findings_from name (n + 1) lines
 
--- what is written of a file: its lines at fault, and what stands after them
+-- what is written of a file: its lines at fault, and what comes after them
 pub record IsLintText (name bytes : List ℕ) (is_map : Bool) (text : List ℕ) : Type 0 where
   pub tail : List ℕ
   pub text_is : text ≡ findings_from name 1 (raw_lines bytes) ++ tail

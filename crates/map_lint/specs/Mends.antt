@@ -52,7 +52,7 @@ pub record MendsHold : Type 0 where
   pub permission : (first bytes : ℕ) (perm : Option Perm) (other : Perm)
       → 1 < first_fault first bytes perm → first_fault first bytes (Some other) ≡ 3
 
--- digits behind `0x` are the number that they are as hexadecimal ones
+-- digits after `0x` are the number that they are as hexadecimal ones
 abbrev pub ReadsHexadecimal : Type 0
 ReadsHexadecimal = (digits : List ℕ) → number_of (codes "0x" ++ digits) ≡ numeral_of 16 digits
 

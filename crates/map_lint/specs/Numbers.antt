@@ -16,7 +16,7 @@ abbrev pub number_text : List ℕ → ℕ → List ℕ → List ℕ
 number_text name before word = named_text name before
     ++ (quoted word ++ no_number (looks_like_number word))
 
--- a hyphen stands in a word, after its first byte
+-- a hyphen is in a word, after its first byte
 abbrev pub has_hyphen : List ℕ → Bool
 has_hyphen [] = false
 has_hyphen (first ∷ rest) = list_any (λ b. b == 45) rest
@@ -36,7 +36,7 @@ abbrev pub base_text : ℕ → List ℕ → List ℕ
 base_text before word = named_text (codes "BASE") before ++ (quoted word ++ base_fault word)
 
 -- the digits of a number that is no whole number of pages are one as hexadecimal digits, and at
--- most so many bytes
+-- most that many bytes
 abbrev pub is_whole_hex : ℕ → Option ℕ → Bool
 is_whole_hex most None = false
 is_whole_hex most (Some n) = n % 4096 == 0 && nat_le n most
@@ -51,7 +51,7 @@ abbrev pub part_text : List ℕ → ℕ → List ℕ → List ℕ
 part_text name before word = named_text name before
     ++ (word ++ codes " is not a multiple of 4096; ")
 
--- as many bytes as the fewest whole pages that have so many
+-- as many bytes as the fewest whole pages that have that many
 abbrev pub whole_bytes : ℕ → ℕ
 whole_bytes bytes = bytes + 4095 - (bytes + 4095) % 4096
 
@@ -75,7 +75,7 @@ base_part before word first bytes =
     if is_whole_hex (2 ^ 56 - 4096) (numeral_of 16 word) then hex_text (codes "BASE") before word
     else part_text (codes "BASE") before word ++ base_mend first bytes
 
--- what stands before the whole pages of a size that is no whole number of them
+-- what comes before the whole pages of a size that is no whole number of them
 abbrev pub pages_mend : ℕ → List ℕ
 pages_mend bytes = if nat_lt bytes 4096 then codes "the whole page is "
     else codes "the whole pages are "

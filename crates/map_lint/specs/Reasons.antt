@@ -52,7 +52,7 @@ perm_fault word =
 abbrev pub perm_text : ℕ → List ℕ → List ℕ
 perm_text before word = column_text before ++ (codes "PERM " ++ (quoted word ++ perm_fault word))
 
--- what is said of a base behind the space
+-- what is said of a base past the space
 abbrev pub past_text : ℕ → List ℕ
 past_text base_at = column_text base_at
     ++ codes "BASE is past 2^56; the space ends at 0x100000000000000"
@@ -78,7 +78,7 @@ three_by base_at base size_at size perm_at perm first None = number_text (codes 
 three_by base_at base size_at size perm_at perm first (Some bytes) =
     range_text base_at base size_at size perm_at perm first bytes
 
--- three words of which the first is this number, each with how many bytes stand before it
+-- three words of which the first is this number, each with how many bytes come before it
 unfoldable pub three_text : ℕ → List ℕ → ℕ → List ℕ → ℕ → List ℕ → ℕ → List ℕ
 three_text base_at base size_at size perm_at perm first =
     three_by base_at base size_at size perm_at perm first (number_of size)

@@ -49,17 +49,17 @@ IsAllowedOn map setting = (page : ℕ) × (setting.first ≤ page) × (page < en
 
 -- whether a setting after others says what holds anyway: it denies its pages, to none of which
 -- those others give a permission
-pub data IsSaidAnyway (kept : List Numbered) (setting : Run) : Bool → Type 0 where
+pub data IsRedundantDenial (kept : List Numbered) (setting : Run) : Bool → Type 0 where
   denied : (before : List Run) → SetTo [] kept before → setting.perm ≡ NoAccess
-      → IsDeniedOn before setting → IsSaidAnyway kept setting true
+      → IsDeniedOn before setting → IsRedundantDenial kept setting true
   allowed : (before : List Run) → SetTo [] kept before → IsAllowedOn before setting
-      → IsSaidAnyway kept setting false
-  allows : setting.perm ≢ NoAccess → IsSaidAnyway kept setting false
+      → IsRedundantDenial kept setting false
+  allows : setting.perm ≢ NoAccess → IsRedundantDenial kept setting false
 
 -- a line that is named, and whether it says what holds anyway
 pub record Named : Type 0 where
   pub line : ℕ
-  pub anyway : Bool
+  pub redundant : Bool
 
 -- which settings are named, from first to last, and which are left of all: `kept` are those left of
 -- the ones before. A setting is named exactly where all that are still left lead to the whole map
@@ -69,9 +69,9 @@ pub data AreNamed (whole : List Run) : List Numbered → List Numbered → List 
   end : {kept : List Numbered} → AreNamed whole kept [] [] kept
   idle :
       {kept rest left : List Numbered} → {named : List Named} → (numbered : Numbered)
-      → (anyway : Bool) → IsSaidAnyway kept numbered.setting anyway
+      → (denial : Bool) → IsRedundantDenial kept numbered.setting denial
       → SetTo [] (kept ++ rest) whole → AreNamed whole kept rest named left
-      → AreNamed whole kept (numbered ∷ rest) (record { line = numbered.line; anyway = anyway }
+      → AreNamed whole kept (numbered ∷ rest) (record { line = numbered.line; redundant = denial }
       ∷ named) left
   needed :
       {kept rest left : List Numbered} → {named : List Named} → (numbered : Numbered)
@@ -85,12 +85,12 @@ idle_reason true =
 idle_reason false = codes "1: warning: the line changes nothing of the whole map; it can go\n"
 
 abbrev pub idle_text : List ℕ → ℕ → Bool → List ℕ
-idle_text name n anyway = place_text name n ++ idle_reason anyway
+idle_text name n redundant = place_text name n ++ idle_reason redundant
 
 -- the same of each named line, one after another
 abbrev pub idle_texts : List ℕ → List Named → List ℕ
 idle_texts name [] = []
-idle_texts name (it ∷ named) = idle_text name it.line it.anyway ++ idle_texts name named
+idle_texts name (it ∷ named) = idle_text name it.line it.redundant ++ idle_texts name named
 
 -- a warning or a note of each named line; without all of them together, the settings that are left
 -- lead to the same map

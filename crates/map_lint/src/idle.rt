@@ -4,7 +4,7 @@ ghost use Rattle.std.specs.Prelude.{◌≡◌, ◌≢◌, ◌≤◌, ◌^◌, �
 ghost use Rattle.std.specs.List.{All};
 ghost use Rattle.pmp_encoding.specs.declared.perm.Perm.TheVariants.{NoAccess};
 ghost use Rattle.permission_map.specs.Runs.{end_of};
-ghost use Rattle.map_lint.specs.Settings.{AreWarnings, IsAllowedOn, IsDeniedOn, IsInside, IsSaidAnyway, IsTail, IsTooManyAfter, LeadElsewhere, SetTo, idle_reason, idle_text, too_many_text};
+ghost use Rattle.map_lint.specs.Settings.{AreWarnings, IsAllowedOn, IsDeniedOn, IsInside, IsRedundantDenial, IsTail, IsTooManyAfter, LeadElsewhere, SetTo, idle_reason, idle_text, too_many_text};
 
 use lint_texts::{push, push_place};
 use permission_map::{MapBuilder, MapFault, Memory, PermissionMap, Run};
@@ -74,10 +74,10 @@ fn is_same(one: &PermissionMap, other: &PermissionMap) -> bool
 }
 
 /// What is said of a line without which the map is the same.
-fn idle_reason(anyway: bool) -> &'static str
-    ensures { result.now ≡ idle_reason anyway }
+fn idle_reason(redundant: bool) -> &'static str
+    ensures { result.now ≡ idle_reason redundant }
 {
-    if anyway {
+    if redundant {
         "1: note: the line says what holds anyway; its pages have no permission without it\n"
     } else {
         "1: warning: the line changes nothing of the whole map; it can go\n"
@@ -85,11 +85,11 @@ fn idle_reason(anyway: bool) -> &'static str
 }
 
 /// Appends what is said of a line without which the map is the same.
-fn push_idle(text: &mut Vec<u8>, name: &str, line: u64, anyway: bool) -> Result<(), Memory>
-    ensures { OnOk result (text.new.items ≡ text.old.items ++ idle_text name.now line anyway) }
+fn push_idle(text: &mut Vec<u8>, name: &str, line: u64, redundant: bool) -> Result<(), Memory>
+    ensures { OnOk result (text.new.items ≡ text.old.items ++ idle_text name.now line redundant) }
 {
     push_place(text, name, line)?;
-    push(text, idle_reason(anyway))
+    push(text, idle_reason(redundant))
 }
 
 /// Whether a setting takes each permission away.
@@ -127,11 +127,11 @@ fn map_of_kept(alloc: Global, kept: &[Numbered]) -> Result<PermissionMap, Memory
 }
 
 /// Whether a setting after others says what holds anyway.
-fn is_said_anyway(alloc: Global, kept: &[Numbered], setting: &Run) -> Result<bool, Memory>
+fn is_redundant_denial(alloc: Global, kept: &[Numbered], setting: &Run) -> Result<bool, Memory>
     requires setting { end_of setting.now ≤ 2 ^ 44 }
     requires inside { All IsInside kept.now }
     requires made { (map : List Run) × SetTo [] kept.now map }
-    ensures { IfOk result (IsSaidAnyway kept.now setting.now) }
+    ensures { IfOk result (IsRedundantDenial kept.now setting.now) }
 {
     if !denies(setting) {
         return Ok(false);
@@ -186,8 +186,8 @@ fn push_warnings(
     let mut kept = Vec::new(alloc);
     for (i, numbered) in settings.iter().enumerate() {
         if is_whole(alloc, kept.as_slice(), &settings[i + 1..], whole)? {
-            let anyway = is_said_anyway(alloc, kept.as_slice(), &numbered.setting)?;
-            push_idle(text, name, numbered.line, anyway)?;
+            let redundant = is_redundant_denial(alloc, kept.as_slice(), &numbered.setting)?;
+            push_idle(text, name, numbered.line, redundant)?;
         } else {
             kept.push(*numbered)?;
         }

@@ -9,7 +9,7 @@ use Rattle.text_lines.specs.Written.{hex}
 use Rattle.map_table.specs.declared.stretch.Stretch.{Stretch}
 use Rattle.map_table.specs.Rows.{overridden_from}
 
--- whether a hart of that limit has so many entries
+-- whether a hart of that limit has that many entries
 abbrev pub json_fits : ℕ → Limit → List ℕ
 json_fits n limit = if nat_le n (limit_number limit)
     then codes ",\n  \"fits\": true,\n  \"stretches\": ["
@@ -27,7 +27,7 @@ json_stretch s =
     ++ hex 16 (s.end - 1) ++ codes "\", \"perm\": \"" ++ perm_word s.wanted
     ++ codes "\", \"entry\": "
 
--- numbers, each behind a comma
+-- numbers, each after a comma
 abbrev pub numbers_more : List ℕ → List ℕ
 numbers_more [] = []
 numbers_more (n ∷ numbers) = codes ", " ++ (decimal n ++ numbers_more numbers)
@@ -52,7 +52,7 @@ json_entry extents s (Some i) = json_decider extents s i
 abbrev pub json_row : List Extent → Stretch → List ℕ
 json_row extents s = json_stretch s ++ json_entry extents s s.entry
 
--- stretches, each behind a comma
+-- stretches, each after a comma
 abbrev pub json_more : List Extent → List Stretch → List ℕ
 json_more extents [] = []
 json_more extents (s ∷ stretches) = codes ",\n"

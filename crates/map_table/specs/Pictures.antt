@@ -11,7 +11,7 @@ use Rattle.printed_lines.specs.Fields.{letters_of}
 use Rattle.map_table.specs.Fields.{short_size}
 use Rattle.map_table.specs.Rows.{number_text, overridden_from}
 
--- how high the band of so many bytes is: higher from 64 KiB, 16 MiB and 4 GiB on
+-- how high the band of that many bytes is: higher from 64 KiB, 16 MiB and 4 GiB on
 abbrev pub band_height : ℕ → ℕ
 band_height size = if nat_lt size (2 ^ 16) then 40 else if nat_lt size (2 ^ 24) then 48
     else if nat_lt size (2 ^ 32) then 56 else 64
@@ -51,7 +51,7 @@ abbrev pub gap_text : ℕ → ℕ → List ℕ
 gap_text size y = codes "<text class=\"in\" x=\"280\" y=\"" ++ decimal y ++ codes "\">no entry, "
     ++ short_size size ++ codes "</text>\n"
 
--- what stands before the entry beside a band
+-- what comes before the entry beside a band
 abbrev pub beside_text : ℕ → List ℕ
 beside_text y = codes "<text x=\"404\" y=\"" ++ decimal y ++ codes "\">entry "
 
@@ -114,7 +114,7 @@ style_text =
     ++ codes "<rect class=\"ground\" width=\"100%\" height=\"100%\"/>\n"
     ++ codes "<text x=\"20\" y=\"24\">"
 
--- what stands before the rows of a picture of that height: last the line of the number of entries
+-- what comes before the rows of a picture of that height: last the line of the number of entries
 abbrev pub picture_head : ℕ → List ℕ → List ℕ
 picture_head height count =
     codes "<svg xmlns=\"http://www.w3.org/2000/svg\" width=\"680"
@@ -129,7 +129,7 @@ left_text n y = codes "<text class=\"in\" x=\"280\" y=\"" ++ decimal y
 abbrev pub left_out : ℕ → ℕ → List ℕ
 left_out n y = if nat_lt 1024 n then left_text (n - 1024) y else []
 
--- where the key stands
+-- where the key is
 abbrev pub key_begin : ℕ → List ℕ
 key_begin y = codes "<g transform=\"translate(20 " ++ decimal y ++ codes ")\">\n"
 
@@ -145,7 +145,7 @@ key_text =
     ++ codes "</g>\n"
     ++ codes "</svg>\n"
 
--- what stands after the rows, which end there, of so many stretches
+-- what comes after the rows, which end there, of that many stretches
 abbrev pub picture_foot : ℕ → ℕ → List ℕ
 picture_foot n y = left_out n (y + 16) ++ (key_begin (y + 24) ++ key_text)
 

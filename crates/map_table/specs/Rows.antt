@@ -54,7 +54,7 @@ abbrev pub rows_text : List Extent → List Stretch → List ℕ
 rows_text extents [] = []
 rows_text extents (s ∷ stretches) = row_by extents s s.entry ++ rows_text extents stretches
 
--- a stretch with the permission that its extent gives it, in place of a map's
+-- a stretch with the permission that its extent gives it, instead of a map's
 abbrev pub as_given : Stretch → Stretch
 as_given s = record {
   first = s.first;

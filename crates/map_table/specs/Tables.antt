@@ -23,7 +23,7 @@ pub record IsTable (view : View) (entries : List Entry) (limit : Limit) (text : 
   pub lines : text ≡ head_text ++ rows_text (matched_by entries) stretches ++ rest_of stretches
       ++ count_text (length entries) limit
 
--- the table of what extents give by themselves, so many of them of entries that are not OFF: the
+-- the table of what extents give by themselves, that many of them of entries that are not OFF: the
 -- same rows of their stretches over the map of no pages, with the permission that each extent gives
 pub record IsExtentTable (extents : List Extent) (on : ℕ) (text : List ℕ) : Type 0 where
   pub stretches : List Stretch

@@ -4,7 +4,7 @@ use Rattle.measurement.specs.Measured.{digest_of}
 use Rattle.measurement.specs.declared.measured.Layout.{Layout}
 use Rattle.measurement.specs.declared.request.Create.{Create}
 
--- the bytes of so many pages, by rising address
+-- the bytes of that many pages, by rising address
 abbrev pub pages_from : (ℕ → List ℕ) → ℕ → ℕ → List (List ℕ)
 pages_from pages first zero = []
 pages_from pages first (suc count) = pages_from pages first count ++ (pages (first + count) ∷ [])

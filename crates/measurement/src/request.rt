@@ -40,8 +40,8 @@ fn is_placed(base: u64, count: u64) -> bool
 }
 
 impl Create {
-    /// What is kept of it: without shared pages the shared base is 0.
-    pub fn kept(self) -> Create
+    /// The same request in the form that an enclave keeps: without shared pages the shared base is 0.
+    pub fn normalized(self) -> Create
         ensures { result ≡ parts_of self }
     {
         let mut parts = self;

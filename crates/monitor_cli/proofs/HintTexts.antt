@@ -10,7 +10,7 @@ use Rattle.command_inputs.specs.Inputs.{IsUnread, Reading}
 use Rattle.commands.specs.Lint.{Tells}
 use Rattle.command_inputs.specs.Statuses.{answer_status}
 use Rattle.commands.specs.Lint as lints
-use Rattle.monitor_cli.specs.Hints.{AreHints, AreRunHints, HasTaskHints, InOrder, TellsHints, boot_hint, cut, hints_in, of_boot, of_second, told}
+use Rattle.monitor_cli.specs.Hints.{AreHints, AreRunHints, HasTaskHints, InOrder, PrintsHints, boot_hint, cut, hints_in, of_boot, of_second, told}
 use Rattle.platform_file.specs.Document.{IsPlatformFile}
 
 pub wrong : (IsText : Bool → List ℕ → Type 0) (status : ℕ) (is : Bool) (text : List ℕ) → status ≡ answer_status is → IsText is text → status ≢ 0
@@ -56,7 +56,7 @@ of_need file bytes name hint second platform is needs unread =
 -- hints that were written, whole or in part
 pub told_by :
     {R E X Y : Type 0} (request : Request) (first second : Reading R) (err : Writing E) (hints : List ℕ) (printed : Result X Y)
-    → HasTaskHints request.task request.options first second (Some hints) → Prints hints err printed → TellsHints request first second err
+    → HasTaskHints request.task request.options first second (Some hints) → Prints hints err printed → PrintsHints request first second err
 told_by request first second err hints (Ok x) has whole = told hints has whole
 told_by request first second err hints (Err y) has broken = cut hints has broken
 

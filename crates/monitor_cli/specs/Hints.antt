@@ -33,7 +33,7 @@ use Rattle.monitor_cli.specs.declared.sizes.FileKind.TheVariants as files
 use Rattle.monitor_cli.specs.Sizes.{IsTooLarge, most_bytes, size_hint}
 use Rattle.commands.specs.Traces.{IsTraceLint}
 
--- these lines, each behind `hint: ` and ended by LF
+-- these lines, each after `hint: ` and ended by LF
 abbrev pub hint_lines : List (List ℕ) → List ℕ
 hint_lines [] = []
 hint_lines (line ∷ lines) = codes "hint: " ++ (line ++ (10 ∷ hint_lines lines))
@@ -190,14 +190,14 @@ HasTaskHints (tasks.Show map limit) options first second hints =
 HasTaskHints (tasks.Measure file layout) options first second hints = (hints ≡ None)
     × IsUnread first × IsUnread second
 
--- standard error is told the hints of a task, whole or up to where the device fails; and nothing
--- where it has none, or where an input could not be had or memory was refused
-pub data TellsHints {R E : Type 0} (request : Request) (first second : Reading R)
+-- the hints of a task are written to standard error, whole or up to where the device fails; and
+-- nothing where it has none, or where an input could not be had or memory was refused
+pub data PrintsHints {R E : Type 0} (request : Request) (first second : Reading R)
     (err : Writing E) : Type 0 where
   told : (hints : List ℕ) → HasTaskHints request.task request.options first second (Some hints)
-      → TakesAll hints err → TellsHints request first second err
+      → TakesAll hints err → PrintsHints request first second err
   cut : (hints : List ℕ) → HasTaskHints request.task request.options first second (Some hints)
-      → Breaks hints err → TellsHints request first second err
+      → Breaks hints err → PrintsHints request first second err
   none : HasTaskHints request.task request.options first second None → IsUnwritten err
-      → TellsHints request first second err
-  unknown : IsUnwritten err → TellsHints request first second err
+      → PrintsHints request first second err
+  unknown : IsUnwritten err → PrintsHints request first second err

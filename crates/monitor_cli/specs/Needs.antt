@@ -9,16 +9,16 @@ use Rattle.command_inputs.specs.Shown.{shown}
 use Rattle.commands.specs.Plan.{most_entries}
 use Rattle.monitor_cli.specs.declared.needs.Bounds.{Bounds}
 
--- what stands after a number of entries
+-- what comes after a number of entries
 abbrev pub entries_named : ℕ → List ℕ
 entries_named n = if n == 1 then codes " entry, " else codes " entries, "
 
--- that n are needed, and so many may be
+-- that n are needed, and that many may be
 abbrev pub most_text : ℕ → ℕ → List ℕ
 most_text n most = codes ": needs " ++ decimal n ++ entries_named n ++ codes "at most "
     ++ decimal most ++ codes "\n"
 
--- that n are needed, and so many have configuration words
+-- that n are needed, and that many have configuration words
 abbrev pub words_text : ℕ → ℕ → List ℕ
 words_text n there = codes ": needs " ++ decimal n ++ entries_named n ++ decimal there
     ++ codes " are there: no configuration words\n"

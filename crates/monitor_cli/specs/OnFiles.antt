@@ -20,7 +20,7 @@ use Rattle.command_inputs.specs.declared.trouble.Trouble.TheVariants as troubles
 use Rattle.command_inputs.specs.ReasonHints.{hint_text}
 use Rattle.command_inputs.specs.Inputs.{reading, Reading}
 use Rattle.commands.specs.CertifiedPlan.{placing, Placing}
-use Rattle.monitor_cli.specs.Hints.{TellsHints}
+use Rattle.monitor_cli.specs.Hints.{PrintsHints}
 use Rattle.program_tasks.specs.Hinted.{may_be_hinted}
 use Rattle.program_tasks.specs.Inputs.{reader_in, reason_in, AreInputs, AreInputsAgain, Input}
 use Rattle.monitor_cli.specs.HeldOutput.{IsClosed}
@@ -30,7 +30,7 @@ use Rattle.monitor_cli.specs.Programs.{Ends, Tells}
 abbrev pub failure_of : Bor (List ℕ) → Option Reason → Option (Bor (List ℕ) × Reason)
 failure_of name reason = option_map (λ why. (name, why)) reason
 
--- standard error is told why something failed, whole or up to where the device fails; and nothing
+-- standard error says why something failed, whole or up to where the device fails; and nothing
 -- where nothing did
 pub data SaysWhy {E : Type 0} (err : Writing E) : Option (Bor (List ℕ) × Reason) → Type 0 where
   none : IsUnwritten err → SaysWhy err None
@@ -82,9 +82,9 @@ pub record HintsOnFiles (R D : Type 0) {S F E : Type 0} (stdin : S) (source : In
   pub second : Input R S F D
   pub second_end : Input R S F D
   pub inputs : AreInputsAgain stdin request.task first second
-  pub hints : TellsHints request (source first first_end) (source second second_end) err
+  pub hints : PrintsHints request (source first first_end) (source second second_end) err
 
--- what follows the end of a task: where hints are told, those of its inputs, or why a device
+-- what follows the end of a task: where hints are given, those of its inputs, or why a device
 -- failed, and otherwise nothing
 pub data Follows (hints : Bool) (task : Task) (status : ℕ) (quiet hinted why : Type 0) :
     Type 0 where
@@ -97,7 +97,7 @@ pub data Follows (hints : Bool) (task : Task) (status : ℕ) (quiet hinted why :
       → Follows hints task status quiet hinted why
 
 -- a task ended on its files with that status. It was done on what its places read and on an output
--- that held nothing yet; then what was held of that was handed on, and then hints were told
+-- that held nothing yet; then what was held of that was handed on, and then hints were written
 pub record EndsOnFiles (R D P : Type 0) {S F O E : Type 0} (stdin : S) (source : Input R S F D
     → Input R S F D → Reading (Input R S F D)) (stdout : O)
     (contents : Explained (RetryInterrupted O) → Option (List ℕ)) (telling : E → E
@@ -113,7 +113,7 @@ pub record EndsOnFiles (R D P : Type 0) {S F O E : Type 0} (stdin : S) (source :
   pub out : Output O
   pub held : Output O
   pub stream : Explained (RetryInterrupted O)
-  -- standard error behind the trouble, and behind the handing on
+  -- standard error after the trouble, and after the handing on
   pub told : E
   pub closing : E
   pub ended : ℕ

@@ -13,7 +13,7 @@ use Rattle.program_tasks.specs.declared.task.Task.TheVariants as tasks
 use Rattle.command_inputs.specs.declared.trouble.Trouble.{Trouble}
 use Rattle.command_inputs.specs.Troubles.{status_of, trouble_text}
 use Rattle.commands.specs.Audit.{Audits}
-use Rattle.commands.specs.CertifiedPlan.{IsUntouched, Placing}
+use Rattle.commands.specs.CertifiedPlan.{WritesNothing, Placing}
 use Rattle.commands.specs.Check.{Checks}
 use Rattle.command_inputs.specs.Inputs.{IsUnread, Reading}
 use Rattle.commands.specs.Judge.{JudgesAs}
@@ -40,39 +40,39 @@ LintsAs kinds.Trace xlen file platform first second out done =
 abbrev pub Performs : {R C W : Type 0} → Task → Options → Reading R → Reading R → Placing C
     → Writing W → Result ℕ Trouble → Type 0
 Performs (tasks.Run platform trace measure) options first second cert out done =
-    Runs options.answers platform trace measure first second out done × IsUntouched cert
+    Runs options.answers platform trace measure first second out done × WritesNothing cert
 Performs (tasks.Plan map file limit) options first second cert out done =
     Plans map file options.xlen limit options.at_most options.format
     (option_map (λ s. s.now) options.name) options.first first cert out done × IsUnread second
 Performs (tasks.Judge file trace limit) options first second cert out done =
     JudgesAs options.registers options.answers file trace options.xlen limit first second out done
-    × IsUntouched cert
+    × WritesNothing cert
 Performs (tasks.Check map file) options first second cert out done =
-    Checks map file first second out done × IsUntouched cert
+    Checks map file first second out done × WritesNothing cert
 Performs (tasks.Audit map registers) options first second cert out done =
-    Audits map registers options.xlen options.all first second out done × IsUntouched cert
+    Audits map registers options.xlen options.all first second out done × WritesNothing cert
 Performs (tasks.Map registers) options first second cert out done =
-    Maps registers options.xlen first out done × IsUnread second × IsUntouched cert
+    Maps registers options.xlen first out done × IsUnread second × WritesNothing cert
 Performs (tasks.Lint file platform) options first second cert out done =
-    LintsAs options.kind options.xlen file platform first second out done × IsUntouched cert
+    LintsAs options.kind options.xlen file platform first second out done × WritesNothing cert
 Performs (tasks.Show map limit) options first second cert out done =
     ShowsAs options.registers map options.xlen limit options.at_most options.table options.costs
-    first out done × IsUnread second × IsUntouched cert
+    first out done × IsUnread second × WritesNothing cert
 Performs (tasks.Measure file layout) options first second cert out done =
-    Measures file layout first out done × IsUnread second × IsUntouched cert
+    Measures file layout first out done × IsUnread second × WritesNothing cert
 
--- what standard error is told: nothing where there is no trouble, otherwise its line, which breaks
--- off only where the device does
+-- what is written to standard error: nothing where there is no trouble, otherwise its line, which
+-- breaks off only where the device does
 pub data Tells {E : Type 0} (err : Writing E) : Result ℕ Trouble → Type 0 where
   quiet : (status : ℕ) → IsUnwritten err → Tells err (Ok status)
   told : (trouble : Trouble) → Appends err.before err.after (trouble_text trouble)
       → Tells err (Err trouble)
   cut : (trouble : Trouble) → Breaks (trouble_text trouble) err → Tells err (Err trouble)
 
--- a task was done or came to trouble, which standard error is told of. The status is 0 where it was
--- done, 1 where the checker, `audit` or `lint` refused, or registers have no table, mean no map or
--- judge nothing, 2 for bad input, 3 for a device, 4 for memory, and it does not depend on standard
--- error
+-- a task was done or came to trouble, which is reported on standard error. The status is 0 where it
+-- was done, 1 where the checker, `audit` or `lint` refused, or registers have no table, mean no map
+-- or judge nothing, 2 for bad input, 3 for a device, 4 for memory, and it does not depend on
+-- standard error
 pub record Ends {R C W E : Type 0} (request : Request) (first second : Reading R) (cert : Placing C)
     (out : Writing W) (err : Writing E) (status : ℕ) : Type 0 where
   pub done : Result ℕ Trouble

@@ -64,7 +64,7 @@ pub data RunsTrace {R W : Type 0} (does : Meaning Machine) (booted : Machine) (t
 abbrev pub summary_of : Account → List ℕ
 summary_of ended = summary_text ended.happened (state_of ended.machine)
 
--- a trace happens so and a comment behind each answer says what happened: behind the report stand
+-- a trace happens so and a comment after each answer says what happened: after the report come
 -- the measurements, and last the summary
 pub data RunsExplaining {R W : Type 0} (booted : Machine) (trace : Bor (List ℕ)) (measure : Bool)
     (second : Reading R) (out : Writing W) : Result ℕ Trouble → Type 0 where
@@ -98,7 +98,8 @@ pub data RunsExplaining {R W : Type 0} (booted : Machine) (trace : Bor (List ℕ
       → RunsExplaining booted trace measure second out (Err Output)
 
 -- a trace happens so and its answers are compared with those that its comments say: where one
--- differs, the first that does is told behind the report and the measurements, and the status is 1
+-- differs, the first that does is reported after the report and the measurements, and the status is
+-- 1
 pub data RunsExpecting {R W : Type 0} (does : Meaning Machine) (booted : Machine)
     (trace : Bor (List ℕ)) (measure : Bool) (second : Reading R) (out : Writing W) : Result ℕ
     Trouble → Type 0 where
@@ -130,7 +131,7 @@ pub data RunsExpecting {R W : Type 0} (does : Meaning Machine) (booted : Machine
       → WriteFails out.failures out.failed out.stalls out.stalled
       → RunsExpecting does booted trace measure second out (Err Output)
 
--- a trace happens to a machine; with `--explain` a comment behind each answer says what happened,
+-- a trace happens to a machine; with `--explain` a comment after each answer says what happened,
 -- and the summary comes last; with `--expect` the answers are compared
 abbrev pub RunsTraceAs : {R W : Type 0} → Answers → Machine → Bor (List ℕ) → Bool → Reading R
     → Writing W → Result ℕ Trouble → Type 0

@@ -5,8 +5,8 @@ use Rattle.command_inputs.specs.Inputs.{HasBytes, Reading}
 use Rattle.monitor_cli.specs.declared.sizes.FileKind.{FileKind}
 use Rattle.monitor_cli.specs.declared.sizes.FileKind.TheVariants.{Map, Platform, Listing}
 use Rattle.monitor_cli.specs.declared.sizes.FileKind.TheVariants.{Certificate, Trace}
-use Rattle.monitor_cli.specs.declared.sizes.Had.{Had}
-use Rattle.monitor_cli.specs.declared.sizes.Had.TheVariants.{Bytes, Hint}
+use Rattle.monitor_cli.specs.declared.sizes.FileOrHint.{FileOrHint}
+use Rattle.monitor_cli.specs.declared.sizes.FileOrHint.TheVariants.{Bytes, Hint}
 use Rattle.monitor_cli.specs.Needs.{need_text}
 
 -- how many bytes a file of a kind may have that is read whole
@@ -29,13 +29,13 @@ size_text Trace = codes ": more than 1073741824 bytes; lint looks at a trace of 
 abbrev pub size_hint : FileKind → List ℕ → List ℕ
 size_hint kind name = need_text name (size_text kind)
 
--- a file has more bytes than so many
+-- a file has more bytes than that many
 abbrev pub IsTooLarge : {R : Type 0} → ℕ → Reading R → Type 0
 IsTooLarge most source = (bytes : List ℕ) × Consumes source.before source.after bytes
     × (most < length bytes)
 
 -- what was had of a file: its bytes, or that it has more than it may
-abbrev pub IsHad : {R : Type 0} → FileKind → List ℕ → Reading R → Had → Type 0
-IsHad kind name source (Bytes bytes) = HasBytes (most_bytes kind) source bytes.items
-IsHad kind name source (Hint hint) = IsTooLarge (most_bytes kind) source
+abbrev pub IsFileOrHint : {R : Type 0} → FileKind → List ℕ → Reading R → FileOrHint → Type 0
+IsFileOrHint kind name source (Bytes bytes) = HasBytes (most_bytes kind) source bytes.items
+IsFileOrHint kind name source (Hint hint) = IsTooLarge (most_bytes kind) source
     × (hint.items ≡ size_hint kind name)

@@ -7,7 +7,7 @@ ghost use Rattle.command_inputs.specs.Inputs.{reading};
 ghost use Rattle.commands.specs.Lint.{Tells};
 ghost use Rattle.monitor_cli.specs.Hints.{hints_in, kind_of, AreHints, HasHints, InOrder, IsLintAs};
 
-use crate::sizes::{FileKind, Had, bytes_or_hint};
+use crate::sizes::{FileKind, FileOrHint, bytes_or_hint};
 use byte_streams::{Counted, Sink, Source};
 use command_inputs::Trouble;
 use commands::{lint_as_platform, lint_as_trace, lint_listing, lint_map};
@@ -117,8 +117,8 @@ pub(crate) fn hints_of<'a, R: Source>(
         (option_map (λ text. text.items) hints)) }
 {
     match bytes_or_hint(alloc, form.kind(), name, source)? {
-        Had::Bytes(bytes) => hints_for(alloc, form, name, bytes.as_slice()),
-        Had::Hint(hint) => Ok(Some(hint)),
+        FileOrHint::Bytes(bytes) => hints_for(alloc, form, name, bytes.as_slice()),
+        FileOrHint::Hint(hint) => Ok(Some(hint)),
     }
 }
 

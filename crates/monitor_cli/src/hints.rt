@@ -6,11 +6,11 @@ ghost use Rattle.hart_sim.specs.After.{IsBooted};
 ghost use Rattle.byte_streams.specs.Writings.{writing};
 ghost use Rattle.command_inputs.specs.Inputs.{reading};
 ghost use Rattle.commands.specs.Lint.{names_platform};
-ghost use Rattle.monitor_cli.specs.Hints.{named_kind, AreMapHints, AreRunHints, HasFileHints, HasHints, HasLintHints, HasMapHints, HasRunHints, HasSizeHints, HasTaskHints, InOrder, boot_hint, TellsHints};
+ghost use Rattle.monitor_cli.specs.Hints.{named_kind, AreMapHints, AreRunHints, HasFileHints, HasHints, HasLintHints, HasMapHints, HasRunHints, HasSizeHints, HasTaskHints, InOrder, boot_hint, PrintsHints};
 
 use crate::forms::{Form, hints_for, hints_in_order, hints_of};
 use crate::needs::{Bounds, bank_bounds, boot_hint, need_hint, plan_bounds, table_bounds};
-use crate::sizes::{FileKind, Had, bytes_or_hint, size_hints};
+use crate::sizes::{FileKind, FileOrHint, bytes_or_hint, size_hints};
 use byte_streams::{Sink, Source, write_whole};
 use command_inputs::{Trouble, platform_in};
 use commands::{names_platform, needed_by};
@@ -83,8 +83,10 @@ fn hints_of_run<'a, R: Source>(
         (option_map (λ text. text.items) hints)) }
 {
     match bytes_or_hint(alloc, FileKind::Platform, platform, first)? {
-        Had::Bytes(bytes) => { hints_by_platform(alloc, platform, trace, bytes.as_slice(), second) }
-        Had::Hint(hint) => Ok(Some(hint)),
+        FileOrHint::Bytes(bytes) => {
+            hints_by_platform(alloc, platform, trace, bytes.as_slice(), second)
+        }
+        FileOrHint::Hint(hint) => Ok(Some(hint)),
     }
 }
 
@@ -119,8 +121,8 @@ fn hints_of_map<'a, R: Source>(
         (option_map (λ text. text.items) hints)) }
 {
     match bytes_or_hint(alloc, FileKind::Map, name, source)? {
-        Had::Bytes(bytes) => hints_of_map_text(alloc, name, bounds, bytes.as_slice()),
-        Had::Hint(hint) => Ok(Some(hint)),
+        FileOrHint::Bytes(bytes) => hints_of_map_text(alloc, name, bounds, bytes.as_slice()),
+        FileOrHint::Hint(hint) => Ok(Some(hint)),
     }
 }
 
@@ -300,7 +302,7 @@ pub fn tell_hints<R: Source, E: Sink>(
     err: &mut E,
 )
     ensures { let source = reading R.remaining R.failures in
-        TellsHints request.now (source first.old first.new) (source second.old second.new)
+        PrintsHints request.now (source first.old first.new) (source second.old second.new)
         (writing E.contents E.failures E.stalls err.old err.new) }
 {
     let Ok(Some(hints)) = task_hints(alloc, request, first, second) else {

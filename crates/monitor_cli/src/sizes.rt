@@ -3,7 +3,7 @@
 ghost use Rattle.std.specs.Prelude.{◌≡◌, ◌^◌, ◌<◌, ◌≤◌, IfOk, length, option_map};
 ghost use Rattle.command_inputs.specs.Inputs.{reading};
 ghost use Rattle.monitor_cli.specs.Hints.{HasSizeHints};
-ghost use Rattle.monitor_cli.specs.Sizes.{IsHad, most_bytes, size_hint, size_text};
+ghost use Rattle.monitor_cli.specs.Sizes.{IsFileOrHint, most_bytes, size_hint, size_text};
 
 use crate::needs::need_of;
 use byte_streams::Source;
@@ -66,7 +66,7 @@ impl FileKind {
 
 /// What was read of a file.
 #[derive(Drop)]
-pub(crate) enum Had {
+pub(crate) enum FileOrHint {
     /// Its bytes.
     Bytes(Vec<u8>),
     /// The hint that it has more than it may.
@@ -86,13 +86,13 @@ pub(crate) fn bytes_or_hint<'a, R: Source>(
     kind: FileKind,
     name: &'a str,
     source: &mut R,
-) -> Result<Had, Trouble<'a>>
+) -> Result<FileOrHint, Trouble<'a>>
     ensures { IfOk result
-        (IsHad kind name.entry.now (reading R.remaining R.failures source.old source.new)) }
+        (IsFileOrHint kind name.entry.now (reading R.remaining R.failures source.old source.new)) }
 {
     match bytes_in(alloc, name, source, kind.most_bytes()) {
-        Ok(bytes) => Ok(Had::Bytes(bytes)),
-        Err(Trouble::TooLarge { .. }) => Ok(Had::Hint(size_hint(alloc, kind, name)?)),
+        Ok(bytes) => Ok(FileOrHint::Bytes(bytes)),
+        Err(Trouble::TooLarge { .. }) => Ok(FileOrHint::Hint(size_hint(alloc, kind, name)?)),
         Err(trouble) => Err(trouble),
     }
 }

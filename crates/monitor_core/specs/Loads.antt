@@ -1,4 +1,4 @@
--- What is loaded on the harts, where the caller of the monitor does as it is told.
+-- What is loaded on the harts, where the caller of the monitor does what it is asked.
 use Rattle.std.specs.Prelude.{◌≡◌, ◌≢◌, ℕ, ◌<◌, Bool, true, false, List}
 use Rattle.pmp_encoding.specs.declared.region.Entry.{Entry}
 use Rattle.pmp_match.specs.Meaning.{IsFewest}

@@ -9,7 +9,7 @@ use Rattle.pmp_encoding.specs.Perms.{bits_of, perm_eq}
 use Rattle.permission_map.specs.declared.points.Point.{Point}
 use Rattle.permission_map.specs.declared.runs.Run.{Run}
 
--- a point's page, and the permission that stands from it on
+-- a point's page, and the permission that holds from it on
 abbrev pub page_of : Point → ℕ
 page_of p = p.number / 8
 
@@ -19,7 +19,7 @@ perm_of p = perm_for (p.number % 8)
 abbrev pub allows : Point → Bool
 allows p = not (p.number % 8 == 0)
 
--- a point at the page `at` or after it, where `before` stands up to it
+-- a point at the page `at` or after it, where `before` holds up to it
 pub record IsPointAfter (at : ℕ) (before : Perm) (p : Point) : Type 0 where
   pub rising : at ≤ page_of p
   pub changes : perm_of p ≢ before
@@ -52,7 +52,7 @@ abbrev pub runs_of : List Point → List Run
 runs_of [] = []
 runs_of (p ∷ ps) = run_to (next_page ps) p ++ runs_of ps
 
--- the permission that stands after the points, where p stands before them
+-- the permission that holds after the points, where p holds before them
 abbrev pub standing : Perm → List Point → Perm
 standing p [] = p
 standing p (q ∷ ps) = standing (perm_of q) ps
@@ -79,7 +79,7 @@ Rise ps = RiseAfter 0 ps
 abbrev pub turn_at : Perm → Point → List Point
 turn_at before p = if perm_eq before (perm_of p) then [] else p ∷ []
 
--- those of the points at which the permission changes, where `before` stands before them
+-- those of the points at which the permission changes, where `before` holds before them
 abbrev pub turns_after : Perm → List Point → List Point
 turns_after before [] = []
 turns_after before (p ∷ ps) = turn_at before p ++ turns_after (perm_of p) ps
@@ -87,7 +87,7 @@ turns_after before (p ∷ ps) = turn_at before p ++ turns_after (perm_of p) ps
 abbrev pub turns : List Point → List Point
 turns ps = turns_after NoAccess ps
 
--- a point at the same page, from which another permission stands
+-- a point at the same page, from which another permission holds
 abbrev pub with_perm : Perm → Point → Point
 with_perm perm p = record { number = page_of p * 8 + bits_of perm }
 
@@ -108,7 +108,7 @@ pub record IsCut (ps : List Point) (first end from to : ℕ) : Type 0 where
   pub behind : All (λ q. end < page_of q) (drop to ps)
 
 -- the points with a range set between the first `from` and those after the first `to`: of their
--- turns, at most two stand in the place of those between
+-- turns, at most two replace those between
 pub record IsChanged (old new : List Point) (from to first end : ℕ) (perm : Perm) : Type 0 where
   pub start : Option Point
   pub stop : Option Point

@@ -10,7 +10,7 @@ use crate::changes::{MOST_IDLE, Setting, change};
 use crate::fault::MapFault;
 use crate::map::{Memory, PermissionMap};
 use crate::overwrite::MOST_RUNS;
-use crate::points::{Point, before, begun_at, begun_between, standing_behind, stop, turn, up_to};
+use crate::points::{Point, before, begun_at, begun_between, perm_after, stop, turn, up_to};
 use crate::runs::Run;
 use pmp_encoding::{Perm, SPACE_PAGES};
 use std::alloc::{AllocError, Global};
@@ -127,8 +127,8 @@ fn overwrite(
     let row = points.as_slice();
     let from = before(row, first);
     let to = up_to(row, from, end);
-    let start = turn(standing_behind(row, from), first, perm);
-    let stop = stop(perm, end, standing_behind(row, to));
+    let start = turn(perm_after(row, from), first, perm);
+    let stop = stop(perm, end, perm_after(row, to));
     let gone = begun_between(row, from, to);
     let wanted = *runs - gone + begun_at(&start) + begun_at(&stop);
     if wanted > MOST_RUNS {

@@ -4,7 +4,7 @@ ghost use Rattle.std.specs.Prelude.{◌≡◌, ◌≤◌, ◌<◌, ◌+◌, ◌-
 ghost use Rattle.pmp_encoding.specs.declared.perm.Perm.TheVariants.{NoAccess};
 ghost use Rattle.permission_map.specs.Points.{IsChanged, IsCut, IsStop, IsTurn, Rise, standing, turns, with_perm};
 
-use crate::points::{Point, standing_behind};
+use crate::points::{Point, perm_after};
 use pmp_encoding::{Perm, SPACE_PAGES};
 
 /// As many points may be idle: at them the permission does not change.
@@ -174,7 +174,7 @@ pub(crate) fn change(
 {
     let few = points.len() <= MOST_IDLE && to <= from + MOST_WRITTEN;
     if few && from + 2 <= to && range.end < SPACE_PAGES {
-        let after = standing_behind(points, to);
+        let after = perm_after(points, to);
         let start = Point::new(range.first, range.perm);
         let stop = Point::new(range.end, after);
         write_over(points, from, to, start, range.perm, stop);

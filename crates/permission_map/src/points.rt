@@ -116,7 +116,7 @@ fn before_within(points: &[Point], page: u64, bits: u32) -> usize
 
 /// How many of the points come before the page, by a search.
 #[inline(never)]
-fn searched(points: &[Point], page: u64) -> usize
+fn search_before(points: &[Point], page: u64) -> usize
     requires points { Rise points.now }
     requires inside { page ≤ 2 ^ 44 }
     ensures bound { result ≤ length points.now }
@@ -149,7 +149,7 @@ pub(crate) fn before(points: &[Point], page: u64) -> usize
     }
     match others.split_last() {
         Some((point, _)) if point.page() < page => others.len(),
-        _ => searched(points, page),
+        _ => search_before(points, page),
     }
 }
 
@@ -175,7 +175,7 @@ pub(crate) fn up_to(points: &[Point], from: usize, page: u64) -> usize
 }
 
 /// The permission that holds after the first `count` points.
-pub(crate) fn standing_behind(points: &[Point], count: usize) -> Perm
+pub(crate) fn perm_after(points: &[Point], count: usize) -> Perm
     requires { count ≤ length points.now }
     ensures { result ≡ standing NoAccess (take count points.now) }
 {
@@ -240,7 +240,7 @@ pub(crate) fn begun_between(points: &[Point], from: usize, to: usize) -> usize
         (drop to points.now)))
         ≡ count_by allows (turns points.now) }
 {
-    begun_in(&points[from..to], standing_behind(points, from))
+    begun_in(&points[from..to], perm_after(points, from))
 }
 
 /// How many runs the point begins, where there is one.

@@ -22,7 +22,7 @@ tail_bytes (suc n) place behind =
     cond (ltb place (2 ^ n)) (node_bytes (Leaf behind)
     ++ tail_bytes n place behind) (tail_bytes n (place - 2 ^ n) behind)
 
--- so many leaves of one permission
+-- that many leaves of one permission
 abbrev pub leaves_bytes : ℕ → Perm → List ℕ
 leaves_bytes zero perm = []
 leaves_bytes (suc n) perm = node_bytes (Leaf perm) ++ leaves_bytes n perm

@@ -1,4 +1,4 @@
--- The certificate that is written: each entry stands as its canonical pair.
+-- The certificate that is written: each entry is spelt as its canonical pair.
 use Rattle.std.specs.Prelude.{ℕ, List, ◌++◌, length}
 use Rattle.std.specs.List.{flat_map}
 use Rattle.pmp_encoding.specs.declared.limit.Limit.{Limit}

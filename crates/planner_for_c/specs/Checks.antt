@@ -19,8 +19,8 @@ abbrev pub check_code : Result ℕ CheckRefusal → ℤ
 check_code (Ok n) = pos n
 check_code (Err refusal) = certificate_code refusal
 
--- the bytes hold so many entries that mean the settings' map and are fewest; or are refused for
--- what stands in them; or the settings make no map; or memory was refused
+-- the bytes hold that many entries that mean the settings' map and are fewest; or are refused for
+-- what is in them; or the settings make no map; or memory was refused
 pub data IsChecked (settings : List Setting) (bytes : List ℕ) (old_place new_place : ℕ) : ℤ
     → Type 0 where
   accepted : (runs : List Run) (n : ℕ) → LeadTo [] settings runs

@@ -75,7 +75,7 @@ monitor_at document = option_and_then range_of
 abbrev pub ram_at : Members → Option (List (ℕ × ℕ))
 ram_at document = option_and_then (all_of range_of) (get_member (codes "ram") document)
 
--- no devices where none are told
+-- no devices where none are named
 abbrev pub devices_told : Option Data → Option (List (ℕ × ℕ × Perm))
 devices_told None = Some []
 devices_told (Some value) = all_of device_of value

@@ -79,8 +79,8 @@ fn are_few(ram: &[(u64, u64)], devices: &[(u64, u64, Perm)]) -> bool
     !ram.is_empty() && ram.len() <= MOST && devices.len() <= MOST
 }
 
-/// The items, kept.
-fn kept<T: Copy + Default>(items: &[T]) -> ArrayVec<T, 32>
+/// The items, in an array with room for 32.
+fn to_array<T: Copy + Default>(items: &[T]) -> ArrayVec<T, 32>
     requires { length items.now ≤ 32 }
     ensures { result.items ≡ items.now }
 {
@@ -134,8 +134,8 @@ impl Platform {
         }
         Ok(Platform {
             monitor,
-            ram: kept(ram),
-            devices: kept(devices),
+            ram: to_array(ram),
+            devices: to_array(devices),
             harts: 1,
             limit: Limit::Sixteen,
         })

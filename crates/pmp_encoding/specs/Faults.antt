@@ -1,4 +1,4 @@
--- Which pairs mean nothing, and the fault that is named where several stand in one pair.
+-- Which pairs mean nothing, and the fault that is named where several are in one pair.
 use Rattle.std.specs.Prelude.{◌≡◌, ◌≢◌, ℕ, ◌/◌, ◌%◌, ◌^◌, ◌<◌, ◌≤◌}
 use Rattle.pmp_encoding.specs.declared.fault.EncodingFault.{EncodingFault}
 use Rattle.pmp_encoding.specs.declared.fault.EncodingFault.TheVariants.{ReservedPerm, Tor, Locked}

@@ -5,7 +5,7 @@ use Rattle.pmp_encoding.specs.declared.region.Entry.{Entry}
 use Rattle.pmp_encoding.specs.Encoding.{cfg_of, address_of}
 use Rattle.pmp_encoding.specs.Registers.{cfg_byte}
 
--- the first n places hold the canonical pairs of the first n entries, and nothing stands above them
+-- the first n places hold the canonical pairs of the first n entries, and nothing is above them
 pub record IsFilled (entries : List Entry) (words addresses : List ℕ) (n : ℕ) : Type 0 where
   pub eight : length words ≡ 8
   pub many : length addresses ≡ 64

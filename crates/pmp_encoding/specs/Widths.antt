@@ -22,7 +22,7 @@ abbrev pub address_bits : Xlen → ℕ
 address_bits Rv32 = 32
 address_bits Rv64 = 54
 
--- where the space of physical addresses ends: each number of an address register stands for four
+-- where the space of physical addresses ends: each number of an address register means four
 -- bytes
 abbrev pub space_end : Xlen → ℕ
 space_end xlen = 4 * 2 ^ address_bits xlen
@@ -35,7 +35,7 @@ register_digits xlen = xlen_bits xlen / 4
 abbrev pub word_entries : Xlen → ℕ
 word_entries xlen = xlen_bits xlen / 8
 
--- how many configuration words there are for so many entries
+-- how many configuration words there are for that many entries
 abbrev pub word_count : Xlen → Limit → ℕ
 word_count xlen limit = limit_number limit / word_entries xlen
 

@@ -8,7 +8,7 @@ use Rattle.prefix_tree.specs.declared.chains.Edges.{Edges}
 use Rattle.prefix_tree.specs.declared.chains.Part.{Part}
 use Rattle.prefix_tree.specs.Trees.{PermTree, Uniform, Split}
 
--- a block 2 ^ n times as large as one that lies in it after so many of its size, with one
+-- a block 2 ^ n times as large as one that lies in it after that many of its size, with one
 -- permission before that and one after it
 abbrev pub nested : ℕ → ℕ → Perm → Perm → PermTree → PermTree
 nested zero place before behind tree = tree

@@ -1,4 +1,4 @@
--- Entries that stand on a hart from one of its entries on.
+-- Entries that are on a hart from one of its entries on.
 use Rattle.std.specs.Prelude.{ℕ, ◌+◌, ◌-◌, ◌*◌, nat_lt, if◌then◌else◌, List, [], ◌∷◌, map, Option}
 use Rattle.std.specs.Prelude.{Some, None, slice_get}
 use Rattle.std.specs.Int.{Width, from_le_bytes, w32, w64}
@@ -8,7 +8,7 @@ use Rattle.pmp_encoding.specs.declared.xlen.Xlen.{Xlen}
 use Rattle.pmp_encoding.specs.declared.xlen.Xlen.TheVariants.{Rv32, Rv64}
 use Rattle.pmp_encoding.specs.Widths.{word_entries}
 
--- what stands at entry i of the hart: nothing below the first, and after the last
+-- what is at entry i of the hart: nothing below the first, and after the last
 abbrev pub entry_from : ℕ → List Entry → ℕ → Option Entry
 entry_from first entries i = if nat_lt i first then None else slice_get entries (i - first)
 
@@ -21,7 +21,7 @@ cfg_or_zero None = 0
 abbrev pub cfg_from : ℕ → List Entry → ℕ → ℕ
 cfg_from first entries i = cfg_or_zero (entry_from first entries i)
 
--- a register as a number of so many bits
+-- a register as a number of that many bits
 abbrev pub width_of : Xlen → Width
 width_of Rv32 = w32
 width_of Rv64 = w64

@@ -15,7 +15,7 @@ entries_text xlen i [] = []
 entries_text xlen i (entry ∷ entries) = entry_text xlen i (cfg_of entry) (address_of entry)
     ++ entries_text xlen (i + 1) entries
 
--- the number of entries, and a line for each, which stand from entry `first` on
+-- the number of entries, and a line for each, which are from entry `first` on
 abbrev pub list_text : Xlen → ℕ → List Entry → List ℕ
 list_text xlen first entries = count_text (length entries) ++ entries_text xlen first entries
 

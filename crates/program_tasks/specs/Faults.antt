@@ -86,7 +86,7 @@ pub data Demand : Type 0 where
 -- the values lack it: the argument of that name has no value; the word of `--entries` names no
 -- limit, that of `--format` no format of a plan or of a table, that of `--xlen` no width, that of
 -- `--at-most` no number, that of `--name` is no identifier, that of `--first` names no entry below
--- the limit, that of `--hints` not whether hints are told; the map and that other file are both
+-- the limit, that of `--hints` not whether hints are given; the map and that other file are both
 -- standard input; the certificate is the map; the file is said to be a listing and a trace; answers
 -- are to be explained and to be compared; a platform is named where it is said to be no trace; or
 -- of registers another table is asked for than the text, or costs of what is no text of a map; the
@@ -122,8 +122,8 @@ Lacks value flag has_pages = (layout : Layout) → IsLaidOut value layout
 Lacks value flag enters_text = (layout : Layout) → IsLaidOut value layout
     → ¬ HasEntry (at_zero layout)
 
--- what is told where they lack it: a value of an option with its word, a certificate in the place
--- of its map with the map
+-- what is reported where they lack it: a value of an option with its word, a certificate in the
+-- place of its map with the map
 abbrev pub Tells : (Text → Option Text) → Demand → Fault → Type 0
 Tells value (has name) fault = fault ≡ faults.Missing
 Tells value names_limit (faults.Entries word) = value (codes "entries") ≡ Some word.now

@@ -153,7 +153,7 @@ HasValues value flag (Measure file layout) options =
     (value (codes "FILE") ≡ Some file.now)
     × IsLaidOut value layout
 
--- a word that standard input stands for
+-- a word that means standard input
 abbrev pub input_word : Text
 input_word = codes "-"
 
@@ -161,13 +161,13 @@ input_word = codes "-"
 abbrev pub IsOfMap : Bool → TableFormat → Type 0
 IsOfMap registers format = registers ≡ true → format ≡ tables.Text
 
--- costs stand in the text of a map's table alone
+-- costs are in the text of a map's table alone
 abbrev pub IsOfText : Bool → TableFormat → Bool → Type 0
 IsOfText registers format costs = costs ≡ true → (registers ≡ false) × (format ≡ tables.Text)
 
 -- standard input is not both a map and the trace or the registers beside it. A certificate does not
 -- take the place of its map. The name of a plan is an identifier, and its first entry is one that
--- such a hart has. Registers have a table as text alone, and costs stand in the text of a map's
+-- such a hart has. Registers have a table as text alone, and costs are in the text of a map's
 -- table alone. What is measured is an enclave
 abbrev pub IsSound : Task → Options → Type 0
 IsSound (Plan map cert limit) options =
@@ -186,7 +186,7 @@ abbrev pub NamesNone : Text → (Text → Option Text) → (Text → Option Text
 NamesNone name value flag = (task : Task) (options : Options) → word_of task ≡ name
     → HasValues value flag task options → ¬ IsSound task options
 
--- a request for a sound task is that subcommand with these values, and hints are told so
+-- a request for a sound task is that subcommand with these values, and hints are given so
 pub record IsRequestOf (subcommand : Subcommand) (hints : Hints) (value flag : Text
     → Option Text) (request : Request) : Type 0 where
   pub named : subcommand_of request.task ≡ subcommand

@@ -47,7 +47,7 @@ pub enum Fault<'a> {
         /// The value.
         word: &'a str,
     },
-    /// No enclave has so many pages.
+    /// No enclave has that many pages.
     Pages,
     /// No enclave of that text is entered there.
     EntryOffset,

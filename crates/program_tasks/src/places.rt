@@ -6,7 +6,7 @@ ghost use Rattle.program_tasks.specs.Places.{again, cert_of, first_of, place_of,
 use crate::Task;
 use crate::task::files_of;
 
-/// The word that stands for standard input.
+/// The word for standard input.
 const STANDARD_INPUT: &str = "-";
 
 /// Where an input comes from.

@@ -16,10 +16,10 @@ use crate::options::{Answers, LintKind, Options, TableFormat};
 use crate::request::Request;
 use crate::task::{Subcommand, Task};
 
-/// The word that stands for standard input.
+/// The word for standard input.
 const INPUT: &str = "-";
 
-/// Whether a word stands for standard input.
+/// Whether a word means standard input.
 fn is_input(word: &str) -> bool
     ensures { (result ≡ true) ↔ (word.now ≡ input_word) }
 {

@@ -40,13 +40,13 @@ mod table;
 mod texts;
 mod verdict;
 
-pub use fault::MapOfFault;
+pub use fault::{ListingFault, MapOfFault};
 pub use finding::{Finding, compare};
 pub use laws::{list_law, permits_law};
-pub use listing_audit::{AuditFault, audit};
-pub use listing_rules::{Ruled, RulesFault, rules_in};
+pub use listing_audit::audit;
+pub use listing_rules::{Ruled, rules_in};
 pub use map::print_map_of;
 pub use pmp_match::{Registers, Reserved, ReservedAt};
 pub use rules::Rules;
-pub use table::{ListingFault, print_registers};
+pub use table::print_registers;
 pub use verdict::{Verdict, count_on, verdict_of};

@@ -6,12 +6,13 @@ ghost use Rattle.permission_map.specs.Runs.{view_of_runs};
 ghost use Rattle.pmp_match.specs.RegisterDecision.{RegistersMean};
 ghost use Rattle.register_text.specs.declared.listing.Listing.{Listing};
 ghost use Rattle.register_text.specs.Listings.{IsFirstUnknown, listed};
-ghost use Rattle.register_audit.specs.declared.listing_audit.AuditFault as AuditFault;
+ghost use Rattle.register_audit.specs.declared.fault.ListingFault as ListingFault;
 ghost use Rattle.register_audit.specs.Audits.{IsAnswer, IsAudit, IsSaid};
 ghost use Rattle.register_text.specs.Texts.{passed_text};
 ghost use Rattle.register_audit.specs.Verdicts.{IsVerdict, is_difference, is_meant};
 
 use crate::differences::differences_of;
+use crate::fault::ListingFault;
 use crate::texts::verdict_line;
 use crate::verdict::{Verdict, verdict_of};
 use byte_streams::{Sink, write_whole};
@@ -20,17 +21,6 @@ use pmp_encoding::Xlen;
 use pmp_match::Registers;
 use register_text::{Listing, listing_of, passed_line, smepmp_line, text_of_line};
 use std::alloc::Global;
-
-/// Why a listing was not audited.
-#[derive(Clone, Copy, PartialEq, Eq, Debug)]
-pub enum AuditFault {
-    /// The line of this number, from 1, is not understood.
-    Line(u64),
-    /// Memory was refused.
-    Memory,
-    /// The device failed, or took none of some bytes.
-    Device,
-}
 
 /// What is said of a listing, and whether it is a yes.
 #[derive(Drop)]
@@ -116,7 +106,7 @@ pub fn audit<W: Sink>(
     listing: &[u8],
     all: bool,
     out: &mut W,
-) -> Result<bool, AuditFault>
+) -> Result<bool, ListingFault>
     requires short { length listing.now < 2 ^ 64 - 1 }
     ensures written { IfOk result (λ means.
         (text : List ℕ) × IsAudit (view_of_runs map.now) xlen fewest all listing.now text means
@@ -127,25 +117,25 @@ pub fn audit<W: Sink>(
     ensures differs { result ≡ Ok false
         → (leaves : Listing) × (listed xlen listing.now ≡ Some leaves)
         × (leaves.mseccfg ≢ 0 ⊎ ¬ RegistersMean leaves.registers (view_of_runs map.now)) }
-    ensures line { (n : ℕ) → result ≡ Err (AuditFault.Line n)
+    ensures line { (n : ℕ) → result ≡ Err (ListingFault.Line n)
         → IsFirstUnknown xlen listing.now n × (out.new ≡ out.old) }
-    ensures untouched { result ≡ Err AuditFault.Memory → out.new ≡ out.old }
-    ensures broken { result ≡ Err AuditFault.Device → (text : List ℕ) × (means : Bool)
+    ensures untouched { result ≡ Err ListingFault.Memory → out.new ≡ out.old }
+    ensures broken { result ≡ Err ListingFault.Device → (text : List ℕ) × (means : Bool)
         × IsAudit (view_of_runs map.now) xlen fewest all listing.now text means
         × Breaks text (writing W.contents W.failures W.stalls out.old out.new) }
 {
     let listing = match listing_of(xlen, listing) {
         Ok(listing) => listing,
-        Err(number) => return Err(AuditFault::Line(number)),
+        Err(number) => return Err(ListingFault::Line(number)),
     };
     let Ok(mut answer) = answer_of(alloc, map, fewest, &listing, all) else {
-        return Err(AuditFault::Memory);
+        return Err(ListingFault::Memory);
     };
     let Ok(()) = push_passed(&mut answer.text, listing.passed) else {
-        return Err(AuditFault::Memory);
+        return Err(ListingFault::Memory);
     };
     let Ok(()) = write_whole(out, answer.text.as_slice()) else {
-        return Err(AuditFault::Device);
+        return Err(ListingFault::Device);
     };
     Ok(answer.means)
 }

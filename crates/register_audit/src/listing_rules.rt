@@ -1,26 +1,18 @@
 //! The rules of a listing.
 
-ghost use Rattle.std.specs.Prelude.{◌≡◌, ℕ, ◌-◌, ◌^◌, ◌<◌, ◌++◌, Err, IfOk, List, Some, length};
+ghost use Rattle.std.specs.Prelude.{◌≡◌, ◌≢◌, ℕ, ◌-◌, ◌^◌, ◌<◌, ◌++◌, Err, IfOk, List, Some, length};
 ghost use Rattle.register_text.specs.Listings.{IsFirstUnknown, listed};
 ghost use Rattle.register_text.specs.Texts.{passed_text};
 ghost use Rattle.pmp_encoding.specs.declared.xlen.Xlen.{Xlen};
-ghost use Rattle.register_audit.specs.declared.listing_rules.RulesFault as RulesFault;
+ghost use Rattle.register_audit.specs.declared.fault.ListingFault as ListingFault;
 ghost use Rattle.register_audit.specs.Listings.{IsRuled};
 
+use crate::fault::ListingFault;
 use crate::rules::Rules;
 use pmp_encoding::Xlen;
 use register_text::{Listing, extents_in, listing_of, passed_line, text_of_line};
 use std::alloc::{AllocError, Global};
 use text_lines::Line;
-
-/// Why a listing was not read.
-#[derive(Clone, Copy, PartialEq, Eq, Debug)]
-pub enum RulesFault {
-    /// The line of this number, from 1, is not understood.
-    Line(u64),
-    /// Memory was refused.
-    Memory,
-}
 
 /// What a listing has.
 #[derive(Drop)]
@@ -57,18 +49,19 @@ fn ruled_by(alloc: Global, listing: &Listing) -> Result<Ruled, AllocError>
 
 /// The rules of the registers of that width that a listing leaves, or the text that says why they judge nothing: an entry with a reserved
 /// value, or Smepmp.
-pub fn rules_in(alloc: Global, xlen: Xlen, listing: &[u8]) -> Result<Ruled, RulesFault>
+pub fn rules_in(alloc: Global, xlen: Xlen, listing: &[u8]) -> Result<Ruled, ListingFault>
     requires { length listing.now < 2 ^ 64 - 1 }
     ensures ruled { IfOk result (IsRuled xlen listing.now) }
-    ensures line { (n : ℕ) → result ≡ Err (RulesFault.Line n)
+    ensures line { (n : ℕ) → result ≡ Err (ListingFault.Line n)
         → IsFirstUnknown xlen listing.now n }
+    ensures unwritten { result ≢ Err ListingFault.Device }
 {
     let leaves = match listing_of(xlen, listing) {
         Ok(leaves) => leaves,
-        Err(number) => return Err(RulesFault::Line(number)),
+        Err(number) => return Err(ListingFault::Line(number)),
     };
     match ruled_by(alloc, &leaves) {
         Ok(ruled) => Ok(ruled),
-        Err(_) => Err(RulesFault::Memory),
+        Err(_) => Err(ListingFault::Memory),
     }
 }

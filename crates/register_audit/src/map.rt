@@ -9,13 +9,14 @@ ghost use Rattle.pmp_match.specs.RegisterDecision.{IsWords, RegistersMean};
 ghost use Rattle.register_text.specs.declared.listing.Listing.{Listing};
 ghost use Rattle.register_text.specs.Listings.{IsFirstUnknown, listed};
 ghost use Rattle.register_text.specs.Texts.{passed_text};
+ghost use Rattle.register_audit.specs.declared.fault.ListingFault as ListingFault;
 ghost use Rattle.register_audit.specs.declared.fault.MapOfFault as MapOfFault;
 ghost use Rattle.register_audit.specs.declared.fault.NoMapReason as NoMapReason;
 ghost use Rattle.register_audit.specs.Maps.{AreTooFine, IsMapFile, IsMapOf, IsMapOfExtents};
 ghost use Rattle.register_audit.specs.Pages.{IsTooFine};
 ghost use Rattle.register_audit.specs.MapTexts.{map_text};
 
-use crate::fault::{MapOfFault, NoMapReason};
+use crate::fault::{ListingFault, MapOfFault, NoMapReason};
 use crate::map_texts::{below_line, cut_line, map_text};
 use crate::pages::first_bytes;
 use crate::{Finding, compare};
@@ -83,7 +84,7 @@ fn said_of(alloc: Global, listing: &Listing) -> Result<Said, NoMapReason>
 }
 
 /// The same with the comment on lines that are passed over.
-fn commented(alloc: Global, listing: &Listing) -> Result<Said, NoMapReason>
+fn with_comment(alloc: Global, listing: &Listing) -> Result<Said, NoMapReason>
     ensures said { IfOk result (λ all. (text : List ℕ) × IsMapOf listing.now text all.is_map
         × (all.text.items ≡ text ++ passed_text listing.now.passed)) }
     ensures many { result ≡ Err NoMapReason.TooManyRanges → AreTooFine listing.now }
@@ -116,27 +117,28 @@ pub fn print_map_of<W: Sink>(
     ensures none { result ≡ Ok false → (leaves : Listing)
         × (listed xlen listing.now ≡ Some leaves)
         × (leaves.mseccfg ≢ 0 ⊎ ((view : View) → ¬ RegistersMean leaves.registers view)) }
-    ensures line { (n : ℕ) → result ≡ Err (MapOfFault.Line n)
+    ensures line { (n : ℕ) → result ≡ Err (MapOfFault.Listing (ListingFault.Line n))
         → IsFirstUnknown xlen listing.now n × (out.new ≡ out.old) }
     ensures many { result ≡ Err MapOfFault.TooManyRanges
         → (leaves : Listing) × (listed xlen listing.now ≡ Some leaves) × AreTooFine leaves
         × (out.new ≡ out.old) }
-    ensures untouched { result ≡ Err MapOfFault.Memory → out.new ≡ out.old }
-    ensures broken { result ≡ Err MapOfFault.Device → (text : List ℕ) × (is_map : Bool)
-        × IsMapFile xlen listing.now text is_map
+    ensures untouched { result ≡ Err (MapOfFault.Listing ListingFault.Memory)
+        → out.new ≡ out.old }
+    ensures broken { result ≡ Err (MapOfFault.Listing ListingFault.Device)
+        → (text : List ℕ) × (is_map : Bool) × IsMapFile xlen listing.now text is_map
         × Breaks text (writing W.contents W.failures W.stalls out.old out.new) }
 {
     let listing = match listing_of(xlen, listing) {
         Ok(listing) => listing,
-        Err(number) => return Err(MapOfFault::Line(number)),
+        Err(number) => return Err(MapOfFault::Listing(ListingFault::Line(number))),
     };
-    let all = match commented(alloc, &listing) {
+    let all = match with_comment(alloc, &listing) {
         Ok(all) => all,
         Err(NoMapReason::TooManyRanges) => return Err(MapOfFault::TooManyRanges),
-        Err(NoMapReason::Memory) => return Err(MapOfFault::Memory),
+        Err(NoMapReason::Memory) => return Err(MapOfFault::Listing(ListingFault::Memory)),
     };
     let Ok(()) = write_whole(out, all.text.as_slice()) else {
-        return Err(MapOfFault::Device);
+        return Err(MapOfFault::Listing(ListingFault::Device));
     };
     Ok(all.is_map)
 }

@@ -4,27 +4,17 @@ ghost use Rattle.std.specs.Prelude.{◌≡◌, ◌-◌, ◌^◌, ◌<◌, ◌++�
 ghost use Rattle.byte_streams.specs.Writings.{writing, Breaks, TakesAll};
 ghost use Rattle.register_text.specs.Listings.{IsFirstUnknown};
 ghost use Rattle.register_text.specs.Texts.{passed_text};
-ghost use Rattle.register_audit.specs.declared.table.ListingFault as ListingFault;
+ghost use Rattle.register_audit.specs.declared.fault.ListingFault as ListingFault;
 ghost use Rattle.register_audit.specs.Tables.{IsRegisterTable, IsShown};
 
 use crate::count_on;
+use crate::fault::ListingFault;
 use byte_streams::{Sink, write_whole};
 use map_table::extent_table;
 use permission_map::Memory;
 use pmp_encoding::Xlen;
 use register_text::{Listing, extents_in, listing_of, passed_line, text_of_line};
 use std::alloc::Global;
-
-/// Why a listing was not shown.
-#[derive(Clone, Copy, PartialEq, Eq, Debug)]
-pub enum ListingFault {
-    /// The line of this number, from 1, is not understood.
-    Line(u64),
-    /// Memory was refused.
-    Memory,
-    /// The device failed, or took none of some bytes.
-    Device,
-}
 
 /// What is said of registers, and whether they mean something.
 #[derive(Drop)]
@@ -50,7 +40,7 @@ fn said_of(alloc: Global, listing: &Listing) -> Result<Shown, Memory>
 }
 
 /// The same with the comment on lines that are passed over. The only error is out of memory.
-fn commented(alloc: Global, listing: &Listing) -> Result<Shown, Memory>
+fn with_comment(alloc: Global, listing: &Listing) -> Result<Shown, Memory>
     ensures { IfOk result (λ all. (text : List ℕ) × IsShown listing.now text all.meant
         × (all.text.items ≡ text ++ passed_text listing.now.passed)) }
 {
@@ -85,7 +75,7 @@ pub fn print_registers<W: Sink>(
         Ok(listing) => listing,
         Err(number) => return Err(ListingFault::Line(number)),
     };
-    let Ok(all) = commented(alloc, &listing) else {
+    let Ok(all) = with_comment(alloc, &listing) else {
         return Err(ListingFault::Memory);
     };
     let Ok(()) = write_whole(out, all.text.as_slice()) else {

@@ -24,7 +24,7 @@ abbrev pub label_end : Option (List ℕ) → List ℕ
 label_end None = []
 label_end (Some name) = codes "_load:\n"
 
--- what stands at the head, with that label
+-- what is at the head, with that label
 abbrev pub asm_head : Xlen → ℕ → List ℕ → List ℕ → List ℕ
 asm_head xlen first label end = concat (head_begin ∷ head_width xlen ∷ head_rules ∷ head_below first
     ∷ head_end ∷ label ∷ end ∷ [])
@@ -101,6 +101,6 @@ asm_text name xlen limit first entries =
     ++ (asm_words xlen limit first entries
     ++ asm_end name))
 
--- the text of entries that stand on a hart from `first` on
+-- the text of entries that are on a hart from `first` on
 abbrev pub IsAsmText : Option (List ℕ) → Xlen → Limit → ℕ → List Entry → List ℕ → Type 0
 IsAsmText name xlen limit first entries text = text ≡ asm_text name xlen limit first entries

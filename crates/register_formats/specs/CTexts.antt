@@ -16,7 +16,7 @@ use Rattle.register_formats.specs.Heads.{head_begin, head_below, head_end, head_
 use Rattle.register_formats.specs.Shared.{kept_bits, shared_words}
 use Rattle.register_formats.specs.Rows.{rows_text}
 
--- what stands before the arrays: a compiler for RISC-V of the other width refuses the text; one for
+-- what comes before the arrays: a compiler for RISC-V of the other width refuses the text; one for
 -- another processor does not
 abbrev pub c_begin : Xlen → List ℕ
 c_begin Rv32 =
@@ -63,7 +63,7 @@ c_arrays prefix link xlen limit first entries =
     ++ (concat (c_between xlen ∷ prefix ∷ link ∷ c_words_size xlen limit ∷ [])
     ++ rows_text (c_word_row xlen first entries) 0 (word_count xlen limit))
 
--- the end of the second array, and what stands before the number of entries
+-- the end of the second array, and what comes before the number of entries
 abbrev pub c_count_begin : List ℕ
 c_count_begin = codes "};\n\n/* How many entries are in use; those after them are off. */\nenum { "
 
@@ -97,7 +97,7 @@ abbrev pub c_address_write : ℕ → ℕ → List ℕ
 c_address_write first i = codes "    __asm__ volatile(\"csrw pmpaddr" ++ decimal (first + i)
     ++ codes ", %0\" : : \"r\"(addr[" ++ decimal (first + i) ++ codes "]));\n"
 
--- what stands before the number of a shared word
+-- what comes before the number of a shared word
 abbrev pub c_kept_begin : Xlen → List ℕ
 c_kept_begin Rv32 = codes "    uint32_t kept;\n    __asm__ volatile(\"csrr %0, pmpcfg"
 c_kept_begin Rv64 = codes "    uint64_t kept;\n    __asm__ volatile(\"csrr %0, pmpcfg"
@@ -131,7 +131,7 @@ c_word_write xlen first i =
 abbrev pub c_loader_end : List ℕ
 c_loader_end = codes "    __asm__ volatile(\"sfence.vma\" : : : \"memory\");\n}\n#endif\n"
 
--- what stands between the name of the number of entries and that number
+-- what comes between the name of the number of entries and that number
 abbrev pub c_count_is : List ℕ
 c_count_is = codes "_count = "
 
@@ -147,7 +147,7 @@ c_load_words Rv64 = codes "addr;\n    const uint64_t *cfg = "
 abbrev pub c_load_begin : List ℕ
 c_load_begin = codes "cfg;\n\n"
 
--- what stands before the instructions: how many entries there are, and that head
+-- what comes before the instructions: how many entries there are, and that head
 abbrev pub c_loader_begin : List ℕ → List ℕ → Xlen → ℕ → List ℕ → List ℕ
 c_loader_begin prefix link xlen first count =
     concat (
@@ -177,6 +177,6 @@ c_text name xlen limit first entries =
     c_arrays (prefix_of name) (array_link name) xlen limit first entries
     ++ c_loader (prefix_of name) (array_link name) xlen limit first (decimal (length entries))
 
--- the text of entries that stand on a hart from `first` on
+-- the text of entries that are on a hart from `first` on
 abbrev pub IsCText : Option (List ℕ) → Xlen → Limit → ℕ → List Entry → List ℕ → Type 0
 IsCText name xlen limit first entries text = text ≡ c_text name xlen limit first entries

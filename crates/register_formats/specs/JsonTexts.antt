@@ -22,11 +22,11 @@ abbrev pub json_byte : ℕ → List ℕ
 json_byte b = if b == 34 then codes "\\\"" else if b == 92 then codes "\\\\" else if nat_lt b 32
     then codes "\\u" ++ hex 4 b else b ∷ []
 
--- what stands before an item of a list: a comma where it is not the first, and a line's end
+-- what comes before an item of a list: a comma where it is not the first, and a line's end
 abbrev pub json_before : ℕ → List ℕ
 json_before i = if i == 0 then codes "\n" else codes ",\n"
 
--- the name of the map, and what stands before it
+-- the name of the map, and what comes before it
 abbrev pub json_map_begin : List ℕ
 json_map_begin = codes "{\n  \"map\": \""
 
@@ -48,7 +48,7 @@ abbrev pub json_width : Xlen → List ℕ
 json_width Rv32 = codes "  \"xlen\": 32,\n"
 json_width Rv64 = []
 
--- all three, and what stands before the entries
+-- all three, and what comes before the entries
 abbrev pub json_entries_begin : Xlen → Limit → ℕ → List ℕ
 json_entries_begin xlen limit first = json_limit limit ++ json_width xlen ++ json_first first
     ++ codes "  \"entries\": ["
@@ -73,7 +73,7 @@ json_entry xlen first i None = []
 abbrev pub json_entry_row : Xlen → ℕ → List Entry → ℕ → List ℕ
 json_entry_row xlen first entries i = json_entry xlen first i (slice_get entries i)
 
--- what stands before the configuration words
+-- what comes before the configuration words
 abbrev pub json_words_begin : List ℕ
 json_words_begin = codes "\n  ],\n  \"pmpcfg\": ["
 
@@ -82,7 +82,7 @@ abbrev pub json_word_row : Xlen → ℕ → List Entry → ℕ → List ℕ
 json_word_row xlen first entries i = json_before i ++ codes "    \"0x"
     ++ register_text xlen (word_from xlen first entries i) ++ codes "\""
 
--- the object, with so many words
+-- the object, with that many words
 abbrev pub json_text : List ℕ → Xlen → Limit → ℕ → List Entry → ℕ → List ℕ
 json_text name xlen limit first entries words =
     (json_map_begin ++ rows_text (json_name_row name) 0 (length name))

@@ -24,7 +24,7 @@ abbrev pub region_or_off : Option Entry → List ℕ
 region_or_off (Some e) = region_text e
 region_or_off None = codes "off"
 
--- what stands beside the registers of entry i
+-- what is beside the registers of entry i
 abbrev pub note_text : ℕ → Option Entry → List ℕ
 note_text i entry = decimal i ++ codes ": " ++ region_or_off entry
 
@@ -43,7 +43,7 @@ abbrev pub prefix_of : Option (List ℕ) → List ℕ
 prefix_of (Some name) = name
 prefix_of None = codes "pmp"
 
--- what stands after it in the names of the arrays, which are `uart_pmpaddr` and `uart_pmpcfg` with
+-- what comes after it in the names of the arrays, which are `uart_pmpaddr` and `uart_pmpcfg` with
 -- the name `uart`
 abbrev pub array_link : Option (List ℕ) → List ℕ
 array_link (Some name) = codes "_pmp"

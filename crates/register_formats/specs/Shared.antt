@@ -10,6 +10,6 @@ abbrev pub shared_words : Xlen → Limit → ℕ → ℕ
 shared_words xlen limit first = if not (first % word_entries xlen == 0)
     && nat_lt first (limit_number limit) then 1 else 0
 
--- the bits of the entries below the first in the word that it stands in
+-- the bits of the entries below the first in the word that it is in
 abbrev pub kept_bits : Xlen → ℕ → ℕ
 kept_bits xlen first = 2 ^ (8 * (first % word_entries xlen)) - 1

@@ -14,7 +14,7 @@ use Rattle.text_lines.specs.declared.fault.RunFault.TheVariants.{Line, TooLong, 
 use Rattle.text_lines.specs.Faults.{run_fault}
 use Rattle.text_lines.specs.Lines.{has_no_end, AreLines, IsShortLine, without_return}
 use Rattle.text_lines.specs.LineReaders.{line_of, pending_of, number_of, came_of, most_of, ended_of, NextLine}
-use Rattle.text_lines.specs.LineLoop.{Meaning, Does, counted, told, ended, Stands, DoesAll, DoesLines, ComesTo, StopsAt, StopsForMemory, StopsReading}
+use Rattle.text_lines.specs.LineLoop.{Meaning, Does, counted, answer_bytes, ended, IsFront, DoesAll, DoesLines, ComesTo, StopsAt, StopsForMemory, StopsReading}
 use Rattle.text_lines.specs.LineLoop.{StopsTooLong, StopsWriting}
 use Rattle.text_lines.specs.LineLoop.{none, silent, answer}
 
@@ -160,7 +160,7 @@ pub record Grown {S : Type 0} (does : Meaning S) (old new : S) (lines answers : 
   pub all : List (List ℕ)
   pub done : Does does old (lines ++ line ∷ []) all new
   pub count : length all ≡ counted (length answers) said
-  pub text : concat all ≡ concat answers ++ told said
+  pub text : concat all ≡ concat answers ++ answer_bytes said
 
 grown : {S : Type 0} (does : Meaning S) (old now new : S) (lines answers : List (List ℕ)) (line : List ℕ) (said : Option (List ℕ))
     → Does does old lines answers now → IsShortLine line → does now (length answers) (without_return line) said new → Grown does old new lines answers line said
@@ -190,7 +190,7 @@ parted does old now reader count before after held holds h e = ap (λ xs. ended 
 -- a line that its LF ended is interpreted and answered, and the next may come
 pub goes_on : {size : ℕ} {S : Type 0} (does : Meaning S) (old now new : S) (reader : LineReader size) (count : ℕ)
     (before after held middle holds : Option (List ℕ)) (h : Handed does old now reader count before after held middle) (said : Option (List ℕ))
-    → does now count (line_of reader) said new → Appends middle holds (told said) → ended_of reader ≡ false
+    → does now count (line_of reader) said new → Appends middle holds (answer_bytes said) → ended_of reader ≡ false
     → Progress does old new reader (counted count said) before after held holds
 goes_on does old now new reader count before after held middle holds h said is w unclosed =
     let g = handed_grown does old now new reader count before after held middle h said is in
@@ -203,7 +203,7 @@ goes_on does old now new reader count before after held middle holds h said is w
         number = h.number ∙ sym (length-append h.lines (h.line ∷ []));
         consumed = consumed_as before after _ _ (parted does old now reader count before after held middle h p.0) h.consumed;
         came = h.came ∙ ap length (parted does old now reader count before after held middle h p.0);
-        written = appended_as held holds _ _ (sym g.text) (Appends-trans held middle holds (concat h.answers) (told said) h.written w);
+        written = appended_as held holds _ _ (sym g.text) (Appends-trans held middle holds (concat h.answers) (answer_bytes said) h.written w);
       }
       | inr p ↦ let f : true ≡ false = sym p.4 ∙ unclosed in cc
     ]
@@ -211,7 +211,7 @@ goes_on does old now new reader count before after held middle holds h said is w
 -- the last line is interpreted and answered
 pub ends : {size : ℕ} {S : Type 0} (does : Meaning S) (old now new : S) (reader : LineReader size) (count : ℕ)
     (before after held middle holds : Option (List ℕ)) (h : Handed does old now reader count before after held middle) (said : Option (List ℕ))
-    → does now count (line_of reader) said new → Appends middle holds (told said) → ended_of reader ≡ true → DoesAll does old new before after held holds
+    → does now count (line_of reader) said new → Appends middle holds (answer_bytes said) → ended_of reader ≡ true → DoesAll does old new before after held holds
 ends does old now new reader count before after held middle holds h said is w closed =
     let g = handed_grown does old now new reader count before after held middle h said is in
     elim h.ends [
@@ -225,7 +225,7 @@ ends does old now new reader count before after held middle holds h said is w cl
         few = few_as _ _ (h.came ∙ ap (λ xs. length (ended h.lines ++ xs)) p.1) h.few;
         are_lines = are_lines h.lines h.line (h.line ∷ []) (done_no_ends h.done) (h.short.0, [], inr (p.0, refl, refl), refl);
         done = g.done;
-        written = appended_as held holds _ _ (sym g.text) (Appends-trans held middle holds (concat h.answers) (told said) h.written w);
+        written = appended_as held holds _ _ (sym g.text) (Appends-trans held middle holds (concat h.answers) (answer_bytes said) h.written w);
       }
     ]
 
@@ -307,7 +307,7 @@ stops_reading does old now reader next count before middle after held holds p n 
 
 -- the line stands where it was handed out
 stands : {size : ℕ} {S : Type 0} (does : Meaning S) (old now : S) (reader : LineReader size) (count : ℕ) (before after held holds : Option (List ℕ))
-    (h : Handed does old now reader count before after held holds) → Stands h.bytes after h.line
+    (h : Handed does old now reader count before after held holds) → IsFront h.bytes after h.line
 stands does old now reader count before after held holds h = elim h.ends [ inl p ↦ inl (pending_of reader, p.0) | inr p ↦ inr (p.0, p.1, p.3) ]
 
 -- a line is not understood
@@ -340,7 +340,7 @@ none_less n h = omega (arith, h)
 
 -- of an answer a beginning was written, not all of it: there is an answer
 pub part_of :
-    (said : Option (List ℕ)) (old new : Option (List ℕ)) → TakesPart (told said) old new
+    (said : Option (List ℕ)) (old new : Option (List ℕ)) → TakesPart (answer_bytes said) old new
     → (text : List ℕ) × (part : ℕ) × (said ≡ Some text) × (part < length text) × Appends old new (take part text)
 part_of None old new part = absurd (none_less part.0 part.1)
 part_of (Some text) old new part = (text, part.0, refl, part.1, part.2)

@@ -1,4 +1,4 @@
--- The digits of a number of which the last stands apart.
+-- The digits of a number of which the last is apart.
 use Rattle.std.specs.Prelude.{ℕ, List, [], ◌∷◌, ◌++◌, take}
 use Rattle.text_lines.specs.declared.counter.Counter.{Counter}
 

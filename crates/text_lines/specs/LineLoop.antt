@@ -12,8 +12,8 @@ use Rattle.text_lines.specs.declared.line_loop.LineRefusal.{LineRefusal}
 use Rattle.text_lines.specs.declared.line_loop.LineRefusal.TheVariants as refusals
 use Rattle.text_lines.specs.Lines.{AreLines, BeginsLongLine, IsShortLine, without_return}
 
--- what a line does, after so many answers: from one state to the next, with the text of its answer
--- where it has one
+-- what a line does, after that many answers: from one state to the next, with the text of its
+-- answer where it has one
 abbrev pub Meaning : Type 0 → Type 1
 Meaning S = S → ℕ → List ℕ → Option (List ℕ) → S → Type 0
 
@@ -31,19 +31,19 @@ pub data Does {S : Type 0} (does : Meaning S) (old : S) : List (List ℕ) → Li
       → does mid (length answers) (without_return line) (Some text) new
       → Does does old (lines ++ line ∷ []) (answers ++ text ∷ []) new
 
--- the text of the answer after n others, where there is one: its number, and what stands behind
+-- the text of the answer after n others, where there is one: its number, and what comes after
 -- that
 abbrev pub text_of : Bool → ℕ → List ℕ → Option (List ℕ)
 text_of answered n behind = if answered then Some (decimal (n + 1) ++ behind) else None
 
--- what comes of a line: its answer, told by what stands behind its number, or why it has none
-abbrev pub Comes : {S : Type 0} → Meaning S → (S → List ℕ → Type 0) → (S → List ℕ → S → Type 0) → S
-    → ℕ → List ℕ → Result Bool LineRefusal → List ℕ → S → Type 0
-Comes does refuses starves old n line (Ok answered) behind new =
+-- what comes of a line: its answer, given by what comes after its number, or why it has none
+abbrev pub IsLineResult : {S : Type 0} → Meaning S → (S → List ℕ → Type 0)
+    → (S → List ℕ → S → Type 0) → S → ℕ → List ℕ → Result Bool LineRefusal → List ℕ → S → Type 0
+IsLineResult does refuses starves old n line (Ok answered) behind new =
     does old n line (text_of answered n behind) new
-Comes does refuses starves old n line (Err refusals.NotUnderstood) behind new = refuses old line
-    × (new ≡ old)
-Comes does refuses starves old n line (Err refusals.Memory) behind new = starves old line new
+IsLineResult does refuses starves old n line (Err refusals.NotUnderstood) behind new =
+    refuses old line × (new ≡ old)
+IsLineResult does refuses starves old n line (Err refusals.Memory) behind new = starves old line new
 
 -- whether there was a line
 abbrev pub was_line : Result (Option (Result Bool LineRefusal)) ReadFault → Result Bool ReadFault
@@ -62,18 +62,18 @@ counted n None = n
 counted n (Some text) = n + 1
 
 -- what was written with that one
-abbrev pub told : Option (List ℕ) → List ℕ
-told None = []
-told (Some text) = text
+abbrev pub answer_bytes : Option (List ℕ) → List ℕ
+answer_bytes None = []
+answer_bytes (Some text) = text
 
 -- lines, each with its LF
 abbrev pub ended : List (List ℕ) → List ℕ
 ended [] = []
 ended (line ∷ lines) = line ++ 10 ∷ ended lines
 
--- the line stands at the front of the bytes that have come: before a LF, or at the end of the input
-abbrev pub Stands : List ℕ → Option (List ℕ) → List ℕ → Type 0
-Stands bytes after line = ((rest : List ℕ) × (bytes ≡ line ++ 10 ∷ rest))
+-- the line is at the front of the bytes that have come: before a LF, or at the end of the input
+abbrev pub IsFront : List ℕ → Option (List ℕ) → List ℕ → Type 0
+IsFront bytes after line = ((rest : List ℕ) × (bytes ≡ line ++ 10 ∷ rest))
     ⊎ ((0 < length line) × (bytes ≡ line) × IsAtEnd after)
 
 -- all of the input was read, and each of its lines interpreted and answered
@@ -107,7 +107,7 @@ pub record StopsAt {S : Type 0} (n : ℕ) (does : Meaning S) (refuses : S → Li
   pub few : length (ended lines ++ bytes) ≤ 2 ^ 40
   pub number : length lines + 1 ≡ n
   pub refused : BeginsLongLine bytes
-      ⊎ ((line : List ℕ) × IsShortLine line × Stands bytes after line
+      ⊎ ((line : List ℕ) × IsShortLine line × IsFront bytes after line
       × refuses new (without_return line))
 
 -- a byte came after the first 2^40, and the lines that a LF ended among these were interpreted
@@ -130,7 +130,7 @@ pub record StopsReading {S : Type 0} (does : Meaning S) (old new : S)
   pub few : length (ended lines ++ bytes) ≤ 2 ^ 40
   pub unended : IsShortLine bytes
 
--- a line stands in what was read, after lines that were interpreted and have these answers
+-- a line is in what was read, after lines that were interpreted and have these answers
 pub record ComesTo {S : Type 0} (does : Meaning S) (old now : S) (before after : Option (List ℕ))
     (answers : List (List ℕ)) (line : List ℕ) : Type 0 where
   pub lines : List (List ℕ)
@@ -139,7 +139,7 @@ pub record ComesTo {S : Type 0} (does : Meaning S) (old now : S) (before after :
   pub consumed : Consumes before after (ended lines ++ bytes)
   pub few : length (ended lines ++ bytes) ≤ 2 ^ 40
   pub short : IsShortLine line
-  pub stands : Stands bytes after line
+  pub stands : IsFront bytes after line
 
 -- a line was interpreted, and of its answer a beginning was written, not all of it
 pub record StopsWriting {S : Type 0} (does : Meaning S) (old new : S)

@@ -81,7 +81,7 @@ NextLine result old new before after = (bytes beyond : List ℕ) × (middle : Op
     × Came old new before middle bytes × Consumes middle after beyond × BeyondLimit result beyond
     × Answers result old new (pending_of old ++ bytes) after
 
--- the same of one read: new bytes stand after the others, and none came at the end alone
+-- the same of one read: new bytes come after the others, and none came at the end alone
 abbrev pub ReadsMore : {size : ℕ} → Result Bool ReadFault → LineReader size → LineReader size
     → Option (List ℕ) → Option (List ℕ) → List ℕ → Type 0
 ReadsMore (Ok more) old new before after bytes = Consumes before after bytes

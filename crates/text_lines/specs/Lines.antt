@@ -12,7 +12,7 @@ use Rattle.text_lines.specs.declared.fault.ReadFault.TheVariants.{LongLine, TooM
 abbrev pub has_no_end : List ℕ → Bool
 has_no_end bytes = list_all (λ b. not (b == 10)) bytes
 
--- a line that may stand before a LF: its CR is counted
+-- a line that may come before a LF: its CR is counted
 abbrev pub IsShortLine : List ℕ → Type 0
 IsShortLine line = (has_no_end line ≡ true) × (length line ≤ 1023)
 
@@ -25,14 +25,14 @@ abbrev pub without_return : List ℕ → List ℕ
 without_return line = if slice_index line (length line - 1) == 13 then take (length line - 1) line
     else line
 
--- bytes that begin with a line of so many bytes, whose last is no CR, and its LF
+-- bytes that begin with a line of that many bytes, whose last is no CR, and its LF
 pub record BeginsLine (len : ℕ) (bytes : List ℕ) : Type 0 where
   pub short : IsShortLine (take len bytes)
   pub whole : without_return (take len bytes) ≡ take len bytes
   pub rest : List ℕ
   pub parts : bytes ≡ take len bytes ++ 10 ∷ rest
 
--- the line stands before a LF and the rest, or it is the last, lacks its LF and has a byte
+-- the line comes before a LF and the rest, or it is the last, lacks its LF and has a byte
 abbrev pub EndsLine : List ℕ → List ℕ → List ℕ → Type 0
 EndsLine input line rest = (input ≡ line ++ 10 ∷ rest)
     ⊎ ((0 < length line) × (input ≡ line) × (rest ≡ []))

@@ -5,7 +5,7 @@ use Rattle.text_lines.specs.declared.lines.LineReader.{LineReader}
 use Rattle.text_lines.specs.LineReaders.{line_of, number_of, pending_of}
 use Rattle.text_lines.specs.Lines.{IsShortLine, raw_lines, without_return}
 
--- the bytes of which no line was handed out: those that came to the reader, and those that stand
+-- the bytes of which no line was handed out: those that came to the reader, and those that come
 -- after them
 abbrev pub left_of : {size : ℕ} → LineReader size → List ℕ → List ℕ
 left_of reader rest = pending_of reader ++ rest

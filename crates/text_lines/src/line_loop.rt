@@ -7,7 +7,7 @@ ghost use Rattle.byte_streams.specs.Writings.{writing, Prints};
 ghost use Rattle.text_lines.specs.Lines.{BeginsLine};
 ghost use Rattle.text_lines.specs.LineReaders.{came_of, line_of, most_of, FailsOnRead, NextLine};
 ghost use Rattle.text_lines.specs.Counters.{digits_of};
-ghost use Rattle.text_lines.specs.LineLoop.{counted, told, text_of, was_line, Comes, CountsReads, CountsWrites, DoesAll, IsNoLine, StopsAt, StopsForMemory, StopsReading, StopsTooLong, StopsWriting};
+ghost use Rattle.text_lines.specs.LineLoop.{answer_bytes, counted, text_of, was_line, IsLineResult, CountsReads, CountsWrites, DoesAll, IsNoLine, StopsAt, StopsForMemory, StopsReading, StopsTooLong, StopsWriting};
 
 use crate::counter::Counter;
 use crate::fault::{ReadFault, RunFault};
@@ -74,7 +74,7 @@ pub trait Interpreter {
         ensures line { IfSome result (λ found. BeginsLine found.0 ahead.now) }
         ensures comes { keeps self.old
             → IfSome result (λ found.
-            Comes does refuses starves self.old count (take found.0 ahead.now) found.1
+            IsLineResult does refuses starves self.old count (take found.0 ahead.now) found.1
             answer.new self.new) }
         ensures keeps { keeps self.old → keeps self.new }
         ensures untouched { result ≡ None → self.new ≡ self.old }
@@ -97,7 +97,7 @@ fn write_answer<W: Sink>(
     requires number { digits_of number.old ≡ decimal (count + 1) }
     requires len { number.old.len ≤ 20 }
     ensures counted { IfOk result (λ n. n ≡ counted count (text_of answered count answer.now)) }
-    ensures prints { Prints (told (text_of answered count answer.now))
+    ensures prints { Prints (answer_bytes (text_of answered count answer.now))
         (writing W.contents W.failures W.stalls sink.old sink.new) result }
     ensures number { IfOk result (λ n. digits_of number.new ≡ decimal (n + 1)) }
     ensures len { number.new.len ≤ 20 }
@@ -156,7 +156,7 @@ fn interpret_next<I: Interpreter, R: Source, W: Sink>(
     ensures stalls { W.stalls sink.new ≡ W.stalls sink.old }
     ensures comes { I.keeps interpreter.old
         → IfOk result (λ next. IfSome next (λ said.
-        Comes I.does I.refuses I.starves interpreter.old count (line_of reader.new) said
+        IsLineResult I.does I.refuses I.starves interpreter.old count (line_of reader.new) said
         answer.new interpreter.new)) }
     ensures untouched { IsNoLine result → interpreter.new ≡ interpreter.old }
     ensures keeps { I.keeps interpreter.old → I.keeps interpreter.new }
@@ -220,10 +220,10 @@ pub fn interpret_lines<I: Interpreter, R: Source, W: Sink>(
             Err(LineRefusal::NotUnderstood) => return Err(RunFault::Line(reader.number())),
             Err(LineRefusal::Memory) => return Err(RunFault::Memory),
         };
-        let Ok(told) = write_answer(answered, &answer, count, &mut number, sink) else {
+        let Ok(answers) = write_answer(answered, &answer, count, &mut number, sink) else {
             return Err(RunFault::Write);
         };
-        count = told;
+        count = answers;
         if reader.has_ended() {
             return Ok(());
         }

@@ -3,7 +3,7 @@
 use byte_streams::fakes::PieceSink;
 use map_text::map_of;
 use pmp_encoding::Xlen;
-use register_audit::{AuditFault, audit};
+use register_audit::{ListingFault, audit};
 use std::alloc::Global;
 use std::process::Abort;
 
@@ -17,7 +17,7 @@ fn expect_audit(
     alloc: Global,
     listing: &[u8],
     failing: Option<u64>,
-    wanted: Result<bool, AuditFault>,
+    wanted: Result<bool, ListingFault>,
     written: &[u8],
 ) {
     let map = map_of(alloc, PAGE).expect(rt, "a map");
@@ -38,7 +38,7 @@ fn a_page_that_is_meant_and_a_line_and_a_device_that_fail(rt: HostRuntime) {
         rt.alloc(),
         unknown,
         None,
-        Err(AuditFault::Line(2)),
+        Err(ListingFault::Line(2)),
         b"",
     );
     expect_audit(
@@ -46,7 +46,7 @@ fn a_page_that_is_meant_and_a_line_and_a_device_that_fail(rt: HostRuntime) {
         rt.alloc(),
         b"pmpcfg0 0\n",
         Some(2),
-        Err(AuditFault::Device),
+        Err(ListingFault::Device),
         b"differs",
     );
 }

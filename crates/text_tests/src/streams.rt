@@ -54,7 +54,7 @@ fn readers_of_std_are_sources(rt: HostRuntime) {
     assert!(rt; source.into_inner().is_empty());
 }
 
-/// A writer of std that takes few bytes at a time, and fails where it is told to.
+/// A writer of std that takes few bytes at a time, and fails where it is set to.
 #[derive(Drop)]
 struct PieceWriter {
     sink: PieceSink,

@@ -8,7 +8,7 @@ use Rattle.text_lines.specs.Words.{split_words}
 abbrev pub is_digit : ℕ → Bool
 is_digit b = nat_le 48 b && nat_le b 57
 
--- what may stand in a word of an answer: a digit, a small letter of ASCII, a minus
+-- what may be in a word of an answer: a digit, a small letter of ASCII, a minus
 abbrev pub is_spoken : ℕ → Bool
 is_spoken b = is_digit b || (nat_le 97 b && nat_le b 122) || b == 45
 
@@ -24,11 +24,11 @@ spoken_words text = map spoken (split_words text)
 abbrev pub comment_of : List ℕ → List ℕ
 comment_of line = drop (position_or_len (λ b. b == 35) line) line
 
--- what stands behind the `#`
+-- what comes after the `#`
 abbrev pub remark_of : List ℕ → List ℕ
 remark_of line = drop 1 (comment_of line)
 
--- the words that an answer begins with, behind its number
+-- the words that an answer begins with, after its number
 abbrev pub is_kind : List ℕ → Bool
 is_kind word = bytes_eq word (codes "ok") || bytes_eq word (codes "fault")
     || bytes_eq word (codes "call") || bytes_eq word (codes "irq")
@@ -38,7 +38,7 @@ abbrev pub is_numbered : List ℕ → Bool
 is_numbered [] = false
 is_numbered (first ∷ rest) = is_digit first
 
--- words say an answer: such a word stands first, or behind a number
+-- words say an answer: such a word comes first, or after a number
 abbrev pub says_answer : List (List ℕ) → Bool
 says_answer [] = false
 says_answer (first ∷ []) = is_kind first

@@ -24,7 +24,7 @@ abbrev pub agreeing : {S : Type 0} → Meaning S → Meaning S
 agreeing does = λ old n line said new. does old n line said new × (agrees line said ≡ true)
 
 -- the first of some lines whose comment says another answer: those before it agree with theirs, and
--- its number and its answer are told
+-- its number and its answer are reported
 pub record IsFirstDifference {S : Type 0} (does : Meaning S) (old : S) (lines : List (List ℕ))
     (text : List ℕ) : Type 0 where
   pub before : List (List ℕ)
@@ -41,7 +41,7 @@ pub record IsFirstDifference {S : Type 0} (does : Meaning S) (old : S) (lines : 
   pub told : text ≡ difference_text (length before + 1) (without_return line) answer
 
 -- all of the input was read, and each of its lines interpreted and answered: each comment agrees
--- with the answer, or the first that does not is told
+-- with the answer, or the first that does not is reported
 abbrev pub ComparesAll : {S : Type 0} → Meaning S → S → S → Option (List ℕ) → Option (List ℕ)
     → Option (List ℕ) → Option (List ℕ) → Option (List ℕ) → Type 0
 ComparesAll does old new before after held holds None =

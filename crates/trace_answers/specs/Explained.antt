@@ -1,9 +1,9 @@
--- An answer with a comment behind it.
+-- An answer with a comment after it.
 use Rattle.std.specs.Prelude.{◌≡◌, ℕ, List, ◌++◌, take, Option, Some, None, codes}
 use Rattle.text_lines.specs.LineLoop.{Meaning}
 use Rattle.lint_texts.specs.Lines.{unended}
 
--- an answer with a comment behind it, and of the comment as much as a line of 128 bytes has room
+-- an answer with a comment after it, and of the comment as much as a line of 128 bytes has room
 -- for
 abbrev pub explained : List ℕ → List ℕ → List ℕ
 explained answer comment = take 127 (unended answer ++ (codes " # " ++ comment)) ++ codes "\n"
@@ -19,7 +19,7 @@ IsExplained Is None said = said ≡ None
 IsExplained Is (Some answer) said = (comment : List ℕ) × Is answer comment
     × (said ≡ Some (explained answer comment))
 
--- the same meaning, and behind each answer a comment
+-- the same meaning, and after each answer a comment
 abbrev pub explaining : {S : Type 0} → Meaning S → Comments S → Meaning S
 explaining does comments = λ old n line said new. (answer : Option (List ℕ))
     × does old n line answer new × IsExplained (λ text comment. comments old line text new comment)

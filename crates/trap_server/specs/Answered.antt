@@ -63,7 +63,7 @@ IsAnswer s given hart answer cleared woken bytes =
     × (bytes ≡ answer_bytes (head_of s hart answer cleared woken) (running_registers s hart) entries
     given)
 
--- what stands for the answer where there was no call
+-- what is in the answer's place where there was no call
 abbrev pub no_answer : Answer
 no_answer = record { status = pos 0; value = 0 }
 

@@ -27,7 +27,7 @@ abbrev pub pages_of : Option PageRange → PageRange
 pages_of None = record { first = 0; count = 0 }
 pages_of (Some range) = range
 
--- what stands before the registers
+-- what comes before the registers
 abbrev pub head_bytes : Head → ℕ → List ℕ
 head_bytes head used =
     bytes_of (answer_tag ∷ (head.hart

@@ -13,7 +13,7 @@ reason_of (Platform fault) = 2
 reason_of (NeedsEntries count) = 3
 reason_of Memory = 4
 
--- what is told beside the reason: the rule that a platform breaks, or how many entries are needed
+-- what is said beside the reason: the rule that a platform breaks, or how many entries are needed
 abbrev pub detail_of : EndReason → ℕ
 detail_of NotUnderstood = 0
 detail_of (Platform fault) = platform_fault_number fault

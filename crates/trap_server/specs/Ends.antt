@@ -16,7 +16,7 @@ use Rattle.trap_server.specs.declared.fault.ServeFault.TheVariants as faults
 abbrev pub IsPart : List ℕ → List ℕ → Type 0
 IsPart part frame = (n : ℕ) × (n < length frame) × (part ≡ take n frame)
 
--- some bytes are what stands before a frame, and a part of the frame
+-- some bytes are what comes before a frame, and a part of the frame
 abbrev pub BreaksOff : List ℕ → List ℕ → List ℕ → Type 0
 BreaksOff rest front frame = (part : List ℕ) × IsPart part frame × (rest ≡ front ++ part)
 

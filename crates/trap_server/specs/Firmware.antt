@@ -54,7 +54,7 @@ loaded_pairs bytes first (suc count) = (loaded_cfg bytes first, loaded_address b
     ∷ loaded_pairs bytes (suc first) count
 
 -- the registers in the bytes of an answer have a list that means a view, and no list that does is
--- shorter. A hart of so many entries has room for it, and every entry after it is OFF
+-- shorter. A hart of that many entries has room for it, and every entry after it is OFF
 pub record HasFewest (bytes : List ℕ) (limit : Limit) (view : View) : Type 0 where
   pub entries : List Entry
   pub fewest : IsFewest view entries

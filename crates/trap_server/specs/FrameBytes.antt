@@ -3,7 +3,7 @@ use Rattle.std.specs.Prelude.{◌≡◌, ℕ, ◌<◌, ◌≤◌, List, length, 
 use Rattle.std.specs.Io.KnownBytes.{Consumes, IsAtEnd}
 use Rattle.byte_streams.specs.declared.streams.DeviceFault.{DeviceFault}
 
--- n bytes stand at the front of a buffer, and left the source; fewer than there is room for only at
+-- n bytes are at the front of a buffer, and left the source; fewer than there is room for only at
 -- its end
 pub record Filled (n : ℕ) (buffer : List ℕ) (before after : Option (List ℕ)) : Type 0 where
   pub within : n ≤ length buffer

@@ -31,7 +31,7 @@ pub record IsPageFrame (frame : List ℕ) (page : ℕ) (bytes : List ℕ) : Type
   pub number : word_at frame 1 ≡ page
   pub bytes_are : bytes ≡ drop 16 frame
 
--- frames of pages that stand one after another, by rising number, and the bytes of each page
+-- frames of pages that come one after another, by rising number, and the bytes of each page
 pub data ArePages (first : ℕ) : ℕ → List ℕ → List (List ℕ) → Type 0 where
   no_page : ArePages first 0 [] []
   next_page : {count : ℕ} {read : List ℕ} {pages : List (List ℕ)} → ArePages first count read pages

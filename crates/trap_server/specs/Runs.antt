@@ -82,7 +82,7 @@ pub record Ran (before after held holds : Option (List ℕ)) (beyond rest : List
   pub consumed : Consumes before after (first ++ (read ++ beyond))
   pub appended : Appends held holds (opened ++ (written ++ rest))
 
--- why there is no next trap after so many: what came is no frame of one, or there were 2^64 - 1
+-- why there is no next trap after that many: what came is no frame of one, or there were 2^64 - 1
 abbrev pub RefusesNext : ℕ → MonitorState → List ℕ → Option (List ℕ) → Type 0
 RefusesNext count s beyond after = IsNoTrap beyond s.table.layout.harts after
     ⊎ ((count ≡ 2 ^ 64 - 1) × (beyond ≡ []))
@@ -108,7 +108,7 @@ StopsInside fault s hosts beyond rest after =
 
 -- the loop ended early, and why: before a trap was read, or after some traps, of which each was
 -- served and answered. Then some bytes were read beyond them and some written, before the next trap
--- was read or behind it
+-- was read or after it
 abbrev pub EndsEarly : ServeFault → Option (List ℕ) → Option (List ℕ) → Option (List ℕ)
     → Option (List ℕ) → Type 0
 EndsEarly fault before after held holds =

@@ -39,7 +39,7 @@ pub record HasControl (bytes : List ℕ) (words : ControlWords) : Type 0 where
 abbrev pub is_machine : ℕ → Bool
 is_machine mode = mode / 2 ^ 11 % 4 == 3
 
--- the bytes are the frame of a trap on one of so many harts, of a world that runs below machine
+-- the bytes are the frame of a trap on one of that many harts, of a world that runs below machine
 -- mode
 pub record IsTrapFrame (bytes : List ℕ) (harts : ℕ) (trap : Trap) : Type 0 where
   pub tag : IsTagOf trap.event (word_at bytes 0)

@@ -23,8 +23,8 @@ impl HostWords {
         }
     }
 
-    /// Keeps the words that came with a trap of a world on a hart, where it is the host. Those of other harts stay.
-    pub fn keep(&mut self, hart: u8, world: World, came: &ControlWords)
+    /// Saves the words that came with a trap of a world on a hart, where it is the host. Those of other harts stay.
+    pub fn save(&mut self, hart: u8, world: World, came: &ControlWords)
         requires { hart < 4 }
         ensures { host_words self.new ≡ keeping world (host_words self.old) hart came.now }
     {
@@ -35,7 +35,7 @@ impl HostWords {
     }
 
     /// The words with which a world goes on on a hart.
-    pub fn given(&self, hart: u8, world: World) -> ControlWords
+    pub fn words_for(&self, hart: u8, world: World) -> ControlWords
         requires { hart < 4 }
         ensures { result ≡ words_in world (host_words self.now hart) }
     {

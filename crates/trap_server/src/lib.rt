@@ -23,7 +23,7 @@
 //! ([`HostWords`]), and an enclave has those of a table, [`ControlWords::of_enclave`].
 //!
 //! For the layer above: at a trap the words that came are kept, and with those that are given the world goes on
-//! ([`giving_law`]). A host goes on with the words with which it came last on its hart, so also after a call that was
+//! ([`control_words_law`]). A host goes on with the words with which it came last on its hart, so also after a call that was
 //! refused; no word of one world is given to another. Nothing here takes memory.
 //!
 //! ```
@@ -62,7 +62,7 @@ mod trap_loop;
 mod words;
 
 pub use answer::{Head, put_answer};
-pub use control_laws::giving_law;
+pub use control_laws::control_words_law;
 pub use end::{EndReason, end_frame};
 pub use fault::ServeFault;
 pub use frame::{AnswerBytes, ShortBytes};

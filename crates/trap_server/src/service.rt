@@ -79,7 +79,7 @@ fn put_frame(
         zero,
         woken,
     };
-    let control = hosts.given(hart, world);
+    let control = hosts.words_for(hart, world);
     put_answer(
         frame,
         &head,
@@ -123,7 +123,7 @@ fn keep_words(monitor: &Monitor, hosts: &mut HostWords, trap: &Trap)
     ensures { host_words hosts.new ≡ keeping ((state_by monitor.now).worlds trap.now.hart)
         (host_words hosts.old) trap.now.hart trap.now.control }
 {
-    hosts.keep(trap.hart, monitor.world(trap.hart), &trap.control);
+    hosts.save(trap.hart, monitor.world(trap.hart), &trap.control);
 }
 
 /// The digest of the pages of a creation that passes its checks, which are asked for and read; of another call there is none,

@@ -1,4 +1,4 @@
-//! A command line, run on devices that give and take few bytes at a time, and fail where they are told to.
+//! A command line, run on devices that give and take few bytes at a time, and fail where they are set to.
 
 ghost use Rattle.std.specs.Prelude.{Some, true, refl};
 ghost use Rattle.byte_streams.specs.Fakes.{written_of};
@@ -95,7 +95,7 @@ impl Failing {
     }
 }
 
-/// What a command left behind, and what became of its devices.
+/// What a command left, and what became of its devices.
 #[derive(Drop)]
 pub struct Tried {
     pub status: u8,

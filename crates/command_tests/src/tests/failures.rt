@@ -78,7 +78,7 @@ impl Device {
     }
 }
 
-/// What a command leaves behind where the device failed: its text, and a beginning of what it prints.
+/// What a command leaves where the device failed: its text, and a beginning of what it prints.
 fn ended_by(rt: &impl Abort, device: Device, tried: &Tried, ample: &Tried) {
     let printed = tried.out.as_slice();
     assert!(rt; tried.status == 3);
@@ -157,10 +157,10 @@ fn a_failing_device_ends_each_command_with_its_text(rt: HostRuntime) {
     each_device_fails_on_a_plan(&rt, rt.alloc())
 }
 
-/// What a command leaves behind: its status and what it says, whether it prints, and whether a certificate is in its place.
+/// What a command leaves: its status and what it says, whether it prints, and whether a certificate is in its place.
 type Left<'a> = (u8, &'a str, bool, bool);
 
-/// A command left this behind. It ended with 3 if a device failed, and the second input was not read.
+/// A command left this. It ended with 3 if a device failed, and the second input was not read.
 fn is_left(rt: &impl Abort, tried: &Tried, left: Left<'_>) {
     assert!(rt; tried.status == left.0);
     assert!(rt; tried.err.as_slice() == left.1.as_bytes());
@@ -170,7 +170,7 @@ fn is_left(rt: &impl Abort, tried: &Tried, left: Left<'_>) {
     assert!(rt; tried.second_reads == 0);
 }
 
-/// Each command line leaves this behind for a first input, where a call of a device fails.
+/// Each command line leaves this for a first input, where a call of a device fails.
 fn each_leaves(rt: &impl Abort, alloc: Global, rows: &[(&[&str], &[u8], Failing, Left<'_>)]) {
     for (words, first, failing, left) in rows {
         let tried = try_on(rt, alloc, words, first, b"", *failing);

@@ -5,7 +5,7 @@ use monitor_cli::{command_of, perform};
 use std::alloc::Global;
 use std::process::Abort;
 
-/// What a command left behind.
+/// What a command left.
 #[derive(Drop)]
 pub struct Ran {
     pub status: u8,

@@ -13,10 +13,10 @@ returns-in_err-plan-clause-refused c =
     let p = err_from_is_err_and c.from_residual.result c.from_residual.ensures.1 in
     rw p.1 (for_memory p.2)
 
-pub returns-in_err-reached-in-Some-clause-refused : goal.returns-in_err-reached-in-Some-clause-refused
-returns-in_err-reached-in-Some-clause-refused c =
-    let p = err_from_is_err_and c.from_residual-in_err-reached-in-Some.result c.from_residual-in_err-reached-in-Some.ensures.1 in
-    let b = c.in_err-reached-in-Some.ensures.beyond in
+pub returns-in_err-check_reach-in-Some-clause-refused : goal.returns-in_err-check_reach-in-Some-clause-refused
+returns-in_err-check_reach-in-Some-clause-refused c =
+    let p = err_from_is_err_and c.from_residual-in_err-check_reach-in-Some.result c.from_residual-in_err-check_reach-in-Some.ensures.1 in
+    let b = c.in_err-check_reach-in-Some.ensures.beyond in
     let made = c.in_ok-plan.ensures in
     rw (p.1, p.2) (for_width (too_far _ _ _ c.in_ok-plan.plan.entries _ _
     (record {
@@ -37,7 +37,7 @@ returns-in-Some-clause-loaded c =
     record {
       entries = c.entries-entries.result.now;
       planned = rw (sym c.entries-entries.ensures) at planned;
-      reached = rw (sym c.entries-entries.ensures) at c.in_ok-reached-in-Some.ensures.reached;
+      reached = rw (sym c.entries-entries.ensures) at c.in_ok-check_reach-in-Some.ensures.reached;
       list = c.in-Some.ensures.list;
       registers = c.in-Some.ensures.registers;
     }

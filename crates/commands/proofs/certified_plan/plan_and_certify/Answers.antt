@@ -28,19 +28,19 @@ returns-in_err-within-clause-refused g c =
       told = b.1;
     }) (refl, refl))
 
-pub returns-in_err-reached-clause-refused : goal.returns-in_err-reached-clause-refused
-returns-in_err-reached-clause-refused g c =
-    let p = err_from_is_err_and c.from_residual-in_err-reached.result c.from_residual-in_err-reached.ensures.1 in
-    let b = c.in_err-reached.ensures.beyond in
+pub returns-in_err-check_reach-clause-refused : goal.returns-in_err-check_reach-clause-refused
+returns-in_err-check_reach-clause-refused g c =
+    let p = err_from_is_err_and c.from_residual-in_err-check_reach.result c.from_residual-in_err-check_reach.ensures.1 in
+    let b = c.in_err-check_reach.ensures.beyond in
     let made = c.in_ok-plan.ensures in
     rw (p.1, p.2) (unreached (too_far _ _ _ c.in_ok-plan.plan.entries _ _
     (record { fewest = made.fewest; chosen = made.choice; order = made.order; within = c.in_ok-within.ensures.within })
     b.0 b.1) (refl, refl))
 
-pub returns-in_err-put-clause-refused : goal.returns-in_err-put-clause-refused
-returns-in_err-put-clause-refused g c =
-    let p = err_from_is_err_and c.from_residual-in_err-put.result c.from_residual-in_err-put.ensures.1 in
-    let b = c.in_err-put.ensures.broken in
+pub returns-in_err-put_certificate-clause-refused : goal.returns-in_err-put_certificate-clause-refused
+returns-in_err-put_certificate-clause-refused g c =
+    let p = err_from_is_err_and c.from_residual-in_err-put_certificate.result c.from_residual-in_err-put_certificate.ensures.1 in
+    let b = c.in_err-put_certificate.ensures.broken in
     let view = view_of_runs c.args.map.now in
     let made = c.in_ok-plan.ensures in
     rw (p.1, p.2) (uncertified (record {
@@ -58,7 +58,7 @@ pub returns-clause-certified : goal.returns-clause-certified
 returns-clause-certified g c =
     let view = view_of_runs c.args.map.now in
     let made = c.in_ok-plan.ensures in
-    let put = c.in_ok-put.ensures.put in
+    let put = c.in_ok-put_certificate.ensures.put in
     rw c.in-Some.is (
       certificate_for c.args.limit c.in_ok-plan.plan (tree_of view),
       certificate_is view c.args.limit c.in_ok-plan.plan made.branches made.most made.bound made.root made.pages made.fewest.means,

@@ -11,10 +11,10 @@ returns-in_err-plan-clause-refused c =
       | inr more ↦ inr (inl more)
     ])
 
-pub returns-in_err-reached-clause-refused : goal.returns-in_err-reached-clause-refused
-returns-in_err-reached-clause-refused c =
-    let p = err_from_is_err_and c.from_residual-in_err-reached.result c.from_residual-in_err-reached.ensures.1 in
-    let b = c.in_err-reached.ensures.beyond in
+pub returns-in_err-check_reach-clause-refused : goal.returns-in_err-check_reach-clause-refused
+returns-in_err-check_reach-clause-refused c =
+    let p = err_from_is_err_and c.from_residual-in_err-check_reach.result c.from_residual-in_err-check_reach.ensures.1 in
+    let b = c.in_err-check_reach.ensures.beyond in
     rw (p.1, p.2) (inr (inr (too_far _ _ _ c.in_ok-plan.plan.entries _ _
     (c.in_ok-plan.ensures.planned)
     b.0 b.1)))

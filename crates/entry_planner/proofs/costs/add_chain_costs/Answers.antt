@@ -14,10 +14,10 @@ add_split-requires c =
     let inside = c.loop-level-test.true in
     elim (eq-zero-or-pos (c.loop-level.rest % 2)) [
       | inl even ↦
-          let beside = c.beside.ensures.lower even ∙ c.cost_of_uniform-behind.ensures in
+          let beside = c.sibling_of.ensures.lower even ∙ c.cost_of_uniform-behind.ensures in
           omega (arith, ap (λ x. x.least) beside, few, inside, c.requires.small)
       | inr some ↦
-          let beside = c.beside.ensures.upper (omega (arith, some)) ∙ c.cost_of_uniform-before.ensures in
+          let beside = c.sibling_of.ensures.upper (omega (arith, some)) ∙ c.cost_of_uniform-before.ensures in
           omega (arith, ap (λ x. x.least) beside, few, inside, c.requires.small)
     ]
 
@@ -27,7 +27,7 @@ loop-level-preserved c =
     let s = c.in_ok-cost.ensures in
     elim (eq-zero-or-pos (l.rest % 2)) [
       | inl even ↦
-          let beside = c.beside.ensures.lower even in (record {
+          let beside = c.sibling_of.ensures.lower even in (record {
             raised = raised_lower _ _ _ _ _ _ _ _ _ _ _ (omega (arith, even)) c.cost_of_uniform-behind.ensures l.invariant.raised
                 (λ t u is other. s.own u t (beside ∙ other) is ∙ turned_cost u t)
                 (λ t u is other. s.costs u t (beside ∙ other) is ∙ ap (λ x. l.costs.items ++ x ∷ []) (turned_split u t))
@@ -35,7 +35,7 @@ loop-level-preserved c =
           })
       | inr some ↦
           let odd : l.rest % 2 ≡ 1 = omega (arith, some) in
-          let beside = c.beside.ensures.upper odd in (record {
+          let beside = c.sibling_of.ensures.upper odd in (record {
             raised = raised_upper _ _ _ _ _ _ _ _ _ _ _ (omega (arith, odd)) c.cost_of_uniform-before.ensures l.invariant.raised
                 (λ t u is other. s.own t u (beside ∙ is) other)
                 (λ t u is other. s.costs t u (beside ∙ is) other)

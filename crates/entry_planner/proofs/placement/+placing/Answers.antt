@@ -16,11 +16,11 @@ use Rattle.entry_planner.proofs.placement.+placing.Goals as goal
 
 -- ---- of a block
 
-pub place-returns-in-Some-clause-placed : goal.place-returns-in-Some-clause-placed
-place-returns-in-Some-clause-placed g t c = uniform_chosen _ _ _ _ _ _ _ c.in-Some.ensures c.in_ok-turn.ensures
+pub place_entries-returns-in-Some-clause-placed : goal.place_entries-returns-in-Some-clause-placed
+place_entries-returns-in-Some-clause-placed g t c = uniform_chosen _ _ _ _ _ _ _ c.in-Some.ensures c.in_ok-push_entry_in_order.ensures
 
-pub place-place_chain-requires : goal.place-place_chain-requires
-place-place_chain-requires g t c = λ κs lives.
+pub place_entries-place_chain-requires : goal.place_entries-place_chain-requires
+place_entries-place_chain-requires g t c = λ κs lives.
     let is = c.in-Some-chain.ensures in
     let F : PermTree → Type 0 = Fits c.args.pages.log2 in
     let count = splits-chained _ (g.H.Halving.shape c.in-Some-chain.smallest) c.in-Some-chain.chain is.1 in (
@@ -47,18 +47,18 @@ place-place_chain-requires g t c = λ κs lives.
       ),
     )
 
-pub place-slice_bounds-others-count : goal.place-slice_bounds-others-count
-place-slice_bounds-others-count g t c =
+pub place_entries-slice_bounds-others-count : goal.place_entries-slice_bounds-others-count
+place_entries-slice_bounds-others-count g t c =
     (smallest_costs c.args.costs.now c.in-Some-chain.chain (g.H.Halving.shape c.args.block.now)
     (g.H.Halving.shape c.in-Some-chain.smallest) c.in-Some-chain.ensures.1 c.requires.costs).levels
 
-pub place-part-block-requires-clause-levels : goal.place-part-block-requires-clause-levels
-place-part-block-requires-clause-levels g t c =
+pub place_entries-part-block-requires-clause-levels : goal.place_entries-part-block-requires-clause-levels
+place_entries-part-block-requires-clause-levels g t c =
     (smallest_fits (g.H.Halving.shape c.args.block.now) (g.H.Halving.shape c.in-Some-chain.smallest) c.in-Some-chain.chain c.args.pages.log2
     c.in-Some-chain.ensures.1 c.requires.fits).0
 
-pub place-place-requires : goal.place-place-requires
-place-place-requires g t c = λ κs lives.
+pub place_entries-place_entries-requires : goal.place_entries-place_entries-requires
+place_entries-place_entries-requires g t c = λ κs lives.
     let is = c.in-Some-chain.ensures in
     let tree = g.H.Halving.shape c.in-Some-chain.smallest in
     let inside = smallest_fits (g.H.Halving.shape c.args.block.now) tree c.in-Some-chain.chain c.args.pages.log2 is.1 c.requires.fits in
@@ -78,14 +78,14 @@ place-place-requires g t c = λ κs lives.
       ),
     )
 
-pub place-returns-then-eq-2-clause-rest : goal.place-returns-then-eq-2-clause-rest
-place-returns-then-eq-2-clause-rest g t c =
+pub place_entries-returns-then-eq-2-clause-rest : goal.place_entries-returns-then-eq-2-clause-rest
+place_entries-returns-then-eq-2-clause-rest g t c =
     (smallest_costs c.args.costs.now c.in-Some-chain.chain (g.H.Halving.shape c.args.block.now)
     (g.H.Halving.shape c.in-Some-chain.smallest) c.in-Some-chain.ensures.1 c.requires.costs).back
     _ c.in_ok-rest.ensures.rest
 
-pub place-returns-then-eq-2-clause-placed : goal.place-returns-then-eq-2-clause-placed
-place-returns-then-eq-2-clause-placed g t c =
+pub place_entries-returns-then-eq-2-clause-placed : goal.place_entries-returns-then-eq-2-clause-placed
+place_entries-returns-then-eq-2-clause-placed g t c =
     let is = c.in-Some-chain.ensures in
     kept_chosen (g.H.Halving.shape c.args.block.now) (g.H.Halving.shape c.in-Some-chain.smallest) c.in-Some-chain.chain _ _ _ _ _ _ _ is.1
     (same_perm c.in-Some-chain.chain.before c.args.inherited c.eq.result c.eq.ensures c.if-eq.true)
@@ -93,8 +93,8 @@ place-returns-then-eq-2-clause-placed g t c =
     c.part-block.ensures.first
     c.in_ok-rest.ensures.placed
 
-pub place-place-requires-2 : goal.place-place-requires-2
-place-place-requires-2 g t c = λ κs lives. (
+pub place_entries-place_entries-requires-2 : goal.place_entries-place_entries-requires-2
+place_entries-place_entries-requires-2 g t c = λ κs lives. (
   omega (arith, c.decreases, ap splits c.halves-lower.ensures),
   (
     lives,
@@ -105,8 +105,8 @@ place-place-requires-2 g t c = λ κs lives. (
   ),
 )
 
-pub place-place-requires-3 : goal.place-place-requires-3
-place-place-requires-3 g t c = λ κs lives. (
+pub place_entries-place_entries-requires-3 : goal.place_entries-place_entries-requires-3
+place_entries-place_entries-requires-3 g t c = λ κs lives. (
   omega (arith, c.decreases, ap splits c.halves-lower.ensures),
   (
     lives,
@@ -117,16 +117,16 @@ place-place-requires-3 g t c = λ κs lives. (
   ),
 )
 
-pub place-returns-clause-rest : goal.place-returns-clause-rest
-place-returns-clause-rest g t c = rest_is _ _ _ _ _ _ c.halves-lower.ensures c.requires.costs c.in_ok-rest-3.ensures.rest c.in_ok-rest-4.ensures.rest
+pub place_entries-returns-clause-rest : goal.place_entries-returns-clause-rest
+place_entries-returns-clause-rest g t c = rest_is _ _ _ _ _ _ c.halves-lower.ensures c.requires.costs c.in_ok-rest-3.ensures.rest c.in_ok-rest-4.ensures.rest
 
-pub place-returns-clause-placed : goal.place-returns-clause-placed
-place-returns-clause-placed g t c =
-    let handed = c.chosen-perm.ensures (g.H.Halving.shape c.halves-lower.result.0) (g.H.Halving.shape c.halves-lower.result.1)
+pub place_entries-returns-clause-placed : goal.place_entries-returns-clause-placed
+place_entries-returns-clause-placed g t c =
+    let handed = c.halves_perm-perm.ensures (g.H.Halving.shape c.halves-lower.result.0) (g.H.Halving.shape c.halves-lower.result.1)
     (c.cost.ensures ∙ c.packed-item.is ∙ last_is _ _ _ _ _ c.halves-lower.ensures c.requires.costs) in
     split_chosen _ _ _ _ _ _ _ _ _ _ _ _ _ _ _ c.halves-lower.ensures c.lower.ensures.log2 c.upper.ensures.log2 c.lower.ensures.first c.upper.ensures.first
     handed
-    c.in_ok-rest-3.ensures.placed c.in_ok-rest-4.ensures.placed c.in_ok-turn-2.ensures
+    c.in_ok-rest-3.ensures.placed c.in_ok-rest-4.ensures.placed c.in_ok-push_entry_in_order-2.ensures
 
 -- ---- of a chain
 
@@ -165,8 +165,8 @@ place_chain-part-requires-clause-place g t c =
     let small = place_small c.args.chain c.loop-depth.depth (omega (arith, less)) c.requires.chain in
     omega (arith, small, c.place_at.ensures)
 
-pub place_chain-place_beside-requires : goal.place_chain-place_beside-requires
-place_chain-place_beside-requires g t c =
+pub place_chain-sibling_index-requires : goal.place_chain-sibling_index-requires
+place_chain-sibling_index-requires g t c =
     let less = c.loop-depth-test.true in
     let small = place_small c.args.chain (c.loop-depth.depth + 1) (omega (arith, less)) c.requires.chain in
     let most : 2 ^ (c.loop-depth.depth + 1) ≤ 2 ^ 44 = (let top : c.loop-depth.depth + 1 ≤ 44 = omega (arith, less, c.requires.most) in pow_mono top) in
@@ -180,7 +180,7 @@ place_chain-part-half-requires-clause-levels g t c =
 pub place_chain-part-half-requires-clause-place : goal.place_chain-part-half-requires-clause-place
 place_chain-part-half-requires-clause-place g t c =
     let at = c.place_at-place.ensures in
-    let other = c.place_beside.ensures in
+    let other = c.sibling_index.ensures in
     beside_small c.args.chain c.loop-depth.depth _ c.loop-depth-test.true c.requires.chain
     (λ odd. other.upper (ap (λ n. n % 2) at ∙ odd) ∙ at) (λ even. other.lower (ap (λ n. n % 2) at ∙ even) ∙ ap (λ n. n + 1) at)
 
@@ -193,44 +193,44 @@ place_chain-loop-depth-preserved g t c =
     let at = c.place_at-place.ensures in
     let few : length (take (length l.left.now - 1) l.left.now) ≤ length c.args.costs.now = omega
     (arith, i.few, length-take (length l.left.now - 1) l.left.now) in
-    let step : IsStep c.args.pages.log2 c.args.pages.first c.args.chain l.depth l.from c.chosen-perm.result c.beside-own.result l.entries c.turn.new.entries c.turn_beside.new.entries =
+    let step : IsStep c.args.pages.log2 c.args.pages.first c.args.chain l.depth l.from c.halves_perm-perm.result c.sibling_of-own.result l.entries c.push_entry_in_order.new.entries c.push_entry.new.entries =
     record {
       k = c.part.result.log2;
       first = c.part.result.first;
       height = c.part.ensures.log2;
       starts = c.part.ensures.first ∙ ap (λ n. c.args.pages.first + n * 2 ^ c.part.result.log2) c.place_at.ensures;
-      own = c.in_ok-turn.ensures;
+      own = c.in_ok-push_entry_in_order.ensures;
       half = c.part-half.result.log2;
       beside = c.part-half.result.first;
-      place = c.place_beside.result;
+      place = c.sibling_index.result;
       below = c.part-half.ensures.log2;
       stands = c.part-half.ensures.first;
-      leaf = c.in_ok-turn_beside.ensures;
+      leaf = c.in_ok-push_entry.ensures;
     }
     in
     elim (eq-zero-or-pos (place_at c.args.chain (l.depth + 1) % 2)) [
       | inl even ↦
           let s = split_at_lower c.args.chain tree l.depth some even in
           let parity = ap (λ n. n % 2) at ∙ even in
-          let handed = c.chosen-perm.ensures (left_at c.args.chain (l.depth + 1) tree) (Uniform c.args.chain.behind)
+          let handed = c.halves_perm-perm.ensures (left_at c.args.chain (l.depth + 1) tree) (Uniform c.args.chain.behind)
           (c.cost.ensures ∙ c.packed-item.is ∙ last_is _ _ _ _ _ s i.ends) in (record {
             few = few;
             ends = lower_ends _ _ _ _ s i.ends;
             back = λ rest same. i.back rest (rest_is _ _ _ _ _ _ s i.ends same (sym (append-nil _)));
-            walked = stepped_lower _ _ _ _ tree l.depth _ _ _ _ _ _ _ some even i.walked step (c.beside-own.ensures.lower parity)
-                (c.place_beside.ensures.lower parity ∙ ap (λ n. n + 1) at) handed;
+            walked = stepped_lower _ _ _ _ tree l.depth _ _ _ _ _ _ _ some even i.walked step (c.sibling_of-own.ensures.lower parity)
+                (c.sibling_index.ensures.lower parity ∙ ap (λ n. n + 1) at) handed;
           })
       | inr more ↦
           let odd : place_at c.args.chain (l.depth + 1) % 2 ≡ 1 = omega (arith, more) in
           let s = split_at_upper c.args.chain tree l.depth some odd in
           let parity = ap (λ n. n % 2) at ∙ odd in
-          let handed = c.chosen-perm.ensures (Uniform c.args.chain.before) (left_at c.args.chain (l.depth + 1) tree)
+          let handed = c.halves_perm-perm.ensures (Uniform c.args.chain.before) (left_at c.args.chain (l.depth + 1) tree)
           (c.cost.ensures ∙ c.packed-item.is ∙ last_is _ _ _ _ _ s i.ends) in (record {
             few = few;
             ends = upper_ends _ _ _ _ _ s i.ends (sym (append-nil _));
             back = λ rest same. i.back rest (rest_is _ _ _ _ _ _ s i.ends (sym (append-nil _)) same);
-            walked = stepped_upper _ _ _ _ tree l.depth _ _ _ _ _ _ _ some odd i.walked step (c.beside-own.ensures.upper parity)
-                (c.place_beside.ensures.upper parity ∙ at) handed;
+            walked = stepped_upper _ _ _ _ tree l.depth _ _ _ _ _ _ _ some odd i.walked step (c.sibling_of-own.ensures.upper parity)
+                (c.sibling_index.ensures.upper parity ∙ at) handed;
           })
     ]
 

@@ -7,8 +7,8 @@ use Rattle.entry_planner.specs.Plans.{costs_in}
 use Rattle.entry_planner.proofs.ChainWalked.{WalkedTo, left_at}
 use Rattle.entry_planner.proofs.placement.+placing.Given as goal
 
-abbrev pub decreases-place : goal.decreases-place
-decreases-place g l = 4 * splits (g.H.Halving.shape l.block.now) + 2
+abbrev pub decreases-place_entries : goal.decreases-place_entries
+decreases-place_entries g l = 4 * splits (g.H.Halving.shape l.block.now) + 2
 
 abbrev pub decreases-place_chain : goal.decreases-place_chain
 decreases-place_chain g l = 4 * (l.chain.levels + splits (g.H.Halving.shape l.smallest.now)) + (3 - 3 * l.chain.levels)

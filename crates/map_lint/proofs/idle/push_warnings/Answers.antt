@@ -5,10 +5,10 @@ use Rattle.map_lint.specs.Settings.{IsInside, end, idle_texts}
 use Rattle.map_lint.proofs.Followed.{set_first}
 use Rattle.map_lint.proofs.Named.{keep_it, move_it, name_it, rest_from}
 use Rattle.map_lint.proofs.idle.push_warnings.Goals as goal
-use Rattle.map_lint.proofs.idle.push_warnings.Goals.{then-branch+in_ok-anyway+in_ok-push_idle, else-branch+in_ok-push}
+use Rattle.map_lint.proofs.idle.push_warnings.Goals.{then-branch+in_ok-redundant+in_ok-push_idle, else-branch+in_ok-push}
 
-pub is_said_anyway-requires-clause-made : goal.is_said_anyway-requires-clause-made
-is_said_anyway-requires-clause-made c =
+pub is_redundant_denial-requires-clause-made : goal.is_redundant_denial-requires-clause-made
+is_redundant_denial-requires-clause-made c =
     let settings = c.args.settings.now in
     let i = c.loop-i.i in
     let set = rw (c.as_slice.ensures.value, rest_from (i + 1) settings) at c.in_ok-is_whole.ensures.yes (ap (λ b. Ok b) c.if-branch.true) in
@@ -23,7 +23,7 @@ loop-i-preserved c =
     let i = c.loop-i.i in
     let less = c.loop-i-test.true in
     elim c.if-branch.branch [
-      | then-branch+in_ok-anyway+in_ok-push_idle w ↦
+      | then-branch+in_ok-redundant+in_ok-push_idle w ↦
           let set = rw (c.as_slice.ensures.value, rest_from (i + 1) settings) at c.in_ok-is_whole.ensures.yes (ap (λ b. Ok b) w.if-branch.true) in
           rw (w.kept-is, w.text-is)
           (record {
@@ -31,7 +31,7 @@ loop-i-preserved c =
             whole = set;
             named = λ named left are.
                 let all = c.loop-i.invariant.named (_ ∷ named) left (name_it whole kept settings i _ named left _ less
-                (rw w.as_slice-then-branch.ensures.value at w.in_ok-anyway.ensures) set are) in (
+                (rw w.as_slice-then-branch.ensures.value at w.in_ok-redundant.ensures) set are) in (
                   all.0,
                   all.1,
                   ap (λ t. t ++ idle_texts name named) w.in_ok-push_idle.ensures

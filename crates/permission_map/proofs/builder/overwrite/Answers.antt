@@ -19,10 +19,10 @@ returns-then-count-eq0-clause-wanted c =
 pub overflow_sub-wanted : goal.overflow_sub-wanted
 overflow_sub-wanted c =
     let plan = row_planned c.args.points.now.items c.as_slice-row.result.now c.args.first (c.args.first + c.args.count) c.before-from.result c.up_to-to.result
-    c.begun_between-gone.result c.args.perm c.standing_behind.result c.standing_behind-2.result c.turn-start.result c.stop-stop.result
+    c.begun_between-gone.result c.args.perm c.perm_after.result c.perm_after-2.result c.turn-start.result c.stop-stop.result
     c.as_slice-row.ensures.value
-    c.before-from.ensures.front c.before-from.ensures.rest c.up_to-to.ensures.front c.up_to-to.ensures.rest c.standing_behind.ensures
-    c.standing_behind-2.ensures
+    c.before-from.ensures.front c.before-from.ensures.rest c.up_to-to.ensures.front c.up_to-to.ensures.rest c.perm_after.ensures
+    c.perm_after-2.ensures
     c.turn-start.ensures c.stop-stop.ensures c.begun_between-gone.ensures in
     let most = planned_few c.args.points.now.items c.args.first (c.args.first + c.args.count) c.before-from.result c.up_to-to.result c.begun_between-gone.result
     c.args.perm c.turn-start.result c.stop-stop.result plan in
@@ -31,10 +31,10 @@ overflow_sub-wanted c =
 pub returns-then-wanted-gt-MOST_RUNS-clause-wanted : goal.returns-then-wanted-gt-MOST_RUNS-clause-wanted
 returns-then-wanted-gt-MOST_RUNS-clause-wanted c =
     let plan = row_planned c.args.points.now.items c.as_slice-row.result.now c.args.first (c.args.first + c.args.count) c.before-from.result c.up_to-to.result
-    c.begun_between-gone.result c.args.perm c.standing_behind.result c.standing_behind-2.result c.turn-start.result c.stop-stop.result
+    c.begun_between-gone.result c.args.perm c.perm_after.result c.perm_after-2.result c.turn-start.result c.stop-stop.result
     c.as_slice-row.ensures.value
-    c.before-from.ensures.front c.before-from.ensures.rest c.up_to-to.ensures.front c.up_to-to.ensures.rest c.standing_behind.ensures
-    c.standing_behind-2.ensures
+    c.before-from.ensures.front c.before-from.ensures.rest c.up_to-to.ensures.front c.up_to-to.ensures.rest c.perm_after.ensures
+    c.perm_after-2.ensures
     c.turn-start.ensures c.stop-stop.ensures c.begun_between-gone.ensures in
     let most = planned_few c.args.points.now.items c.args.first (c.args.first + c.args.count) c.before-from.result c.up_to-to.result c.begun_between-gone.result
     c.args.perm c.turn-start.result c.stop-stop.result plan in
@@ -52,10 +52,10 @@ returns-then-wanted-gt-MOST_RUNS-clause-wanted c =
 pub returns-then-runs-wanted-eq0-clause-wanted : goal.returns-then-runs-wanted-eq0-clause-wanted
 returns-then-runs-wanted-eq0-clause-wanted c =
     let plan = row_planned c.args.points.now.items c.as_slice-row.result.now c.args.first (c.args.first + c.args.count) c.before-from.result c.up_to-to.result
-    c.begun_between-gone.result c.args.perm c.standing_behind.result c.standing_behind-2.result c.turn-start.result c.stop-stop.result
+    c.begun_between-gone.result c.args.perm c.perm_after.result c.perm_after-2.result c.turn-start.result c.stop-stop.result
     c.as_slice-row.ensures.value
-    c.before-from.ensures.front c.before-from.ensures.rest c.up_to-to.ensures.front c.up_to-to.ensures.rest c.standing_behind.ensures
-    c.standing_behind-2.ensures
+    c.before-from.ensures.front c.before-from.ensures.rest c.up_to-to.ensures.front c.up_to-to.ensures.rest c.perm_after.ensures
+    c.perm_after-2.ensures
     c.turn-start.ensures c.stop-stop.ensures c.begun_between-gone.ensures in
     let most = planned_few c.args.points.now.items c.args.first (c.args.first + c.args.count) c.before-from.result c.up_to-to.result c.begun_between-gone.result
     c.args.perm c.turn-start.result c.stop-stop.result plan in
@@ -79,10 +79,10 @@ returns-then-runs-wanted-eq0-clause-wanted c =
 pub returns-in_default-clause-wanted : goal.returns-in_default-clause-wanted
 returns-in_default-clause-wanted c =
     let plan = row_planned c.args.points.now.items c.as_slice-row.result.now c.args.first (c.args.first + c.args.count) c.before-from.result c.up_to-to.result
-    c.begun_between-gone.result c.args.perm c.standing_behind.result c.standing_behind-2.result c.turn-start.result c.stop-stop.result
+    c.begun_between-gone.result c.args.perm c.perm_after.result c.perm_after-2.result c.turn-start.result c.stop-stop.result
     c.as_slice-row.ensures.value
-    c.before-from.ensures.front c.before-from.ensures.rest c.up_to-to.ensures.front c.up_to-to.ensures.rest c.standing_behind.ensures
-    c.standing_behind-2.ensures
+    c.before-from.ensures.front c.before-from.ensures.rest c.up_to-to.ensures.front c.up_to-to.ensures.rest c.perm_after.ensures
+    c.perm_after-2.ensures
     c.turn-start.ensures c.stop-stop.ensures c.begun_between-gone.ensures in
     let most = planned_few c.args.points.now.items c.args.first (c.args.first + c.args.count) c.before-from.result c.up_to-to.result c.begun_between-gone.result
     c.args.perm c.turn-start.result c.stop-stop.result plan in
@@ -119,10 +119,10 @@ change-requires-clause-room c =
 pub returns-clause-built : goal.returns-clause-built
 returns-clause-built c =
     let plan = row_planned c.args.points.now.items c.as_slice-row.result.now c.args.first (c.args.first + c.args.count) c.before-from.result c.up_to-to.result
-    c.begun_between-gone.result c.args.perm c.standing_behind.result c.standing_behind-2.result c.turn-start.result c.stop-stop.result
+    c.begun_between-gone.result c.args.perm c.perm_after.result c.perm_after-2.result c.turn-start.result c.stop-stop.result
     c.as_slice-row.ensures.value
-    c.before-from.ensures.front c.before-from.ensures.rest c.up_to-to.ensures.front c.up_to-to.ensures.rest c.standing_behind.ensures
-    c.standing_behind-2.ensures
+    c.before-from.ensures.front c.before-from.ensures.rest c.up_to-to.ensures.front c.up_to-to.ensures.rest c.perm_after.ensures
+    c.perm_after-2.ensures
     c.turn-start.ensures c.stop-stop.ensures c.begun_between-gone.ensures in
     let most = planned_few c.args.points.now.items c.args.first (c.args.first + c.args.count) c.before-from.result c.up_to-to.result c.begun_between-gone.result
     c.args.perm c.turn-start.result c.stop-stop.result plan in
@@ -143,10 +143,10 @@ returns-clause-built c =
 pub returns-clause-wanted : goal.returns-clause-wanted
 returns-clause-wanted c =
     let plan = row_planned c.args.points.now.items c.as_slice-row.result.now c.args.first (c.args.first + c.args.count) c.before-from.result c.up_to-to.result
-    c.begun_between-gone.result c.args.perm c.standing_behind.result c.standing_behind-2.result c.turn-start.result c.stop-stop.result
+    c.begun_between-gone.result c.args.perm c.perm_after.result c.perm_after-2.result c.turn-start.result c.stop-stop.result
     c.as_slice-row.ensures.value
-    c.before-from.ensures.front c.before-from.ensures.rest c.up_to-to.ensures.front c.up_to-to.ensures.rest c.standing_behind.ensures
-    c.standing_behind-2.ensures
+    c.before-from.ensures.front c.before-from.ensures.rest c.up_to-to.ensures.front c.up_to-to.ensures.rest c.perm_after.ensures
+    c.perm_after-2.ensures
     c.turn-start.ensures c.stop-stop.ensures c.begun_between-gone.ensures in
     let most = planned_few c.args.points.now.items c.args.first (c.args.first + c.args.count) c.before-from.result c.up_to-to.result c.begun_between-gone.result
     c.args.perm c.turn-start.result c.stop-stop.result plan in

@@ -15,8 +15,8 @@ returns-then-range-lt-SPACE_PAGES-clause-rise c =
 pub returns-then-range-lt-SPACE_PAGES-clause-changed : goal.returns-then-range-lt-SPACE_PAGES-clause-changed
 returns-then-range-lt-SPACE_PAGES-clause-changed c =
     over_changed c.args.points.now.items c.write_over.new.points.items c.args.range.first c.args.range.end c.args.from c.args.to c.args.range.perm
-    c.standing_behind-after.result c.new-start.result c.new-stop.result c.if-range-lt-SPACE_PAGES.true
-    (c.standing_behind-after.ensures ∙ ap (λ l. standing NoAccess (take c.args.to l)) c.deref.ensures.value)
+    c.perm_after-after.result c.new-start.result c.new-stop.result c.if-range-lt-SPACE_PAGES.true
+    (c.perm_after-after.ensures ∙ ap (λ l. standing NoAccess (take c.args.to l)) c.deref.ensures.value)
     c.new-start.ensures.page c.new-start.ensures.perm c.new-stop.ensures.page c.new-stop.ensures.perm c.write_over.ensures.items
 
 pub returns-else-few-clause-rise : goal.returns-else-few-clause-rise

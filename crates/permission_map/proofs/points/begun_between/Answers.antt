@@ -11,5 +11,5 @@ returns c =
     count_by allows (turns (take c.args.from c.args.points.now))
     + (n + count_by allows (turns_after (standing NoAccess (take c.args.to c.args.points.now)) (drop c.args.to c.args.points.now))))
     (c.begun_in.ensures ∙ ap (λ p. count_by allows (turns_after p (take (c.args.to - c.args.from) (drop c.args.from c.args.points.now))))
-    c.standing_behind.ensures)
+    c.perm_after.ensures)
     ∙ begun_parts c.args.points.now c.args.from c.args.to c.requires.order

@@ -7,7 +7,7 @@ use Rattle.register_audit.proofs.map.print_map_of.Goals as goal
 
 pub returns-clause-means : goal.returns-clause-means
 returns-clause-means g c = λ e.
-    let said = c.in-Ok-commented.ensures.said in
+    let said = c.in-Ok-with_comment.ensures.said in
     let meant = map_meant c.in-Ok.listing said.0 _ said.1 cc in
     let text : c.as_slice.result.now ≡ map_text meant.runs ++ passed_text c.in-Ok.listing.passed =
     c.as_slice.ensures.value ∙ said.2 ∙ ap (λ (t : List ℕ). t ++ passed_text c.in-Ok.listing.passed) meant.is_text in
@@ -15,5 +15,5 @@ returns-clause-means g c = λ e.
 
 pub returns-clause-none : goal.returns-clause-none
 returns-clause-none g c = λ e.
-    let said = c.in-Ok-commented.ensures.said in
+    let said = c.in-Ok-with_comment.ensures.said in
     (c.in-Ok.listing, c.in-Ok.ensures.listing, none_meant c.in-Ok.listing said.0 _ said.1 cc)

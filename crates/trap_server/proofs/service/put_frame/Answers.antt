@@ -21,7 +21,7 @@ pub returns : goal.returns
 returns c =
     let s = state_by c.args.monitor.now in
     let entries = c.entries.result.now in
-    let given = c.given-control.result in
+    let given = c.words_for-control.result in
     let hart = c.args.hart in (
       entries,
       record {
@@ -52,5 +52,5 @@ returns c =
           }) c.registers.result.now entries given) c.status_word.ensures
           ∙ ap (λ (file : RegisterFile). answer_bytes (head_of s hart c.args.answer.now c.args.zero c.args.woken) file entries given) c.registers.ensures
           ∙ ap (λ (words : ControlWords). answer_bytes (head_of s hart c.args.answer.now c.args.zero c.args.woken) (running_registers s hart) entries words)
-          (c.given-control.ensures ∙ ap (λ (w : World). words_in w (host_words c.args.hosts.now hart)) c.world-world.ensures),
+          (c.words_for-control.ensures ∙ ap (λ (w : World). words_in w (host_words c.args.hosts.now hart)) c.world-world.ensures),
     )

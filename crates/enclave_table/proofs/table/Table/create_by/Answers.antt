@@ -27,13 +27,13 @@ pub returns-in_err-host-clause-refused : goal.returns-in_err-host-clause-refused
 returns-in_err-host-clause-refused g c =
     let old : EnclaveTable = c.args.self.now.table in
     let digests : Create → List ℕ = g.D.Digests.digest_of c.args.digests.now in
-    let parts : Create = c.kept-parts.result in
+    let parts : Create = c.normalized-parts.result in
     let range : PageRange = c.private_pages.result in
     let free = c.in_ok-id.ensures.next.free in
     handed_on c.from_residual-in_err-host.result c.in_err-host.field-0.0 (RefusesBy (create_checks old c.args.world (parts_of c.args.asked))
     (OutgrowsByCreate digests old c.args.asked)) c.from_residual-in_err-host.ensures.1
     (host_want digests old c.args.world c.args.asked parts c.in_ok-id.id (overwritten (host_view old) range.first range.count NoAccess) c.in_err-host.field-0.0
-    c.kept-parts.ensures c.in_ok-id.ensures.passes c.in_ok-id.ensures.next
+    c.normalized-parts.ensures c.in_ok-id.ensures.passes c.in_ok-id.ensures.next
     (along (host_view old) (host_view (with_enclave old c.in_ok-id.id (Some (fresh digests parts)))) range
     (private_range parts) NoAccess c.private_pages.ensures.value
     (host_added old c.in_ok-id.id (fresh digests parts) (free_place old c.in_ok-id.id c.cite_invariant.ensures.table free.0 free.1) free.2))
@@ -45,13 +45,13 @@ returns-in_err-list-clause-refused g c =
     let digests : Create → List ℕ = g.D.Digests.digest_of c.args.digests.now in
     handed_on c.from_residual-in_err-list.result c.in_err-list.field-0.0 (RefusesBy (create_checks old c.args.world (parts_of c.args.asked))
     (OutgrowsByCreate digests old c.args.asked)) c.from_residual-in_err-list.ensures.1
-    (enclave_want digests old c.args.world c.args.asked c.kept-parts.result c.limit.result c.in_err-list.field-0.0 c.kept-parts.ensures c.limit.ensures
+    (enclave_want digests old c.args.world c.args.asked c.normalized-parts.result c.limit.result c.in_err-list.field-0.0 c.normalized-parts.ensures c.limit.ensures
     c.in_ok-id.ensures.passes c.in_err-list.ensures.want)
 
 pub place-requires-clause-kept : goal.place-requires-clause-kept
 place-requires-clause-kept g c =
     let old : EnclaveTable = c.args.self.now.table in
-    let parts : Create = c.kept-parts.result in
+    let parts : Create = c.normalized-parts.result in
     let range : PageRange = c.private_pages.result in
     let free = c.in_ok-id.ensures.next.free in
     let e : Enclave = record { parts = parts; state = Fresh; digest = c.digest_by-digest.result } in
@@ -70,7 +70,7 @@ place-requires-clause-kept g c =
 pub place-requires-clause-tree : goal.place-requires-clause-tree
 place-requires-clause-tree g c =
     let old : EnclaveTable = c.args.self.now.table in
-    let parts : Create = c.kept-parts.result in
+    let parts : Create = c.normalized-parts.result in
     let range : PageRange = c.private_pages.result in
     let free = c.in_ok-id.ensures.next.free in
     let e : Enclave = record { parts = parts; state = Fresh; digest = c.digest_by-digest.result } in
@@ -87,7 +87,7 @@ place-requires-clause-tree g c =
 pub returns-clause-done : goal.returns-clause-done
 returns-clause-done g c =
     let old : EnclaveTable = c.args.self.now.table in
-    let parts : Create = c.kept-parts.result in
+    let parts : Create = c.normalized-parts.result in
     let range : PageRange = c.private_pages.result in
     let free = c.in_ok-id.ensures.next.free in
     let e : Enclave = fresh (g.D.Digests.digest_of c.args.digests.now) parts in
@@ -95,7 +95,7 @@ returns-clause-done g c =
     let added : c.place.new.self.table ≡ with_enclave old c.in_ok-id.id (Some e) =
     ap (λ (k : Kept). k.table) (rw c.digest_by-digest.ensures.kept at c.place.ensures)
     ∙ ap (λ (d : List ℕ). with_enclave old c.in_ok-id.id (Some (record { parts = parts; state = Fresh; digest = d }))) c.digest_by-digest.ensures.value in
-    creates (g.D.Digests.digest_of c.args.digests.now) old c.args.world c.args.asked parts c.in_ok-id.id c.place.new.self.table c.kept-parts.ensures
+    creates (g.D.Digests.digest_of c.args.digests.now) old c.args.world c.args.asked parts c.in_ok-id.id c.place.new.self.table c.normalized-parts.ensures
     c.in_ok-id.ensures.passes c.in_ok-id.ensures.next added
     (fits_same old.layout.limit (overwritten (host_view old) range.first range.count NoAccess) (host_view (with_enclave old c.in_ok-id.id (Some e)))
     (along (host_view old) (host_view (with_enclave old c.in_ok-id.id (Some e))) range (private_range parts) NoAccess c.private_pages.ensures.value

@@ -2,7 +2,7 @@ use Rattle.std.proofs.Common.{◌∙◌, suc, take, ap, arith, ◌-◌, ◌≡�
 use Rattle.pmp_encoding.specs.declared.perm.Perm.TheVariants.{NoAccess}
 use Rattle.permission_map.specs.Points.{standing}
 use Rattle.permission_map.proofs.PointRuns.{standing_last}
-use Rattle.permission_map.proofs.points.standing_behind.Goals as goal
+use Rattle.permission_map.proofs.points.perm_after.Goals as goal
 
 pub returns : goal.returns
 returns c =

@@ -1,7 +1,7 @@
 -- Each of the three choices is the one that is passed on.
 use Rattle.std.proofs.Common.{sym, ◌∙◌}
 use Rattle.entry_planner.proofs.Choices.{first_handed, kept_handed, none_handed}
-use Rattle.entry_planner.proofs.placement.chosen.Goals as goal
+use Rattle.entry_planner.proofs.placement.halves_perm.Goals as goal
 
 pub returns-then-contains : goal.returns-then-contains
 returns-then-contains c = λ low high are. kept_handed low high c.args.cost c.args.inherited are (sym c.contains.ensures ∙ c.if-contains.true)

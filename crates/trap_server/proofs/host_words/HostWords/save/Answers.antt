@@ -4,7 +4,7 @@ use Rattle.sbi_decode.specs.declared.world.World.{World}
 use Rattle.trap_server.specs.Given.{host_words, keeping}
 use Rattle.trap_server.specs.Tables.{first_host_words}
 use Rattle.trap_server.proofs.Lists.{set_one}
-use Rattle.trap_server.proofs.host_words.HostWords.keep.Goals as goal
+use Rattle.trap_server.proofs.host_words.HostWords.save.Goals as goal
 
 pub returns-in-Host : goal.returns-in-Host
 unfolding host_words

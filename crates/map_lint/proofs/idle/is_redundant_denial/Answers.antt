@@ -1,6 +1,6 @@
 use Rattle.map_lint.specs.Settings.{allows}
 use Rattle.map_lint.proofs.Denied.{said_by}
-use Rattle.map_lint.proofs.idle.is_said_anyway.Goals as goal
+use Rattle.map_lint.proofs.idle.is_redundant_denial.Goals as goal
 
 pub returns-then-not-denies : goal.returns-then-not-denies
 returns-then-not-denies c = allows (c.denies.ensures.no c.if-not-denies.true)

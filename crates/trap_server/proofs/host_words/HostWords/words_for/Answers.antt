@@ -3,7 +3,7 @@ use Rattle.sbi_decode.specs.declared.world.World.{World}
 use Rattle.trap_server.specs.Given.{host_words, words_in}
 use Rattle.trap_server.specs.Tables.{enclave_words, first_host_words}
 use Rattle.trap_server.proofs.Lists.{within}
-use Rattle.trap_server.proofs.host_words.HostWords.given.Goals as goal
+use Rattle.trap_server.proofs.host_words.HostWords.words_for.Goals as goal
 
 pub returns-in-Host : goal.returns-in-Host
 unfolding host_words
