@@ -9,7 +9,7 @@ ghost use Rattle.program_tasks.specs.Places.{cert_of, IsToStandardOutput, ReadsT
 use crate::faults::exit_with_fault;
 use crate::{no_certificate, takes_place};
 use program_files::{is_same_file, is_same_plain_file};
-use program_tasks::{Task, cert_of, files_of, reads_twice};
+use program_tasks::{Task, cert_of, outline_of, reads_twice};
 use std::process::ExitCode;
 
 /// Why a certificate is not written under that name; the list, or what is read, would be lost.
@@ -41,7 +41,7 @@ fn refuse_files(rt: &HostRuntime, task: &Task<'_>) -> Option<ExitCode>
     if let Some(text) = why_not_placed(rt, cert) {
         return Some(exit_with_fault(rt, no_certificate(rt.alloc(), text)));
     }
-    let map = files_of(task).first;
+    let map = outline_of(task).first;
     if is_same_file(rt, map, cert) {
         return Some(exit_with_fault(rt, takes_place(rt.alloc(), map)));
     }
@@ -57,7 +57,7 @@ pub fn may_be_done(rt: &HostRuntime, task: &Task<'_>) -> Result<(), ExitCode>
     ensures others { ¬ ReadsTwice task.now → cert_of task.now ≡ None → IsOk result }
 {
     if reads_twice(task) {
-        let name = task.subcommand().name();
+        let name = outline_of(task).subcommand.name();
         return Err(exit_with_fault(rt, crate::reads_twice(rt.alloc(), name)));
     }
     match refuse_files(rt, task) {

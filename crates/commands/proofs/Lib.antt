@@ -3,3 +3,4 @@ pub mod Names
 pub mod Judgements
 pub mod FarPages
 mod PlanCertificates
+pub mod ListingTroubles

@@ -11,3 +11,4 @@ pub mod Plan
 pub mod Show
 pub mod Stops
 pub mod Verdicts
+pub mod ListingTroubles

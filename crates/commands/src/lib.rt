@@ -32,6 +32,7 @@ mod expected;
 mod laws;
 mod lint;
 mod lint_trace;
+mod listing_trouble;
 mod measure;
 mod on_maps;
 

@@ -15,13 +15,14 @@ use Rattle.program_files.specs.declared.reason.Reason.{Reason}
 use Rattle.program_files.specs.Inputs.{remaining_of}
 use Rattle.program_tasks.specs.declared.request.Request.{Request}
 use Rattle.program_tasks.specs.declared.task.Task.{Task}
-use Rattle.program_tasks.specs.Files.{files_of, name_or_none}
+use Rattle.program_tasks.specs.Outlines.{outline_of, name_or_none}
 use Rattle.command_inputs.specs.declared.trouble.Trouble.TheVariants as troubles
 use Rattle.command_inputs.specs.ReasonHints.{hint_text}
 use Rattle.command_inputs.specs.Inputs.{reading, Reading}
 use Rattle.commands.specs.CertifiedPlan.{placing, Placing}
 use Rattle.monitor_cli.specs.Hints.{PrintsHints}
 use Rattle.program_tasks.specs.Hinted.{may_be_hinted}
+use Rattle.program_tasks.specs.Subcommands.{subcommand_of}
 use Rattle.program_tasks.specs.Inputs.{reader_in, reason_in, AreInputs, AreInputsAgain, Input}
 use Rattle.monitor_cli.specs.HeldOutput.{IsClosed}
 use Rattle.monitor_cli.specs.Programs.{Ends, Tells}
@@ -67,9 +68,9 @@ pub record IsOpened {O : Type 0} (stream : O) (out : Output O) : Type 0 where
 abbrev pub IsFirstFailure : Task → Option Reason → Option Reason → Option Reason
     → Option Reason → Option (Bor (List ℕ) × Reason) → Type 0
 IsFirstFailure task of_first of_second of_cert of_out why =
-    (first second cert out : Bor (List ℕ)) × (first ≡ (files_of task).first)
-    × (second.now ≡ name_or_none (files_of task).second)
-    × (cert.now ≡ name_or_none (files_of task).cert) × (out.now ≡ codes "standard output")
+    (first second cert out : Bor (List ℕ)) × (first ≡ (outline_of task).first)
+    × (second.now ≡ name_or_none (outline_of task).second)
+    × (cert.now ≡ name_or_none (outline_of task).cert) × (out.now ≡ codes "standard output")
     × (why ≡ option_or (option_or (option_or (failure_of first of_first)
     (failure_of second of_second)) (failure_of cert of_cert)) (failure_of out of_out))
 
@@ -89,11 +90,11 @@ pub record HintsOnFiles (R D : Type 0) {S F E : Type 0} (stdin : S) (source : In
 pub data Follows (hints : Bool) (task : Task) (status : ℕ) (quiet hinted why : Type 0) :
     Type 0 where
   silent : hints ≡ false → quiet → Follows hints task status quiet hinted why
-  of_inputs : hints ≡ true → may_be_hinted task status ≡ true → hinted
+  of_inputs : hints ≡ true → may_be_hinted (subcommand_of task) status ≡ true → hinted
       → Follows hints task status quiet hinted why
-  of_devices : hints ≡ true → may_be_hinted task status ≡ false → status ≡ 3 → why
+  of_devices : hints ≡ true → may_be_hinted (subcommand_of task) status ≡ false → status ≡ 3 → why
       → Follows hints task status quiet hinted why
-  nothing : hints ≡ true → may_be_hinted task status ≡ false → status ≢ 3 → quiet
+  nothing : hints ≡ true → may_be_hinted (subcommand_of task) status ≡ false → status ≢ 3 → quiet
       → Follows hints task status quiet hinted why
 
 -- a task ended on its files with that status. It was done on what its places read and on an output

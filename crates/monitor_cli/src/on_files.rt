@@ -11,7 +11,7 @@ use crate::tell_hints;
 use byte_streams::{HeldSink, Sink};
 use command_inputs::print_reason;
 use program_files::{CertificateFile, Explained, Reason, RetryInterrupted};
-use program_tasks::{Request, files_of, inputs, inputs_again, may_be_hinted, name_or_none};
+use program_tasks::{Request, inputs, inputs_again, may_be_hinted, name_or_none, outline_of};
 use std::alloc::{AllocError, Global};
 use std::io::{Read, Write};
 use std::rt::Files;
@@ -82,7 +82,7 @@ fn follow<'a, R: Files, S: Read + Copy, E: Sink>(
     if !hints {
         return;
     }
-    if may_be_hinted(&request.task, status) {
+    if may_be_hinted(outline_of(&request.task).subcommand, status) {
         hint(lent, request, err);
     } else if status == DEVICE_FAILED {
         say_why(why, err);
@@ -106,7 +106,7 @@ pub fn perform_on_files<'a, R: Files, S: Read + Copy, O: Write + Drop, E: Sink>(
     ensures untold { OnErr result (err.new ≡ err.old) }
 {
     let (mut first, mut second) = inputs(lent.files, lent.stdin, &request.task);
-    let files = files_of(&request.task);
+    let files = outline_of(&request.task);
     let cert_name = name_or_none(files.cert);
     let mut cert = CertificateFile::new(lent.files, lent.alloc, cert_name)?;
     let out = Explained::new(RetryInterrupted::new(stdout));

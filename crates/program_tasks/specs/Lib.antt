@@ -4,7 +4,7 @@ pub mod Options
 pub mod Requests
 pub mod Subcommands
 pub mod Tasks
-pub mod Files
+pub mod Outlines
 pub mod Hinted
 pub mod Layouts
 pub mod Inputs

@@ -4,7 +4,7 @@ use Rattle.std.specs.Prelude.{option_map}
 use Rattle.std.specs.Borrow.{Bor}
 use Rattle.program_tasks.specs.Tasks.{input_word}
 use Rattle.program_tasks.specs.declared.task.Task.{Task}
-use Rattle.program_tasks.specs.Files.{files_of}
+use Rattle.program_tasks.specs.Outlines.{outline_of}
 use Rattle.program_tasks.specs.declared.places.InputName.{InputName}
 use Rattle.program_tasks.specs.declared.places.InputName.TheVariants.{File, StandardInput}
 use Rattle.program_files.specs.declared.devices.InputToRead.{InputToRead}
@@ -16,7 +16,7 @@ place_of name = if bytes_eq name.now input_word then StandardInput else File nam
 
 -- the file of the certificate that a task writes
 abbrev pub cert_of : Task → Option (Bor (List ℕ))
-cert_of task = (files_of task).cert
+cert_of task = (outline_of task).cert
 
 -- an input reads at a place, with that standard input; where there is none, the file of no name,
 -- which is not there
@@ -27,11 +27,11 @@ IsAt stdin None input = (name : Bor (List ℕ)) × (name.now ≡ []) × IsOfFile
 
 -- what a task reads first
 abbrev pub first_of : Task → InputName
-first_of task = place_of (files_of task).first
+first_of task = place_of (outline_of task).first
 
 -- what it reads after that
 abbrev pub second_of : Task → Option InputName
-second_of task = option_map place_of (files_of task).second
+second_of task = option_map place_of (outline_of task).second
 
 -- it would read standard input twice
 abbrev pub ReadsTwice : Task → Type 0

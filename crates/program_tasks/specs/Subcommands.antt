@@ -3,8 +3,7 @@ use Rattle.std.specs.Prelude.{ℕ, List, ◌++◌, codes}
 use Rattle.program_tasks.specs.declared.task.Subcommand.{Subcommand}
 use Rattle.program_tasks.specs.declared.task.Subcommand.TheVariants as subcommands
 use Rattle.program_tasks.specs.declared.task.Task.{Task}
-use Rattle.program_tasks.specs.declared.task.Task.TheVariants.{Run, Plan, Judge, Check, Show, Audit}
-use Rattle.program_tasks.specs.declared.task.Task.TheVariants.{Map, Lint, Measure}
+use Rattle.program_tasks.specs.Outlines.{outline_of}
 
 -- bytes of UTF-8
 abbrev pub Text : Type 0
@@ -28,15 +27,7 @@ usage_words subcommand = codes "pmpmon " ++ subcommand_word subcommand
 
 -- the subcommand that a task is
 abbrev pub subcommand_of : Task → Subcommand
-subcommand_of (Run platform trace measure) = subcommands.Run
-subcommand_of (Plan map cert limit) = subcommands.Plan
-subcommand_of (Judge map trace limit) = subcommands.Judge
-subcommand_of (Check map cert) = subcommands.Check
-subcommand_of (Show map limit) = subcommands.Show
-subcommand_of (Audit map registers) = subcommands.Audit
-subcommand_of (Map registers) = subcommands.Map
-subcommand_of (Lint file platform) = subcommands.Lint
-subcommand_of (Measure file layout) = subcommands.Measure
+subcommand_of task = (outline_of task).subcommand
 
 -- its word
 abbrev pub word_of : Task → Text

@@ -12,7 +12,7 @@
 //!
 //! The files of a task: where it reads and writes.
 //!
-//! For the layer above: [`files_of`] is the table of the files of each task. [`first_of`], [`second_of`] and [`cert_of`] say what a
+//! For the layer above: [`outline_of`] is the table of the tasks: the subcommand and the files of each. [`first_of`], [`second_of`] and [`cert_of`] say what a
 //! task reads and writes, each at its [`InputName`], and [`reads_twice`] whether that is standard input twice. [`inputs`] are what
 //! reads there. [`shown_words`] and [`quoted`] show words of a command line without control characters. [`may_be_hinted`] says
 //! after which ends of a task something may be said of its inputs.
@@ -43,6 +43,6 @@ pub use hints::Hints;
 pub use options::{Answers, Format, LintKind, Options, TableFormat};
 pub use places::{InputName, again, cert_of, first_of, reads_twice, second_of};
 pub use request::{Request, request_of};
-pub use task::{NO_FILE, SUBCOMMANDS, Subcommand, Task, TaskFiles, files_of, name_or_none};
+pub use task::{NO_FILE, SUBCOMMANDS, Subcommand, Task, TaskOutline, name_or_none, outline_of};
 pub use task_inputs::{Input, inputs, inputs_again};
 pub use words::{quoted, shown_words, texts_of};

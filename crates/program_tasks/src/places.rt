@@ -4,7 +4,7 @@ ghost use Rattle.std.specs.Prelude.{◌≡◌, ◌↔◌, true};
 ghost use Rattle.program_tasks.specs.Places.{again, cert_of, first_of, place_of, second_of, ReadsTwice};
 
 use crate::Task;
-use crate::task::files_of;
+use crate::task::outline_of;
 
 /// The word for standard input.
 const STANDARD_INPUT: &str = "-";
@@ -32,14 +32,14 @@ fn place_of(name: &str) -> InputName<'_>
 pub fn first_of<'a>(task: &Task<'a>) -> InputName<'a>
     ensures { result ≡ first_of task.now }
 {
-    place_of(files_of(task).first)
+    place_of(outline_of(task).first)
 }
 
 /// What a task reads after that, where it does.
 pub fn second_of<'a>(task: &Task<'a>) -> Option<InputName<'a>>
     ensures { result ≡ second_of task.now }
 {
-    match files_of(task).second {
+    match outline_of(task).second {
         Some(name) => Some(place_of(name)),
         None => None,
     }
@@ -69,5 +69,5 @@ pub fn again(place: Option<InputName<'_>>) -> Option<InputName<'_>>
 pub fn cert_of<'a>(task: &Task<'a>) -> Option<&'a str>
     ensures { result ≡ cert_of task.now }
 {
-    files_of(task).cert
+    outline_of(task).cert
 }

@@ -1,9 +1,9 @@
-//! What the program can be asked to do: each task, the subcommand that it is, and its files. A new task is added here first.
+//! What the program can be asked to do: each task, and the one table of their subcommands and files. A new task is added here first.
 
 ghost use Rattle.std.specs.Prelude.{◌≡◌, ◌≢◌, ◌↔◌, true, IfSome, None};
 ghost use Rattle.program_tasks.specs.declared.task.Subcommand.{Subcommand};
-ghost use Rattle.program_tasks.specs.Files.{files_of, name_or_none};
-ghost use Rattle.program_tasks.specs.Subcommands.{subcommand_of, subcommand_word, usage_words};
+ghost use Rattle.program_tasks.specs.Outlines.{outline_of, name_or_none};
+ghost use Rattle.program_tasks.specs.Subcommands.{subcommand_word, usage_words};
 
 use measurement::Layout;
 use pmp_encoding::Limit;
@@ -80,28 +80,11 @@ pub enum Task<'a> {
     },
 }
 
-impl Task<'_> {
-    /// The subcommand that it is.
-    pub fn subcommand(&self) -> Subcommand
-        ensures { result ≡ subcommand_of self.now }
-    {
-        match self {
-            Task::Run { .. } => Subcommand::Run,
-            Task::Plan { .. } => Subcommand::Plan,
-            Task::Judge { .. } => Subcommand::Judge,
-            Task::Check { .. } => Subcommand::Check,
-            Task::Audit { .. } => Subcommand::Audit,
-            Task::Map { .. } => Subcommand::Map,
-            Task::Lint { .. } => Subcommand::Lint,
-            Task::Show { .. } => Subcommand::Show,
-            Task::Measure { .. } => Subcommand::Measure,
-        }
-    }
-}
-
-/// The files of a task, by their names.
+/// What a task is to all that does not do it: its subcommand and its files, by their names.
 #[derive(Clone, Copy)]
-pub struct TaskFiles<'a> {
+pub struct TaskOutline<'a> {
+    /// The subcommand that it is.
+    pub subcommand: Subcommand,
     /// What it reads first.
     pub first: &'a str,
     /// What it reads after that, where it does.
@@ -110,12 +93,18 @@ pub struct TaskFiles<'a> {
     pub cert: Option<&'a str>,
 }
 
-impl<'a> TaskFiles<'a> {
+impl<'a> TaskOutline<'a> {
     /// One file that is read, and another after that where there is one.
-    fn read(first: &'a str, second: Option<&'a str>) -> TaskFiles<'a>
-        ensures { result ≡ record { first = first.entry; second = second.entry; cert = None } }
+    fn reads(subcommand: Subcommand, first: &'a str, second: Option<&'a str>) -> TaskOutline<'a>
+        ensures { result ≡ record {
+          subcommand = subcommand;
+          first = first.entry;
+          second = second.entry;
+          cert = None;
+        } }
     {
-        TaskFiles {
+        TaskOutline {
+            subcommand,
             first,
             second,
             cert: None,
@@ -123,28 +112,33 @@ impl<'a> TaskFiles<'a> {
     }
 }
 
-/// The files of a task.
-pub fn files_of<'a>(task: &Task<'a>) -> TaskFiles<'a>
-    ensures { result ≡ files_of task.now }
+/// The outline of a task: the one table of what each is.
+pub fn outline_of<'a>(task: &Task<'a>) -> TaskOutline<'a>
+    ensures { result ≡ outline_of task.now }
 {
     match *task {
         Task::Run {
             platform,
             trace,
             ..
-        } => TaskFiles::read(platform, Some(trace)),
-        Task::Plan { map, cert, .. } => TaskFiles {
+        } => TaskOutline::reads(Subcommand::Run, platform, Some(trace)),
+        Task::Plan { map, cert, .. } => TaskOutline {
+            subcommand: Subcommand::Plan,
             first: map,
             second: None,
             cert,
         },
-        Task::Judge { map, trace, .. } => TaskFiles::read(map, Some(trace)),
-        Task::Check { map, cert } => TaskFiles::read(map, Some(cert)),
-        Task::Audit { map, registers } => TaskFiles::read(map, Some(registers)),
-        Task::Map { registers } => TaskFiles::read(registers, None),
-        Task::Lint { file, platform } => TaskFiles::read(file, platform),
-        Task::Show { map, .. } => TaskFiles::read(map, None),
-        Task::Measure { file, .. } => TaskFiles::read(file, None),
+        Task::Judge { map, trace, .. } => {
+            TaskOutline::reads(Subcommand::Judge, map, Some(trace))
+        }
+        Task::Check { map, cert } => TaskOutline::reads(Subcommand::Check, map, Some(cert)),
+        Task::Audit { map, registers } => {
+            TaskOutline::reads(Subcommand::Audit, map, Some(registers))
+        }
+        Task::Map { registers } => TaskOutline::reads(Subcommand::Map, registers, None),
+        Task::Lint { file, platform } => TaskOutline::reads(Subcommand::Lint, file, platform),
+        Task::Show { map, .. } => TaskOutline::reads(Subcommand::Show, map, None),
+        Task::Measure { file, .. } => TaskOutline::reads(Subcommand::Measure, file, None),
     }
 }
 

@@ -6,10 +6,11 @@ ghost use Rattle.commands.specs.Audit.{Audits};
 ghost use Rattle.command_inputs.specs.Inputs.{reading};
 
 use crate::certified_plan::fewest_in;
+use crate::listing_trouble::listing_trouble;
 use byte_streams::{Sink, Source};
 use command_inputs::{REGISTER_BYTES, Trouble, answer_status, bytes_in, map_in};
 use pmp_encoding::Xlen;
-use register_audit::{AuditFault, audit};
+use register_audit::audit;
 use std::alloc::Global;
 
 /// Audits registers against a map, and answers the status 0 where they mean it and 1 where they don't. With `all` there is a
@@ -36,11 +37,6 @@ pub fn do_audit<'a, R: Source, W: Sink>(
     let fewest = fewest_in(alloc, file, &map, xlen)?;
     match audit(alloc, &map, fewest, xlen, listing.as_slice(), all, out) {
         Ok(means) => Ok(answer_status(means)),
-        Err(AuditFault::Line(line)) => Err(Trouble::NotUnderstood {
-            file: registers,
-            line,
-        }),
-        Err(AuditFault::Memory) => Err(Trouble::Memory),
-        Err(AuditFault::Device) => Err(Trouble::Output),
+        Err(fault) => Err(listing_trouble(registers, fault)),
     }
 }

@@ -10,13 +10,14 @@ ghost use Rattle.commands.specs.Judge.{Judges, JudgesAs, JudgesByRegisters, Judg
 
 use crate::certified_plan::bank_in;
 use crate::expected::tell_first;
+use crate::listing_trouble::listing_trouble;
 use byte_streams::{DeviceFault, Sink, Source, write_whole};
 use command_inputs::{REGISTER_BYTES, Trouble, bytes_in, map_in};
 use hart_trace::{AccessJudge, judge_lines};
 use pmp_encoding::{Limit, Xlen};
 use pmp_match::Segments;
 use program_tasks::Answers;
-use register_audit::{Ruled, RulesFault, rules_in};
+use register_audit::{Ruled, rules_in};
 use std::alloc::Global;
 use trace_answers::{Deciders, compare_judged, explain_judged};
 
@@ -150,11 +151,7 @@ fn do_judge_registers<'a, R: Source, W: Sink>(
             Ok(()) => Ok(1),
             Err(DeviceFault) => Err(Trouble::Output),
         },
-        Err(RulesFault::Line(line)) => Err(Trouble::NotUnderstood {
-            file: registers,
-            line,
-        }),
-        Err(RulesFault::Memory) => Err(Trouble::Memory),
+        Err(fault) => Err(listing_trouble(registers, fault)),
     }
 }
 

@@ -5,6 +5,7 @@ ghost use Rattle.byte_streams.specs.Writings.{writing};
 ghost use Rattle.command_inputs.specs.Inputs.{reading};
 ghost use Rattle.commands.specs.Map.{Maps};
 
+use crate::listing_trouble::listing_trouble;
 use byte_streams::{Sink, Source};
 use command_inputs::{REGISTER_BYTES, Trouble, answer_status, bytes_in};
 use pmp_encoding::Xlen;
@@ -26,12 +27,7 @@ pub fn do_map<'a, R: Source, W: Sink>(
     let listing = bytes_in(alloc, registers, first, REGISTER_BYTES)?;
     match print_map_of(alloc, xlen, listing.as_slice(), out) {
         Ok(is_map) => Ok(answer_status(is_map)),
-        Err(MapOfFault::Line(line)) => Err(Trouble::NotUnderstood {
-            file: registers,
-            line,
-        }),
         Err(MapOfFault::TooManyRanges) => Err(Trouble::TooManyRanges { file: registers }),
-        Err(MapOfFault::Memory) => Err(Trouble::Memory),
-        Err(MapOfFault::Device) => Err(Trouble::Output),
+        Err(MapOfFault::Listing(fault)) => Err(listing_trouble(registers, fault)),
     }
 }

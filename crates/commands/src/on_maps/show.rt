@@ -7,6 +7,7 @@ ghost use Rattle.command_inputs.specs.Inputs.{reading};
 ghost use Rattle.commands.specs.Show.{IsShown, IsText, Shows, ShowsAs, ShowsRegisters};
 
 use crate::certified_plan::planned_near;
+use crate::listing_trouble::listing_trouble;
 use byte_streams::{DeviceFault, Sink, Source, write_whole};
 use command_inputs::{MAP_BYTES, REGISTER_BYTES, Trouble, answer_status, bytes_in, map_by};
 use map_lint::push_line_costs;
@@ -14,7 +15,7 @@ use map_table::{json_table, picture, table_of};
 use permission_map::{Memory, PermissionMap};
 use pmp_encoding::{Entry, Limit, Xlen};
 use program_tasks::TableFormat;
-use register_audit::{ListingFault, print_registers};
+use register_audit::print_registers;
 use std::alloc::Global;
 
 /// What is asked of the table of a map.
@@ -129,12 +130,7 @@ fn do_show_registers<'a, R: Source, W: Sink>(
     let listing = bytes_in(alloc, registers, first, REGISTER_BYTES)?;
     match print_registers(alloc, xlen, listing.as_slice(), out) {
         Ok(meant) => Ok(answer_status(meant)),
-        Err(ListingFault::Line(line)) => Err(Trouble::NotUnderstood {
-            file: registers,
-            line,
-        }),
-        Err(ListingFault::Memory) => Err(Trouble::Memory),
-        Err(ListingFault::Device) => Err(Trouble::Output),
+        Err(fault) => Err(listing_trouble(registers, fault)),
     }
 }
 

@@ -1,5 +1,5 @@
 use Rattle.std.proofs.Common.{◌∙◌, ap, refl}
-use Rattle.program_tasks.specs.Files.{name_or_none}
+use Rattle.program_tasks.specs.Outlines.{name_or_none}
 use Rattle.monitor_cli.proofs.OnFiles.{chosen}
 use Rattle.monitor_cli.proofs.on_files.perform_on_files.Goals as goal
 
@@ -33,9 +33,9 @@ returns-clause-ends g c =
         c.name_or_none.result,
         c.name_or_none-cert_name.result,
         _,
-        ap (λ it. it.first) c.files_of-files.ensures,
-        c.name_or_none.ensures ∙ ap (λ it. name_or_none it.second) c.files_of-files.ensures,
-        c.name_or_none-cert_name.ensures ∙ ap (λ it. name_or_none it.cert) c.files_of-files.ensures,
+        ap (λ it. it.first) c.outline_of-files.ensures,
+        c.name_or_none.ensures ∙ ap (λ it. name_or_none it.second) c.outline_of-files.ensures,
+        c.name_or_none-cert_name.ensures ∙ ap (λ it. name_or_none it.cert) c.outline_of-files.ensures,
         refl,
         chosen
             _ _ _ _ _ _ _ _ _ _ _ _ _ _ _ _ _ _ _ (c.reason.ensures ∙ ap (λ it. it.reason) c.into_inner.ensures)

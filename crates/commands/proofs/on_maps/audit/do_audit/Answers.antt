@@ -9,6 +9,7 @@ use Rattle.commands.specs.Audit.{IsAudited, audited, no_registers, not_understoo
 use Rattle.command_inputs.specs.Inputs.{HasBytes, HasMap, Reading}
 use Rattle.commands.specs.Audit as audits
 use Rattle.pmp_match.specs.Meaning.{IsFewest}
+use Rattle.commands.proofs.ListingTroubles.{by_fault}
 use Rattle.commands.proofs.on_maps.audit.do_audit.Goals as goal
 
 -- an audit is made of the map, the listing and the fewest entries
@@ -52,19 +53,15 @@ returns-in-Ok g c =
     let made = is_audited c.in_ok-map.ensures.made c.in_ok-listing.ensures.whole c.in_ok-fewest.ensures.fewest in
     rw c.answer_status.ensures (audited _ _ w.0 _ c.in-Ok.means made w.1 w.2)
 
-pub returns-in-Err-Line : goal.returns-in-Err-Line
-returns-in-Err-Line g c =
-    let unknown = rw c.as_slice.ensures.value at c.in-Err-Line.ensures.line c.in-Err-Line.line (ap (λ f. Err f) c.in-Err-Line.field-0-is) in
-    let made = is_audited c.in_ok-map.ensures.made c.in_ok-listing.ensures.whole c.in_ok-fewest.ensures.fewest in
-    not_understood _ _ _ c.in-Err-Line.line made unknown.0 unknown.1
-
-pub returns-in-Err-Memory : goal.returns-in-Err-Memory
-returns-in-Err-Memory g c = audits.Audits.no_memory _ _ c.in_ok-map.ensures.made c.in_ok-listing.ensures.whole
-    (c.in-Err-Memory.ensures.untouched (ap (λ f. Err f) c.in-Err-Memory.field-0-is))
-
 pub returns : goal.returns
 returns g c =
-    let device = ap (λ f. Err f) c.in-Err-Device.field-0-is in
-    let w = rw c.as_slice.ensures.value at c.in-Err-Device.ensures.broken device in
     let made = is_audited c.in_ok-map.ensures.made c.in_ok-listing.ensures.whole c.in_ok-fewest.ensures.fewest in
-    audits.Audits.no_output _ _ w.0 _ w.1 made w.2 w.3
+    rw c.listing_trouble.ensures (by_fault _ c.args.registers.entry c.in-Err.fault
+    (λ n is.
+    let unknown = rw c.as_slice.ensures.value at c.in-Err.ensures.line n (ap (λ f. Err f) is) in
+    not_understood _ _ _ n made unknown.0 unknown.1)
+    (λ is. audits.Audits.no_memory _ _ c.in_ok-map.ensures.made c.in_ok-listing.ensures.whole
+    (c.in-Err.ensures.untouched (ap (λ f. Err f) is)))
+    (λ is.
+    let w = rw c.as_slice.ensures.value at c.in-Err.ensures.broken (ap (λ f. Err f) is) in
+    audits.Audits.no_output _ _ w.0 _ w.1 made w.2 w.3))

@@ -1,6 +1,7 @@
-use Rattle.std.proofs.Common.{Err, ap, refl}
+use Rattle.std.proofs.Common.{Err, ap, refl, ⊥_elim}
 use Rattle.std.proofs.lemmas.Result.{err_from_is_err_and}
 use Rattle.commands.specs.Judge as judges
+use Rattle.commands.proofs.ListingTroubles.{by_fault}
 use Rattle.commands.proofs.on_maps.judge.do_judge_registers.Goals as goal
 
 pub returns-in_err-listing : goal.returns-in_err-listing
@@ -12,11 +13,6 @@ pub returns-in-Ok-Rules : goal.returns-in-Ok-Rules
 returns-in-Ok-Rules g c =
     let rules = rw (c.as_slice.ensures.value, c.in-Ok-Rules.field-0-is) at c.in-Ok-Rules.ensures.ruled in
     judges.JudgesByRegisters.ruled _ c.in-Ok-Rules.rules c.judge_by.result c.in_ok-listing.ensures.whole rules c.judge_by.ensures
-
-pub returns-in-Err-Line : goal.returns-in-Err-Line
-returns-in-Err-Line g c =
-    let unknown = rw c.as_slice.ensures.value at c.in-Err-Line.ensures.line c.in-Err-Line.line (ap (λ f. Err f) c.in-Err-Line.field-0-is) in
-    rw c.in-Err-Line.field-0-is (judges.JudgesByRegisters.not_understood _ c.in-Err-Line.line c.in_ok-listing.ensures.whole unknown refl refl)
 
 pub returns-in-Ok : goal.returns-in-Ok
 returns-in-Ok g c =
@@ -31,4 +27,9 @@ returns-in-Ok-Refused g c =
     judges.JudgesByRegisters.no_output _ _ c.in_ok-listing.ensures.whole refused refl broken
 
 pub returns : goal.returns
-returns g c = judges.JudgesByRegisters.no_memory _ c.in_ok-listing.ensures.whole refl refl
+returns g c = rw c.listing_trouble.ensures (by_fault _ c.args.registers.entry c.in-Err.fault
+    (λ n is.
+    let unknown = rw c.as_slice.ensures.value at c.in-Err.ensures.line n (ap (λ f. Err f) is) in
+    judges.JudgesByRegisters.not_understood _ n c.in_ok-listing.ensures.whole unknown refl refl)
+    (λ is. judges.JudgesByRegisters.no_memory _ c.in_ok-listing.ensures.whole refl refl)
+    (λ is. ⊥_elim (c.in-Err.ensures.unwritten (ap (λ f. Err f) is))))

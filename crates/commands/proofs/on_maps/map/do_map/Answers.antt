@@ -1,6 +1,8 @@
-use Rattle.std.proofs.Common.{Err, ap, refl}
+use Rattle.std.proofs.Common.{Err, ◌∙◌, ap, refl}
 use Rattle.std.proofs.lemmas.Result.{err_from_is_err_and}
 use Rattle.commands.specs.Map as maps
+use Rattle.register_audit.specs.declared.fault.MapOfFault.TheVariants.{Listing}
+use Rattle.commands.proofs.ListingTroubles.{by_fault}
 use Rattle.commands.proofs.on_maps.map.do_map.Goals as goal
 
 pub returns-in_err-listing : goal.returns-in_err-listing
@@ -13,20 +15,19 @@ returns-in-Ok g c =
     let w = rw c.as_slice.ensures.value at c.in-Ok.ensures.written in
     rw c.answer_status.ensures (maps.Maps.told _ w.0 c.in-Ok.is_map c.in_ok-listing.ensures.whole w.1 w.2)
 
-pub returns-in-Err-Line : goal.returns-in-Err-Line
-returns-in-Err-Line g c =
-    let unknown = rw c.as_slice.ensures.value at c.in-Err-Line.ensures.line c.in-Err-Line.line (ap (λ f. Err f) c.in-Err-Line.field-0-is) in
-    maps.Maps.not_understood _ c.in-Err-Line.line c.in_ok-listing.ensures.whole unknown.0 unknown.1
-
 pub returns-in-Err-TooManyRanges : goal.returns-in-Err-TooManyRanges
 returns-in-Err-TooManyRanges g c =
     let fine = rw c.as_slice.ensures.value at c.in-Err-TooManyRanges.ensures.many (ap (λ f. Err f) c.in-Err-TooManyRanges.field-0-is) in
     maps.Maps.too_many _ fine.0 c.in_ok-listing.ensures.whole fine.1 fine.2 fine.3
 
-pub returns-in-Err-Memory : goal.returns-in-Err-Memory
-returns-in-Err-Memory g c = maps.Maps.no_memory _ c.in_ok-listing.ensures.whole (c.in-Err-Memory.ensures.untouched (ap (λ f. Err f) c.in-Err-Memory.field-0-is))
-
 pub returns : goal.returns
 returns g c =
-    let w = rw c.as_slice.ensures.value at c.in-Err-Device.ensures.broken (ap (λ f. Err f) c.in-Err-Device.field-0-is) in
-    maps.Maps.no_output _ w.0 w.1 c.in_ok-listing.ensures.whole w.2 w.3
+    let of_listing = ap (λ f. Err f) c.in-Err-Listing.field-0-is in
+    rw c.listing_trouble.ensures (by_fault _ c.args.registers.entry c.in-Err-Listing.fault
+    (λ n is.
+    let unknown = rw c.as_slice.ensures.value at c.in-Err-Listing.ensures.line n (of_listing ∙ ap (λ f. Err (Listing f)) is) in
+    maps.Maps.not_understood _ n c.in_ok-listing.ensures.whole unknown.0 unknown.1)
+    (λ is. maps.Maps.no_memory _ c.in_ok-listing.ensures.whole (c.in-Err-Listing.ensures.untouched (of_listing ∙ ap (λ f. Err (Listing f)) is)))
+    (λ is.
+    let w = rw c.as_slice.ensures.value at c.in-Err-Listing.ensures.broken (of_listing ∙ ap (λ f. Err (Listing f)) is) in
+    maps.Maps.no_output _ w.0 w.1 c.in_ok-listing.ensures.whole w.2 w.3))
