@@ -1,14 +1,12 @@
 -- A list of NA4 and NAPOT entries says what its extents say, and registers that mean such a list what theirs say.
-use Rattle.std.proofs.Common.{◌≡◌, ◌≢◌, ℕ, ◌+◌, ◌%◌, ◌/◌, ◌^◌, ◌<◌, ◌≤◌, ◌↔◌, inl, inr, suc, zero, List, [], ◌∷◌, length, map, Bool, true, false, cond, ◌&&◌}
+use Rattle.std.proofs.Common.{◌≡◌, ◌≢◌, ℕ, ◌+◌, ◌^◌, ◌≤◌, ◌↔◌, suc, zero, List, [], ◌∷◌, length, map, Bool, true, false, cond, ◌&&◌}
 use Rattle.std.proofs.Common.{nat_lt, refl, sym, ap, ap₂, subst, ◌∙◌, arith}
 use Rattle.std.specs.List.{AllByRecursion}
 use Rattle.std.proofs.lemmas.Bool.{le-ltb}
 use Rattle.pmp_encoding.specs.declared.extent.Extent.{Extent}
-use Rattle.pmp_encoding.specs.declared.fault.EncodingFault.TheVariants.{Locked, AddressBits}
 use Rattle.pmp_encoding.specs.declared.region.Entry.{Entry}
 use Rattle.pmp_encoding.specs.Encoding.{IsOff, MeansEntry}
 use Rattle.pmp_encoding.specs.Extents.{extent_of}
-use Rattle.pmp_encoding.specs.Faults.{IsFaultless}
 use Rattle.pmp_encoding.specs.Lists.{MeansList, done, skip, keep}
 use Rattle.pmp_encoding.proofs.Faulty.{entry_faultless, off_faultless}
 use Rattle.pmp_encoding.specs.Views.{View}
@@ -22,10 +20,11 @@ use Rattle.pmp_match.proofs.Scanned.{entries_say}
 use Rattle.pmp_encoding.specs.Widths.{space_end, AreReached}
 use Rattle.pmp_match.specs.declared.registers.Registers.{Registers}
 use Rattle.pmp_match.specs.RegisterDecision.{ExtentsMean, IsWords, Permits}
-use Rattle.pmp_match.specs.RegisterMatching.{AreExtents, AreExtentsFrom, IsExtentAt, off, block, kept, nowhere, unlocked}
-use Rattle.pmp_match.specs.Registers.{address_at, cfg_at, pairs_from, pairs_of}
+use Rattle.pmp_match.specs.RegisterMatching.{AreExtents, AreExtentsFrom, IsExtentAt, off, block, kept, nowhere}
+use Rattle.pmp_match.specs.Registers.{address_at, cfg_at, pairs_from, pairs_of, user_cfg_at}
 use Rattle.pmp_match.proofs.RegistersDecided.{not_machine, permits_from_test, test_from_permits}
 use Rattle.pmp_match.proofs.Spaces.{kept_small, pair_high, reached_end, reached_rest, whole_kept, whole_within}
+use Rattle.pmp_match.proofs.UserBytes.{whole_cfg}
 use Rattle.pmp_match.proofs.Matched.{each_words, entry_words, one_extent}
 
 -- ---- a list of entries
@@ -56,26 +55,18 @@ entries_meaning entries view = same_meaning (map extent_of entries) entries (ent
 
 -- ---- registers
 
--- a pair without a fault has no bit that is left out
-pub whole_cfg : (cfg address : ℕ) → IsFaultless cfg address → unlocked cfg ≡ cfg
-whole_cfg cfg address faultless = small (cfg / 128) refl
-  where
-    small : (top : ℕ) → cfg / 128 ≡ top → cfg % 2 ^ 7 ≡ cfg
-    small zero is = omega (arith, is)
-    small (suc top) is = absurd (faultless.none Locked (omega (arith, is, faultless.byte)))
-
 -- ---- what an entry matches that is OFF, and one whose block the hart's address registers reach
 
 pub off_extent : (registers : Registers) (place : ℕ) → IsOff (cfg_at registers place) (address_at registers place) → IsExtentAt registers place nowhere
 off_extent registers place o =
-    off (record { perm = o.perm; bits = whole_cfg _ _ (off_faultless _ _ o) ∙ o.bits; small = kept_small registers.xlen (address_at registers place) })
+    off (record { perm = o.perm; bits = whole_cfg registers.security _ _ (off_faultless _ _ o) ∙ o.bits; small = kept_small registers.xlen (address_at registers place) })
 
 pub entry_extent : (registers : Registers) (place : ℕ) (e : Entry) → MeansEntry (cfg_at registers place) (address_at registers place) e
     → e.region.base + 2 ^ e.region.log2 ≤ space_end registers.xlen → IsExtentAt registers place (extent_of e)
 entry_extent registers place e m near =
     let whole = whole_kept registers.xlen (address_at registers place) (omega (arith, pair_high _ _ e m, near)) in
-    let pair : MeansEntry (unlocked (cfg_at registers place)) (kept registers.xlen (address_at registers place)) e = rw
-    (whole_cfg _ _ (entry_faultless _ _ e m), whole) m in
+    let pair : MeansEntry (user_cfg_at registers place) (kept registers.xlen (address_at registers place)) e = rw
+    (whole_cfg registers.security _ _ (entry_faultless _ _ e m), whole) m in
     subst (λ x. IsExtentAt registers place x) (whole_within registers.xlen (extent_of e) near) (block e pair)
 
 off_at : (registers : Registers) (place : ℕ) (x : Extent) → IsOff (cfg_at registers place) (address_at registers place) → IsExtentAt registers place x

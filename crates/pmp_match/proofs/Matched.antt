@@ -1,8 +1,8 @@
 -- What an entry matches: one extent, of whole words, and none where it has a reserved value.
-use Rattle.std.proofs.Common.{◌≡◌, ◌≢◌, ℕ, ◌+◌, ◌*◌, ◌/◌, ◌%◌, ◌^◌, ◌<◌, ◌≤◌, ◌⊎◌, inl, inr, ⊎_elim, zero, suc, take, List, [], ◌∷◌, ◌++◌, All, length, Bool}
-use Rattle.std.proofs.Common.{true, false, nat_lt, cond, refl, sym, ap, ap₂, subst, ◌∙◌, arith, pow_pos, lit<}
+use Rattle.std.proofs.Common.{◌≡◌, ℕ, ◌+◌, ◌*◌, ◌/◌, ◌%◌, ◌^◌, ◌<◌, ◌≤◌, ◌⊎◌, inl, inr, ⊎_elim, zero, suc, take, List, [], ◌∷◌, ◌++◌, All, length}
+use Rattle.std.proofs.Common.{cond, refl, sym, ap, ap₂, subst, ◌∙◌, arith, pow_pos}
 use Rattle.std.specs.List.{AllByRecursion}
-use Rattle.std.specs.Prelude.{min, slice_set}
+use Rattle.std.specs.Prelude.{slice_set}
 use Rattle.std.proofs.Math.Nat.{min-le_left, min-le_right}
 use Rattle.std.proofs.lemmas.Bool.{cases_lt, lt-ltb, le-ltb}
 use Rattle.std.proofs.lemmas.List.{length-take-le, take_more_set}
@@ -13,7 +13,7 @@ use Rattle.pmp_encoding.specs.declared.fault.EncodingFault.TheVariants.{Reserved
 use Rattle.pmp_encoding.specs.declared.perm.Perm.{Perm}
 use Rattle.pmp_encoding.specs.declared.perm.Perm.TheVariants.{NoAccess, Read, ReadWrite, Execute, ReadExecute, ReadWriteExecute}
 use Rattle.pmp_encoding.specs.declared.region.Entry.{Entry}
-use Rattle.pmp_encoding.specs.Encoding.{IsOff, MeansEntry}
+use Rattle.pmp_encoding.specs.Encoding.{MeansEntry}
 use Rattle.pmp_encoding.specs.Extents.{extent_of}
 use Rattle.pmp_encoding.specs.Faults.{HasFault, IsFaultless}
 use Rattle.pmp_encoding.specs.Perms.{bits_of}
@@ -21,14 +21,16 @@ use Rattle.pmp_encoding.proofs.Faulty.{entry_faultless, off_faultless}
 use Rattle.pmp_encoding.proofs.Multiples.{IsMultiple, multiple_from_mod, multiple_trans, power_multiple}
 use Rattle.pmp_encoding.proofs.Pairs.{bits_below, not_off, one_entry, perm_from_same_bits}
 use Rattle.pmp_match.specs.declared.registers.Registers.{Registers}
-use Rattle.pmp_match.specs.declared.reserved.Reserved.{Reserved}
 use Rattle.pmp_match.specs.declared.reserved.Reserved.TheVariants.{Permission, Bits}
 use Rattle.pmp_match.specs.RegisterDecision.{IsWords}
 use Rattle.pmp_encoding.specs.declared.xlen.Xlen.{Xlen}
 use Rattle.pmp_encoding.specs.Widths.{space_end}
-use Rattle.pmp_match.specs.RegisterMatching.{AreExtents, AreExtentsFrom, IsExtentAt, off, tor, block, bottom_of, kept, nowhere, tor_extent, unlocked, within}
+use Rattle.pmp_match.specs.RegisterMatching.{AreExtents, AreExtentsFrom, IsExtentAt, off, tor, block, bottom_of, kept, nowhere, tor_extent, within}
 use Rattle.pmp_match.specs.Registers.{address_at, cfg_at}
-use Rattle.pmp_match.specs.Reserved.{IsDefined, IsReserved}
+use Rattle.pmp_match.specs.Reserved.{IsDefined}
+use Rattle.pmp_match.specs.declared.smepmp.Security.{Security}
+use Rattle.pmp_match.specs.Smepmp.{user_cfg}
+use Rattle.pmp_match.proofs.UserBytes.{no_write_alone, user_bits_below, write_alone_seen}
 use Rattle.pmp_match.proofs.Spaces.{end_above, end_words, kept_inside, kept_small, pair_low}
 
 -- ---- one extent
@@ -62,33 +64,41 @@ one_list registers xs ys a b = one_from registers 0 xs ys (a.count ∙ sym b.cou
 
 -- ---- no reserved value
 
-defined_by : (cfg address : ℕ) → IsFaultless (unlocked cfg) address → IsDefined cfg
-defined_by cfg address faultless Permission has = faultless.none ReservedPerm (omega (arith, has.0), omega (arith, has.1))
-defined_by cfg address faultless Bits has = faultless.none ReservedBits (λ none. has (omega (arith, none)))
+defined_by : (s : Security) (cfg address : ℕ) → IsFaultless (user_cfg s cfg) address → IsDefined s cfg
+defined_by s cfg address faultless Permission has =
+    let seen = write_alone_seen s cfg has.0 in faultless.none ReservedPerm (omega (arith, seen, has.1.0), omega (arith, seen, has.1.1))
+defined_by s cfg address faultless Bits has =
+    let small = user_bits_below s cfg in faultless.none ReservedBits (λ none. has (omega (arith, none, small)))
 
-tor_defined : (cfg : ℕ) (perm : Perm) → unlocked cfg ≡ 1 * 8 + bits_of perm → IsDefined cfg
-tor_defined cfg NoAccess h Permission has = omega (arith, h, has.0, has.1)
-tor_defined cfg Read h Permission has = omega (arith, h, has.0, has.1)
-tor_defined cfg ReadWrite h Permission has = omega (arith, h, has.0, has.1)
-tor_defined cfg Execute h Permission has = omega (arith, h, has.0, has.1)
-tor_defined cfg ReadExecute h Permission has = omega (arith, h, has.0, has.1)
-tor_defined cfg ReadWriteExecute h Permission has = omega (arith, h, has.0, has.1)
-tor_defined cfg perm h Bits has = has (omega (arith, h, bits_below perm))
+tor_sound : (perm : Perm) → (1 * 8 + bits_of perm) / 2 % 2 ≡ 1 → (1 * 8 + bits_of perm) % 2 ≡ 0 → ⊥
+tor_sound NoAccess w r = omega (arith, w, r)
+tor_sound Read w r = omega (arith, w, r)
+tor_sound ReadWrite w r = omega (arith, w, r)
+tor_sound Execute w r = omega (arith, w, r)
+tor_sound ReadExecute w r = omega (arith, w, r)
+tor_sound ReadWriteExecute w r = omega (arith, w, r)
 
-pub extent_defined : (registers : Registers) (place : ℕ) (x : Extent) → IsExtentAt registers place x → IsDefined (cfg_at registers place)
-extent_defined registers place _ (off o) = defined_by _ _ (off_faultless _ _ o)
-extent_defined registers place _ (tor perm h) = tor_defined _ perm h
-extent_defined registers place _ (block e m) = defined_by _ _ (entry_faultless _ _ e m)
+tor_defined : (s : Security) (cfg : ℕ) (perm : Perm) → user_cfg s cfg ≡ 1 * 8 + bits_of perm → IsDefined s cfg
+tor_defined s cfg perm h Permission has =
+    let seen = write_alone_seen s cfg has.0 in tor_sound perm (omega (arith, h, seen, has.1.0)) (omega (arith, h, seen, has.1.1))
+tor_defined s cfg perm h Bits has = let small = user_bits_below s cfg in has (omega (arith, h, small, bits_below perm))
+
+pub extent_defined : (registers : Registers) (place : ℕ) (x : Extent) → IsExtentAt registers place x
+    → IsDefined registers.security (cfg_at registers place)
+extent_defined registers place _ (off o) = defined_by registers.security _ _ (off_faultless _ _ o)
+extent_defined registers place _ (tor perm h) = tor_defined registers.security _ perm h
+extent_defined registers place _ (block e m) = defined_by registers.security _ _ (entry_faultless _ _ e m)
 
 defined_from : (registers : Registers) (first : ℕ) (xs : List Extent) → AreExtentsFrom registers first xs → (place : ℕ) → first ≤ place
-    → place < first + length xs → IsDefined (cfg_at registers place)
+    → place < first + length xs → IsDefined registers.security (cfg_at registers place)
 defined_from registers first [] are place low high = absurd (omega (arith, low, high))
 defined_from registers first (x ∷ xs) are place low high =
     ⊎_elim (λ more. defined_from registers (first + 1) xs are.1 place (omega (arith, more)) (omega (arith, high)))
-    (λ less. let same : first ≡ place = omega (arith, low, less) in subst (λ p. IsDefined (cfg_at registers p)) same (extent_defined registers first x are.0))
+    (λ less. let same : first ≡ place = omega (arith, low, less) in subst (λ p. IsDefined registers.security (cfg_at registers p)) same (extent_defined registers first x are.0))
     (cases_lt first place)
 
-pub all_defined : (registers : Registers) (xs : List Extent) → AreExtents registers xs → (place : ℕ) → place < 64 → IsDefined (cfg_at registers place)
+pub all_defined : (registers : Registers) (xs : List Extent) → AreExtents registers xs → (place : ℕ) → place < 64
+    → IsDefined registers.security (cfg_at registers place)
 all_defined registers xs are place inside = defined_from registers 0 xs are.each place (omega arith) (omega (arith, are.count, inside))
 
 -- ---- whole words
@@ -181,34 +191,34 @@ one_more registers place (y ∷ xs) x are is =
 
 -- ---- a pair that is decoded without its lock and its high bits
 
-bits_clear : (cfg : ℕ) → IsDefined cfg → cfg / 32 % 4 ≡ 0
-bits_clear cfg defined = go (cfg / 32 % 4) refl
+bits_clear : (s : Security) (cfg : ℕ) → IsDefined s cfg → cfg / 32 % 4 ≡ 0
+bits_clear s cfg defined = go (cfg / 32 % 4) refl
   where
     go : (n : ℕ) → cfg / 32 % 4 ≡ n → cfg / 32 % 4 ≡ 0
     go zero is = is
     go (suc n) is = absurd (defined Bits (λ none. omega (arith, is, none)))
 
 -- it has no fault where its mode is not TOR
-pub no_fault : (cfg address : ℕ) (fault : EncodingFault) → IsDefined cfg → (unlocked cfg / 8 ≡ 1 → ⊥) → address < 2 ^ 54 → HasFault fault (unlocked cfg) address
-    → ⊥
-no_fault cfg address ReservedPerm defined other small has = defined Permission (omega (arith, has.0), omega (arith, has.1))
-no_fault cfg address Tor defined other small has = other (omega (arith, has, bits_clear cfg defined))
-no_fault cfg address Locked defined other small has = omega (arith, has)
-no_fault cfg address ReservedBits defined other small has = has (omega (arith, bits_clear cfg defined))
-no_fault cfg address AddressBits defined other small has = omega (arith, has, small)
-no_fault cfg address NoSuchCsr defined other small has = absurd has
+pub no_fault : (s : Security) (cfg address : ℕ) (fault : EncodingFault) → IsDefined s cfg → (user_cfg s cfg / 8 ≡ 1 → ⊥) → address < 2 ^ 54
+    → HasFault fault (user_cfg s cfg) address → ⊥
+no_fault s cfg address ReservedPerm defined other small has = no_write_alone s cfg defined (omega (arith, has.0)) (omega (arith, has.1))
+no_fault s cfg address Tor defined other small has = let low = user_bits_below s cfg in other (omega (arith, has, low, bits_clear s cfg defined))
+no_fault s cfg address Locked defined other small has = let low = user_bits_below s cfg in omega (arith, has, low)
+no_fault s cfg address ReservedBits defined other small has = let low = user_bits_below s cfg in has (omega (arith, low, bits_clear s cfg defined))
+no_fault s cfg address AddressBits defined other small has = omega (arith, has, small)
+no_fault s cfg address NoSuchCsr defined other small has = absurd has
 
 -- its three low bits are no reserved permission
-pub no_reserved : (cfg : ℕ) → IsDefined cfg → (unlocked cfg % 8 ≡ 2) ⊎ ((unlocked cfg % 8 ≡ 6) ⊎ (7 < unlocked cfg % 8)) → ⊥
-no_reserved cfg defined (inl two) = defined Permission (omega (arith, two), omega (arith, two))
-no_reserved cfg defined (inr (inl six)) = defined Permission (omega (arith, six), omega (arith, six))
-no_reserved cfg defined (inr (inr more)) = omega (arith, more)
+pub no_reserved : (s : Security) (cfg : ℕ) → IsDefined s cfg → (user_cfg s cfg % 8 ≡ 2) ⊎ ((user_cfg s cfg % 8 ≡ 6) ⊎ (7 < user_cfg s cfg % 8)) → ⊥
+no_reserved s cfg defined (inl two) = no_write_alone s cfg defined (omega (arith, two)) (omega (arith, two))
+no_reserved s cfg defined (inr (inl six)) = no_write_alone s cfg defined (omega (arith, six)) (omega (arith, six))
+no_reserved s cfg defined (inr (inr more)) = omega (arith, more)
 
 -- one place more has no reserved value
-pub one_defined : (registers : Registers) (n : ℕ) → ((place : ℕ) → place < n → IsDefined (cfg_at registers place)) → IsDefined (cfg_at registers n)
-    → (place : ℕ) → place < n + 1 → IsDefined (cfg_at registers place)
+pub one_defined : (registers : Registers) (n : ℕ) → ((place : ℕ) → place < n → IsDefined registers.security (cfg_at registers place))
+    → IsDefined registers.security (cfg_at registers n) → (place : ℕ) → place < n + 1 → IsDefined registers.security (cfg_at registers place)
 one_defined registers n below here place less =
-    ⊎_elim (λ under. below place under) (λ over. let same : n ≡ place = omega (arith, over, less) in subst (λ p. IsDefined (cfg_at registers p)) same here)
+    ⊎_elim (λ under. below place under) (λ over. let same : n ≡ place = omega (arith, over, less) in subst (λ p. IsDefined registers.security (cfg_at registers p)) same here)
     (cases_lt place n)
 
 -- one entry more behind the first ones

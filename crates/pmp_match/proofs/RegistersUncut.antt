@@ -1,5 +1,5 @@
 -- Extents mean a view exactly where they give each byte the view's permission and cut no access that the view lets through.
-use Rattle.std.proofs.Common.{◌≡◌, ◌≢◌, ℕ, ◌+◌, ◌/◌, ◌^◌, ◌<◌, ◌≤◌, ◌↔◌, ◌⊎◌, inl, inr, ⊎_elim, List, [], ◌∷◌, ◌++◌, All, Bool, true, false, cond, ◌&&◌, nat_lt}
+use Rattle.std.proofs.Common.{◌≡◌, ℕ, ◌/◌, ◌^◌, ◌<◌, ◌↔◌, ◌⊎◌, inl, inr, ⊎_elim, List, [], ◌∷◌, ◌++◌, All, Bool, true, false, cond, nat_lt}
 use Rattle.std.proofs.Common.{nat_le, refl, sym, ap, subst, ◌∙◌, arith}
 use Rattle.std.specs.List.{AllByRecursion}
 use Rattle.std.proofs.lemmas.Bool.{ltb-true, leb-true, lt-ltb, le-leb, and_from, and_parts, false_from_ne_true, both_ways}
@@ -14,7 +14,7 @@ use Rattle.pmp_match.proofs.Decided.{size_positive}
 use Rattle.pmp_match.proofs.FirstByte.{no_access}
 use Rattle.pmp_match.specs.RegisterBytes.{has_byte, perm_at}
 use Rattle.pmp_match.specs.RegisterDecision.{ContainsAll, ExtentsMean, IsFirstMatch, IsNeverCut, IsWords, Meets, NoneMeets, Permits}
-use Rattle.pmp_match.proofs.RegistersDecided.{Meets-from_test, at_once, ends_from_contains, later, test_from_Meets}
+use Rattle.pmp_match.proofs.RegistersDecided.{Meets-from_test, at_once, later, test_from_Meets}
 use Rattle.pmp_match.proofs.RegistersEachByte.{each_byte}
 
 -- ---- the first match of an access is one extent

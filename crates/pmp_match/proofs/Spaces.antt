@@ -1,14 +1,13 @@
 -- The space of a hart, and what of registers and extents is in it.
-use Rattle.std.proofs.Common.{◌≡◌, ℕ, ◌+◌, ◌*◌, ◌%◌, ◌^◌, ◌<◌, ◌≤◌, ◌⊎◌, inl, inr, ⊎_elim, min, List, ◌∷◌, true, nat_le, refl, sym, ap, subst, ◌∙◌, arith}
-use Rattle.std.proofs.Math.Nat.{min-eq_left, min-eq_right, min-le_left, min-le_right}
+use Rattle.std.proofs.Common.{◌≡◌, ℕ, ◌+◌, ◌*◌, ◌%◌, ◌^◌, ◌<◌, ◌≤◌, inl, inr, ⊎_elim, min, List, ◌∷◌, refl, sym, ap, subst, arith}
+use Rattle.std.proofs.Math.Nat.{min-eq_left, min-eq_right}
 use Rattle.std.proofs.lemmas.Bool.{and_parts, cases_lt, leb-true}
 use Rattle.pmp_encoding.specs.declared.extent.Extent.{Extent}
 use Rattle.pmp_encoding.specs.declared.region.Entry.{Entry}
-use Rattle.pmp_encoding.specs.Encoding.{IsOff, MeansEntry}
-use Rattle.pmp_encoding.specs.Extents.{extent_of}
+use Rattle.pmp_encoding.specs.Encoding.{MeansEntry}
 use Rattle.pmp_encoding.specs.declared.xlen.Xlen.{Xlen}
 use Rattle.pmp_encoding.specs.declared.xlen.Xlen.TheVariants.{Rv32, Rv64}
-use Rattle.pmp_encoding.specs.Widths.{address_bits, is_near, space_end, AreReached}
+use Rattle.pmp_encoding.specs.Widths.{space_end, AreReached}
 use Rattle.pmp_match.specs.RegisterMatching.{kept, within}
 
 -- ---- what is kept

@@ -12,12 +12,8 @@ use Rattle.pmp_encoding.specs.Perms.{bits_of}
 use Rattle.pmp_encoding.specs.declared.xlen.Xlen.{Xlen}
 use Rattle.pmp_encoding.specs.Widths.{address_bits, space_end}
 use Rattle.pmp_match.specs.declared.registers.Registers.{Registers}
-use Rattle.pmp_match.specs.Registers.{address_at, cfg_at}
+use Rattle.pmp_match.specs.Registers.{address_at, user_cfg_at}
 pub use Rattle.pmp_match.specs.Tor.{nowhere, tor_extent}
-
--- the configuration byte without L, bit 7, which says nothing of supervisor and user mode
-abbrev pub unlocked : ℕ → ℕ
-unlocked cfg = cfg % 2 ^ 7
 
 -- what a hart of that width keeps of an address register: bits 31:0 on RV32, and on RV64 bits 53:0,
 -- where bits 63:54 are zero, whatever was written
@@ -35,20 +31,20 @@ bottom_of registers place = if place == 0 then 0
 abbrev pub within : Xlen → Extent → Extent
 within xlen x = record { base = x.base; end = min x.end (space_end xlen); perm = x.perm }
 
--- the addresses that the entry of a place matches, and its permission: none where it is OFF; with
--- TOR those below the top and not below the bottom; with NA4 and NAPOT those of the block of the
--- pair
+-- the addresses that the entry of a place matches, and what it gives supervisor and user mode: none
+-- where it is OFF; with TOR those below the top and not below the bottom; with NA4 and NAPOT those
+-- of the block of the pair
 pub data IsExtentAt (registers : Registers) (place : ℕ) : Extent → Type 0 where
   off :
-      IsOff (unlocked (cfg_at registers place)) (kept registers.xlen (address_at registers place))
+      IsOff (user_cfg_at registers place) (kept registers.xlen (address_at registers place))
       → IsExtentAt registers place nowhere
   tor :
-      (perm : Perm) → unlocked (cfg_at registers place) ≡ 1 * 8 + bits_of perm
+      (perm : Perm) → user_cfg_at registers place ≡ 1 * 8 + bits_of perm
       → IsExtentAt registers place
       (tor_extent (bottom_of registers place) (kept registers.xlen (address_at registers place))
       perm)
   block :
-      (e : Entry) → MeansEntry (unlocked (cfg_at registers place))
+      (e : Entry) → MeansEntry (user_cfg_at registers place)
       (kept registers.xlen (address_at registers place)) e
       → IsExtentAt registers place (within registers.xlen (extent_of e))
 

@@ -1,10 +1,15 @@
 -- The PMP registers of a hart, entry by entry.
 use Rattle.std.specs.Prelude.{ℕ, zero, suc, ◌+◌, List, [], ◌∷◌, slice_index}
 use Rattle.pmp_match.specs.declared.registers.Registers.{Registers}
+use Rattle.pmp_match.specs.Smepmp.{user_cfg}
 
 -- the configuration byte of an entry
 abbrev pub cfg_at : Registers → ℕ → ℕ
 cfg_at registers place = slice_index registers.cfgs place
+
+-- the byte that supervisor and user mode see, by `mseccfg`
+abbrev pub user_cfg_at : Registers → ℕ → ℕ
+user_cfg_at registers place = user_cfg registers.security (cfg_at registers place)
 
 -- its address register
 abbrev pub address_at : Registers → ℕ → ℕ

@@ -2,13 +2,14 @@
 
 ghost use Rattle.std.specs.Prelude.{◌≡◌, ◌/◌, ◌^◌, ◌<◌, IfErr, IfNone, IfOk, IfSome};
 ghost use Rattle.pmp_encoding.specs.Extents.{extent_of};
-ghost use Rattle.pmp_match.specs.RegisterMatching.{AreExtents, IsExtentAt, bottom_of, kept, unlocked, within};
-ghost use Rattle.pmp_match.specs.Registers.{address_at, cfg_at};
+ghost use Rattle.pmp_match.specs.RegisterMatching.{AreExtents, IsExtentAt, bottom_of, kept, within};
+ghost use Rattle.pmp_match.specs.Registers.{address_at, cfg_at, user_cfg_at};
 ghost use Rattle.pmp_match.specs.Reserved.{IsDefined, IsFirstReserved, IsNamedReserved};
 ghost use Rattle.pmp_match.specs.Tor.{nowhere, tor_extent};
 
 use crate::registers::Registers;
 use crate::reserved::{Reserved, ReservedAt};
+use crate::smepmp::{Security, user_cfg};
 use pmp_encoding::{Entry, Extent, Perm, Xlen, decode};
 
 /// The extent that has no address.
@@ -85,11 +86,11 @@ fn tor_extent(bottom: u64, top: u64, perm: Perm) -> Extent
 }
 
 /// The reserved value of a configuration byte.
-fn reserved_of(cfg: u8) -> Option<Reserved>
-    ensures some { IfSome result (IsNamedReserved cfg) }
-    ensures none { IfNone result (IsDefined cfg) }
+fn reserved_of(security: Security, cfg: u8) -> Option<Reserved>
+    ensures some { IfSome result (IsNamedReserved security cfg) }
+    ensures none { IfNone result (IsDefined security cfg) }
 {
-    if cfg % 4 == 2 {
+    if !security.lockdown && cfg % 4 == 2 {
         Some(Reserved::Permission)
     } else if cfg / 32 % 4 != 0 {
         Some(Reserved::Bits)
@@ -101,10 +102,10 @@ fn reserved_of(cfg: u8) -> Option<Reserved>
 /// What an entry of the mode TOR matches.
 fn extent_of_range(registers: &Registers, place: usize, cfg: u8, top: u64) -> Extent
     requires place { place < 64 }
-    requires cfg { cfg ≡ unlocked (cfg_at registers.now place) }
+    requires cfg { cfg ≡ user_cfg_at registers.now place }
     requires top { top ≡ kept registers.now.xlen (address_at registers.now place) }
     requires tor { cfg / 8 ≡ 1 }
-    requires defined { IsDefined (cfg_at registers.now place) }
+    requires defined { IsDefined registers.now.security (cfg_at registers.now place) }
     ensures { IsExtentAt registers.now place result }
 {
     let bottom = bottom_of(registers, place);
@@ -117,10 +118,10 @@ fn extent_of_range(registers: &Registers, place: usize, cfg: u8, top: u64) -> Ex
 /// What the entry of a place matches, where it has no reserved value.
 fn extent_at(registers: &Registers, place: usize) -> Extent
     requires place { place < 64 }
-    requires defined { IsDefined (cfg_at registers.now place) }
+    requires defined { IsDefined registers.now.security (cfg_at registers.now place) }
     ensures { IsExtentAt registers.now place result }
 {
-    let cfg = registers.cfgs[place] % 128;
+    let cfg = user_cfg(registers.security, registers.cfgs[place]);
     let top = kept(registers.xlen, registers.addresses[place]);
     if cfg / 8 == 1 {
         return extent_of_range(registers, place, cfg, top);
@@ -139,7 +140,7 @@ pub fn extents_of(registers: &Registers) -> Result<[Extent; 64], ReservedAt>
 {
     let mut extents = [no_extent(); 64];
     for place in 0..64 {
-        if let Some(value) = reserved_of(registers.cfgs[place]) {
+        if let Some(value) = reserved_of(registers.security, registers.cfgs[place]) {
             return Err(ReservedAt { place, value });
         }
         extents[place] = extent_at(registers, place);

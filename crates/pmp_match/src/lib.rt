@@ -21,10 +21,14 @@
 //! An entry matches an [`Extent`] of addresses, by its mode: none where it is OFF; with TOR those from
 //! the address register of the entry before to before its own; with NA4 and NAPOT an aligned block.
 //! [`extents_of`] answers what each of the 64 entries matches, or the first entry that has a reserved
-//! value. The lock bit L says nothing of supervisor and user mode. Of an address register a hart of RV64
+//! value. Without Smepmp the lock bit L says nothing of supervisor and user mode. Of an address register a hart of RV64
 //! keeps bits 53:0, the others are zero there and are not looked at; one of RV32 keeps all 32, and has
 //! addresses below 2^34 alone. On a hart of sixteen entries the others are zero. Nothing here
 //! takes memory. (RISC-V Privileged Architecture, Physical Memory Protection)
+//!
+//! `mseccfg` of Smepmp changes what the bits L, R, W and X of an entry give ([`Security`]). The extents are those of supervisor and
+//! user mode; [`machine_perm`] answers what an entry gives machine mode, and [`machine_default`] what that may do where no
+//! entry matches. (RISC-V Privileged Architecture, Smepmp)
 //!
 //! What the layers above use: what supervisor and user mode may do under a list of extents, what it
 //! means for one to mean a view (`specs/Decision.antt`), and that a list of NA4 and NAPOT entries says
@@ -45,6 +49,7 @@ mod register_laws;
 mod registers;
 mod reserved;
 mod segments;
+mod smepmp;
 
 pub use access::{Access, Kind, Mode};
 pub use cause::Cause;
@@ -56,3 +61,4 @@ pub use register_laws::{extents_law, instance_law, registers_byte_law};
 pub use registers::Registers;
 pub use reserved::{Reserved, ReservedAt};
 pub use segments::Segments;
+pub use smepmp::{Security, machine_default, machine_perm};

@@ -24,7 +24,8 @@ pub fn extents_law()
     ensures one { (registers : Registers) (xs ys : List Extent)
         → AreExtents registers xs → AreExtents registers ys → xs ≡ ys }
     ensures defined { (registers : Registers) (xs : List Extent) → AreExtents registers xs
-        → (place : ℕ) → place < 64 → IsDefined (cfg_at registers place) }
+        → (place : ℕ) → place < 64
+        → IsDefined registers.security (cfg_at registers place) }
     ensures words { (registers : Registers) (xs : List Extent)
         → AreExtents registers xs → All IsWords xs }
     ensures inside { (registers : Registers) (xs : List Extent)
@@ -33,7 +34,7 @@ pub fn extents_law()
 
 /// A list of NA4 and NAPOT entries says of supervisor and user mode what its extents say; and so do
 /// registers that mean such a list, by which `decode` reads them, where the hart's address registers reach
-/// it. Those of RV64 reach each list.
+/// it, whatever `mseccfg` is. Those of RV64 reach each list.
 pub fn instance_law()
     ensures decision { (entries : List Entry) (a : Access) → a.mode ≢ Machine
         → Permits (matched_by entries) a ↔ Allows entries a }

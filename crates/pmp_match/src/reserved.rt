@@ -3,7 +3,7 @@
 /// A value that the architecture keeps for a later use. It says nothing of any access.
 #[derive(Clone, Copy, Debug, PartialEq, Eq)]
 pub enum Reserved {
-    /// W without R.
+    /// W without R, where `mseccfg` does not set MML.
     Permission,
     /// A bit of 6:5.
     Bits,

@@ -9,5 +9,5 @@ abbrev pub invariant-loop-place : goal.invariant-loop-place
 invariant-loop-place l = record {
   room : length l.extents ≡ 64;
   each : AreExtentsFrom l.registers 0 (take l.place l.extents);
-  below : (place : ℕ) → place < l.place → IsDefined (cfg_at l.registers place);
+  below : (place : ℕ) → place < l.place → IsDefined l.registers.security (cfg_at l.registers place);
 }
