@@ -6,8 +6,8 @@ use Rattle.program_tasks.specs.declared.task.Task.{Task}
 use Rattle.program_tasks.specs.declared.task.Task.TheVariants as tasks
 use Rattle.program_tasks.specs.declared.task.TaskOutline.{TaskOutline}
 
--- what each task is: its subcommand, what it reads first and after that, and the certificate that it
--- writes
+-- what each task is: its subcommand, what it reads first and after that, and the certificate that
+-- it writes
 abbrev pub outline_of : Task → TaskOutline
 outline_of (tasks.Run platform trace measure) =
     record { subcommand = subcommands.Run; first = platform; second = Some trace; cert = None }
