@@ -16,7 +16,7 @@
                                  - the version that CHANGELOG.md begins with is not the program's,
                                  - a source file or a file of definitions does not begin with a line that says what it is,
                                  - a clause begins with a line of more than 100 bytes, or has one of more than 100 characters,
-                                 - a line of a crate's specs/ has more than 100 characters,
+                                 - a line of a crate's specs/ has more than 100 characters, or one of its proofs/ more than 160,
                                  - a sentence of a document that people wrote has more than 35 words,
                                  - a document names a file of this repository that is not there,
                                  - firmware/README.md's table of lines is not what firmware_lines.py counts,
@@ -42,8 +42,9 @@ MADE = {"docs/DEFINITIONS.md", "docs/HEADLINE.md", "CHANGELOG.md"}
 WRITTEN = [it for it in DOCUMENTS if it not in MADE]
 # The group of crates that are no part of the product.
 TESTS = "Tests and examples"
-# Lines of definitions and clauses have at most so many characters.
+# Lines of definitions and clauses have at most this many characters, and those of proofs this many.
 WIDTH = 100
+PROOF_WIDTH = 160
 
 
 def lines():
@@ -236,6 +237,13 @@ def widths():
                 depth += line.count("{") - line.count("}")
 
 
+def proof_widths():
+    """Whether each line of a proof is narrow, but for lists of imports, which `rt fmt` sets."""
+    for path in sorted(TOP.glob("crates/*/proofs/**/*.antt")):
+        for number, line in enumerate(path.read_text().split("\n"), 1):
+            yield f"{path.relative_to(TOP)}:{number}: the line is too wide", len(line) <= PROOF_WIDTH or line.startswith("use ")
+
+
 def sentences():
     """Whether each sentence of the documents that people wrote is of at most 35 words; a cell of a table ends one."""
     for document in WRITTEN:
@@ -307,6 +315,7 @@ def main():
         "the version": list(version()),
         "first lines": list(first_lines()),
         "widths of clauses": list(widths()),
+        "widths of proofs": list(proof_widths()),
         "sentences": list(sentences()),
         "the files that documents name": list(files_named()),
         "the numbers of choices": list(decisions()),

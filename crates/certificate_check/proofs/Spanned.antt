@@ -56,7 +56,8 @@ shared number ones above split =
     let low : number ≡ above * 2 ^ (ones + 1) + (2 ^ ones - 1) = omega (arith, split, some) in
     let apart : bit_and (2 ^ ones - 1) (2 ^ ones) ≡ 0 = and_pow (2 ^ ones - 1) ones
     ∙ no_times (bit_at (2 ^ ones - 1) ones) (2 ^ ones) (bit_at_above (2 ^ ones - 1) ones ones (omega (arith, some)) (omega arith)) in
-    let parts : bit_and (above * 2 ^ (ones + 1) + (2 ^ ones - 1)) (above * 2 ^ (ones + 1) + 2 ^ ones) ≡ bit_and above above * 2 ^ (ones + 1) + bit_and (2 ^ ones - 1) (2 ^ ones) =
+    let parts : bit_and (above * 2 ^ (ones + 1) + (2 ^ ones - 1)) (above * 2 ^ (ones + 1) + 2 ^ ones) ≡ bit_and above above * 2 ^ (ones + 1) + bit_and
+    (2 ^ ones - 1) (2 ^ ones) =
     and_block (ones + 1) above above (2 ^ ones - 1) (2 ^ ones) (omega (arith, double, some)) (omega (arith, double, some)) in
     let itself : bit_and above above * 2 ^ (ones + 1) ≡ above * 2 ^ (ones + 1) = ap (λ n. n * 2 ^ (ones + 1)) (and_itself above) in
     ap₂ bit_and low split ∙ parts ∙ omega (arith, itself, apart)

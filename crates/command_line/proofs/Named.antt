@@ -50,7 +50,13 @@ not_named name other =
           differs name _ (other Judge),
           (
             differs name _ (other Check),
-            (differs name _ (other Show), (differs name _ (other Audit), (differs name _ (other Map), (differs name _ (other Lint), (differs name _ (other Measure), tt))))),
+            (
+              differs name _ (other Show),
+              (
+                differs name _ (other Audit),
+                (differs name _ (other Map), (differs name _ (other Lint), (differs name _ (other Measure), tt))),
+              ),
+            ),
           ),
         ),
       ),

@@ -98,7 +98,8 @@ host_few table is =
     let devices : HasFewRuns (device_perm table.layout.devices) (2 * length table.layout.devices) = devices_few table.layout.devices in
     let platform : HasFewRuns (platform_perm table.layout) (2 * length table.layout.ram + 2 * length table.layout.devices) =
     memory_few table.layout.ram (device_perm table.layout.devices) (2 * length table.layout.devices) devices in
-    let monitor : HasFewRuns (λ page. cond (has_page table.layout.monitor page) NoAccess (platform_perm table.layout page)) (2 * length table.layout.ram + 2 * length table.layout.devices + 2) =
+    let monitor : HasFewRuns (λ page. cond (has_page table.layout.monitor page) NoAccess (platform_perm table.layout page))
+    (2 * length table.layout.ram + 2 * length table.layout.devices + 2) =
     two_runs_more (platform_perm table.layout) (λ page. cond (has_page table.layout.monitor page) NoAccess (platform_perm table.layout page))
     (table.layout.monitor.0 / 4096)
     (table.layout.monitor.1 / 4096) NoAccess (2 * length table.layout.ram + 2 * length table.layout.devices) (λ page small. refl) platform in

@@ -180,8 +180,11 @@ set_is : (s new : MachineState) (hart id n value : ℕ) (e : Enclave) → RunsOn
     → new.registers (EnclaveOf id) ≡ with_x (s.registers (EnclaveOf id)) n value
 set_is s new hart id n value e r is =
     let who = runner_is s hart id e r in
-    let at : new.registers (EnclaveOf id) ≡ (if is_same (EnclaveOf id) (runner_of hart (s.worlds hart)) then with_x (s.registers (runner_of hart (s.worlds hart))) n value else s.registers (EnclaveOf id)) = ap (λ x. x.registers (EnclaveOf id)) is in
-    let there : (if is_same (EnclaveOf id) (runner_of hart (s.worlds hart)) then with_x (s.registers (runner_of hart (s.worlds hart))) n value else s.registers (EnclaveOf id)) ≡ (if id == id then with_x (s.registers (EnclaveOf id)) n value else s.registers (EnclaveOf id)) =
+    let at : new.registers (EnclaveOf id) ≡ (if is_same (EnclaveOf id) (runner_of hart (s.worlds hart)) then with_x
+    (s.registers (runner_of hart (s.worlds hart))) n value else s.registers (EnclaveOf id)) = ap (λ x. x.registers (EnclaveOf id)) is in
+    let there : (if is_same (EnclaveOf id) (runner_of hart (s.worlds hart)) then with_x
+    (s.registers (runner_of hart (s.worlds hart))) n value else s.registers (EnclaveOf id)) ≡
+    (if id == id then with_x (s.registers (EnclaveOf id)) n value else s.registers (EnclaveOf id)) =
     ap (λ w. if is_same (EnclaveOf id) w then with_x (s.registers w) n value else s.registers (EnclaveOf id)) who in
     at ∙ there ∙ ap (λ b. if b then with_x (s.registers (EnclaveOf id)) n value else s.registers (EnclaveOf id)) (eq-eqb id id refl)
 

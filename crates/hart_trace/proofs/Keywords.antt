@@ -38,7 +38,8 @@ begin (a ∷ b ∷ c ∷ d ∷ e ∷ f ∷ []) first p q r s t m begins hp hq hr
 begin (a ∷ b ∷ c ∷ d ∷ e ∷ f ∷ g ∷ []) first p q r s t m begins hp hq hr hs ht same = absurd (omega (arith, begins.0))
 begin (a ∷ b ∷ c ∷ d ∷ e ∷ f ∷ g ∷ h ∷ rest) first p q r s t m begins hp hq hr hs ht is =
     let bytes = begins.2 in
-    let same : a + 256 * (b + 256 * (c + 256 * (d + 256 * (e + 256 * (f + 256 * (g + 256 * h)))))) ≡ p + 256 * (q + 256 * (r + 256 * (s + 256 * (t + 256 * m)))) = omega (arith, begins.1, is) in
+    let same : a + 256 * (b + 256 * (c + 256 * (d + 256 * (e + 256 * (f + 256 * (g + 256 * h)))))) ≡ p + 256 *
+    (q + 256 * (r + 256 * (s + 256 * (t + 256 * m)))) = omega (arith, begins.1, is) in
     let all = five a b c d e (f + 256 * (g + 256 * h)) p q r s t m (bytes 0) (bytes 1) (bytes 2) (bytes 3) (bytes 4) hp hq hr hs ht same in (
       rw (all.0, all.1, all.2, all.3, all.4) refl,
       λ n more. rw (lowest f (g + 256 * h) 32 n (bytes 5) (omega arith) (all.5 ∙ more)).0 refl,

@@ -11,7 +11,8 @@ pub rest_from : (i : ℕ) (settings : List Numbered) → take (length settings -
 rest_from i settings = grind (arith, common_steps)
 
 pub name_it :
-    (whole : List Run) (kept settings : List Numbered) (i : ℕ) (d : Numbered) (named : List Named) (left : List Numbered) (redundant : Bool) → i < length settings
+    (whole : List Run) (kept settings : List Numbered) (i : ℕ) (d : Numbered) (named : List Named) (left : List Numbered) (redundant : Bool)
+    → i < length settings
     → IsRedundantDenial kept (get_or settings i d).setting redundant → SetTo [] (kept ++ drop (i + 1) settings) whole
     → AreNamed whole kept (drop (i + 1) settings) named left
     → AreNamed whole kept (drop i settings) (record { line = (get_or settings i d).line; redundant = redundant } ∷ named) left

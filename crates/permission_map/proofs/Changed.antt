@@ -144,7 +144,8 @@ replaced_idle old new first end from to perm start stop order rise cut turn is s
     let j = ap length (drop-drop (to - from) from old) in
     let next : from + (to - from) ≡ to = omega (arith, order) in
     let k = ap (λ n. length (drop n old)) next in
-    let l : length (turns new) ≡ length (turns (take from old) ++ (option_to_list start ++ (option_to_list stop ++ turns_after (standing NoAccess (take to old)) (drop to old)))) = ap length made.turns_are in
+    let l : length (turns new) ≡ length (turns (take from old) ++ (option_to_list start ++
+    (option_to_list stop ++ turns_after (standing NoAccess (take to old)) (drop to old)))) = ap length made.turns_are in
     let m = length-append (turns (take from old)) (option_to_list start ++ (option_to_list stop ++ back)) in
     let n = length-append (option_to_list start) (option_to_list stop ++ back) in
     let o = length-append (option_to_list stop) back in

@@ -179,7 +179,8 @@ few_wanted runs first count perm are some small =
     let order : low.0 ≤ high.0 = in_order runs from to first (first + count) no_run low.1.inside low.1.front high.1.rest (omega arith) in
     let inside : high.0 ≤ length runs = high.1.inside in
     let lone : length (option_to_list new.0) ≤ 1 = new.2 in
-    let counted : length (take low.0 runs ++ (option_to_list below.rest ++ (option_to_list new.0 ++ (option_to_list above.rest ++ drop high.0 runs)))) ≤ length runs + 2 =
+    let counted : length (take low.0 runs ++ (option_to_list below.rest ++
+    (option_to_list new.0 ++ (option_to_list above.rest ++ drop high.0 runs)))) ≤ length runs + 2 =
     simp (length-append, length-take, length-drop)
     (⊎_elim
     (λ apart. ⊎_elim (λ b. ⊎_elim (λ a. omega arith) (λ a. omega arith) above.few) (λ b. ⊎_elim (λ a. omega arith) (λ a. omega arith) above.few) below.few)

@@ -59,7 +59,12 @@ entries_meaning entries view = same_meaning (map extent_of entries) entries (ent
 
 pub off_extent : (registers : Registers) (place : ℕ) → IsOff (cfg_at registers place) (address_at registers place) → IsExtentAt registers place nowhere
 off_extent registers place o =
-    off (record { perm = o.perm; bits = whole_cfg registers.security _ _ (off_faultless _ _ o) ∙ o.bits; small = kept_small registers.xlen (address_at registers place) })
+    off (record {
+      perm = o.perm;
+      bits = whole_cfg registers.security _ _ (off_faultless _ _ o) ∙ o.bits;
+      small = kept_small registers.xlen
+          (address_at registers place);
+    })
 
 pub entry_extent : (registers : Registers) (place : ℕ) (e : Entry) → MeansEntry (cfg_at registers place) (address_at registers place) e
     → e.region.base + 2 ^ e.region.log2 ≤ space_end registers.xlen → IsExtentAt registers place (extent_of e)

@@ -94,7 +94,8 @@ defined_from : (registers : Registers) (first : ℕ) (xs : List Extent) → AreE
 defined_from registers first [] are place low high = absurd (omega (arith, low, high))
 defined_from registers first (x ∷ xs) are place low high =
     ⊎_elim (λ more. defined_from registers (first + 1) xs are.1 place (omega (arith, more)) (omega (arith, high)))
-    (λ less. let same : first ≡ place = omega (arith, low, less) in subst (λ p. IsDefined registers.security (cfg_at registers p)) same (extent_defined registers first x are.0))
+    (λ less. let same : first ≡ place = omega (arith, low, less) in subst (λ p. IsDefined registers.security (cfg_at registers p)) same
+    (extent_defined registers first x are.0))
     (cases_lt first place)
 
 pub all_defined : (registers : Registers) (xs : List Extent) → AreExtents registers xs → (place : ℕ) → place < 64
@@ -218,7 +219,8 @@ no_reserved s cfg defined (inr (inr more)) = omega (arith, more)
 pub one_defined : (registers : Registers) (n : ℕ) → ((place : ℕ) → place < n → IsDefined registers.security (cfg_at registers place))
     → IsDefined registers.security (cfg_at registers n) → (place : ℕ) → place < n + 1 → IsDefined registers.security (cfg_at registers place)
 one_defined registers n below here place less =
-    ⊎_elim (λ under. below place under) (λ over. let same : n ≡ place = omega (arith, over, less) in subst (λ p. IsDefined registers.security (cfg_at registers p)) same here)
+    ⊎_elim (λ under. below place under) (λ over. let same : n ≡ place = omega (arith, over, less) in subst
+    (λ p. IsDefined registers.security (cfg_at registers p)) same here)
     (cases_lt place n)
 
 -- one entry more behind the first ones

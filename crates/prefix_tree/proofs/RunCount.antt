@@ -57,7 +57,8 @@ starts_over-append v before at (suc m) n =
     let moved : starts_over v (last_over v (v at) (suc at) m) (suc at + m) n ≡ starts_over v (last_over v (v at) (suc at) m) (at + suc m) n =
     ap (λ a. starts_over v (last_over v (v at) (suc at) m) a n) f in
     ap (starts_over v before at) e
-    ∙ (let sum : starts before (v at) + starts_over v (v at) (suc at) (m + n) ≡ starts before (v at) + starts_over v (v at) (suc at) m + starts_over v (last_over v (v at) (suc at) m) (at + suc m) n = omega arith in sum)
+    ∙ (let sum : starts before (v at) + starts_over v (v at) (suc at) (m + n) ≡ starts before (v at) + starts_over v (v at) (suc at) m + starts_over v
+    (last_over v (v at) (suc at) m) (at + suc m) n = omega arith in sum)
 
 last_over-append :
     (v : ℕ → Perm) (before : Perm) (at m n : ℕ) → last_over v before at (m + n) ≡ last_over v (last_over v before at m) (at + m) n

@@ -211,7 +211,8 @@ goes_on does old now new reader count before after held middle holds h said is w
 -- the last line is interpreted and answered
 pub ends : {size : ℕ} {S : Type 0} (does : Meaning S) (old now new : S) (reader : LineReader size) (count : ℕ)
     (before after held middle holds : Option (List ℕ)) (h : Handed does old now reader count before after held middle) (said : Option (List ℕ))
-    → does now count (line_of reader) said new → Appends middle holds (answer_bytes said) → ended_of reader ≡ true → DoesAll does old new before after held holds
+    → does now count (line_of reader) said new → Appends middle holds (answer_bytes said) → ended_of reader ≡ true
+    → DoesAll does old new before after held holds
 ends does old now new reader count before after held middle holds h said is w closed =
     let g = handed_grown does old now new reader count before after held middle h said is in
     elim h.ends [

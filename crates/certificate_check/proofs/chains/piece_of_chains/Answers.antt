@@ -47,7 +47,8 @@ loop-i-preserved c =
                 let chains = subst (λ (xs : List ℕ). AreChains spans (start_of c.args.ends.now c.loop-i.i) xs (count_in c.args.entries.now)) split
                 (c.loop-i.invariant.chains spans reads) in
                 let place : (d : ChainCursor)
-                → IsPlace spans (start_of c.args.ends.now c.loop-i.i) (slice_index c.args.ends.now c.loop-i.i) c.args.page (get_or c.loop-i.places c.loop-i.i d) =
+                → IsPlace spans (start_of c.args.ends.now c.loop-i.i) (slice_index c.args.ends.now c.loop-i.i) c.args.page
+                (get_or c.loop-i.places c.loop-i.i d) =
                 λ d. (c.loop-i.invariant.places spans reads c.loop-i.i d c.loop-i-test.true) in
                 let next = place_open spans _ _ _ _ (place _) (ahead spans _ _ _ _ (place _) w.if-page-places.true) in
                 (chain_clear_later spans c.args.page c.loop-i.end _ (start_of c.args.ends.now c.loop-i.i) _ _ next.0 chains.0 next.1
@@ -68,7 +69,8 @@ loop-i-preserved c =
                 let are = w.go_on.ensures.value spans reads c.args.ends.now (sym w.start_of.ensures) refl c.loop-i-test.true
                 (c.loop-i.invariant.places spans reads) in
                 let place : (d : ChainCursor)
-                → IsPlace spans (start_of c.args.ends.now c.loop-i.i) (slice_index c.args.ends.now c.loop-i.i) c.args.page (get_or w.go_on.new.places c.loop-i.i d) =
+                → IsPlace spans (start_of c.args.ends.now c.loop-i.i) (slice_index c.args.ends.now c.loop-i.i) c.args.page
+                (get_or w.go_on.new.places c.loop-i.i d) =
                 λ d. (are c.loop-i.i d c.loop-i-test.true) in
                 let past = ended_before spans _ _ _ _ (place _) w.if-page-places-2.false in
                 let order = w.go_on.ensures.all _ w.if-page-places-2.false in
@@ -94,7 +96,8 @@ loop-i-preserved c =
                 let are = w.go_on.ensures.value spans reads c.args.ends.now (sym w.start_of.ensures) refl c.loop-i-test.true
                 (c.loop-i.invariant.places spans reads) in
                 let place : (d : ChainCursor)
-                → IsPlace spans (start_of c.args.ends.now c.loop-i.i) (slice_index c.args.ends.now c.loop-i.i) c.args.page (get_or w.go_on.new.places c.loop-i.i d) =
+                → IsPlace spans (start_of c.args.ends.now c.loop-i.i) (slice_index c.args.ends.now c.loop-i.i) c.args.page
+                (get_or w.go_on.new.places c.loop-i.i d) =
                 λ d. (are c.loop-i.i d c.loop-i-test.true) in
                 let next = place_open spans _ _ _ _ (place _) w.if-page-places-2.true in
                 (chain_clear_later spans c.args.page c.loop-i.end _ (start_of c.args.ends.now c.loop-i.i) _ _ next.0 chains.0 next.1

@@ -193,7 +193,8 @@ place_chain-loop-depth-preserved g t c =
     let at = c.place_at-place.ensures in
     let few : length (take (length l.left.now - 1) l.left.now) ≤ length c.args.costs.now = omega
     (arith, i.few, length-take (length l.left.now - 1) l.left.now) in
-    let step : IsStep c.args.pages.log2 c.args.pages.first c.args.chain l.depth l.from c.halves_perm-perm.result c.sibling_of-own.result l.entries c.push_entry_in_order.new.entries c.push_entry.new.entries =
+    let step : IsStep c.args.pages.log2 c.args.pages.first c.args.chain l.depth l.from c.halves_perm-perm.result c.sibling_of-own.result l.entries
+    c.push_entry_in_order.new.entries c.push_entry.new.entries =
     record {
       k = c.part.result.log2;
       first = c.part.result.first;

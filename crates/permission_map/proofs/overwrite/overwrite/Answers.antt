@@ -22,9 +22,11 @@ returns-then-count-eq0 c =
 
 pub returns : goal.returns
 returns c =
-    let low : IsBelow c.args.runs.now.items c.args.first c.args.perm (take c.clear_of-from.result c.args.runs.now.items ++ option_to_list c.rest_below-below.result.0) c.rest_below-below.result.1 =
+    let low : IsBelow c.args.runs.now.items c.args.first c.args.perm (take c.clear_of-from.result c.args.runs.now.items
+    ++ option_to_list c.rest_below-below.result.0) c.rest_below-below.result.1 =
     rw c.deref-3.ensures.value at c.rest_below-below.ensures in
-    let high : IsAbove c.args.runs.now.items (c.args.first + c.args.count) c.args.perm (option_to_list c.rest_above-above.result.0 ++ drop c.begun-to.result c.args.runs.now.items) c.rest_above-above.result.1 =
+    let high : IsAbove c.args.runs.now.items (c.args.first + c.args.count) c.args.perm
+    (option_to_list c.rest_above-above.result.0 ++ drop c.begun-to.result c.args.runs.now.items) c.rest_above-above.result.1 =
     rw c.deref-4.ensures.value at c.rest_above-above.ensures in (
       _,
       wanted_is c.args.runs.now.items c.args.first c.args.count c.clear_of-from.result c.begun-to.result c.args.perm c.rest_below-below.result.1

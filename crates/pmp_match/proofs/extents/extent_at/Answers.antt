@@ -13,4 +13,5 @@ returns-in-Ok-Some c = rw (c.within.ensures, c.extent_of.ensures) (block c.in-Ok
     (rw (c.user_cfg-cfg.ensures.value, c.kept-top.ensures.value, c.in-Ok-Some.field-0-is) at c.in-Ok-Some.ensures.meaning))
 
 pub returns-in-Ok-None : goal.returns-in-Ok-None
-returns-in-Ok-None c = rw c.no_extent.ensures (off (rw (c.user_cfg-cfg.ensures.value, c.kept-top.ensures.value, c.in-Ok-None.field-0-is) at c.in-Ok-None.ensures.meaning))
+returns-in-Ok-None c = rw c.no_extent.ensures
+    (off (rw (c.user_cfg-cfg.ensures.value, c.kept-top.ensures.value, c.in-Ok-None.field-0-is) at c.in-Ok-None.ensures.meaning))

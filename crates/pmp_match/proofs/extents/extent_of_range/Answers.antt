@@ -7,7 +7,8 @@ use Rattle.pmp_match.proofs.Matched.{no_reserved}
 use Rattle.pmp_match.proofs.extents.extent_of_range.Goals as goal
 
 pub unreachable-requires : goal.unreachable-requires
-unreachable-requires c = no_reserved c.args.registers.now.security (cfg_at c.args.registers.now c.args.place) c.requires.defined (rw c.requires.cfg at c.in-None.ensures.reserved.0 refl)
+unreachable-requires c = no_reserved c.args.registers.now.security (cfg_at c.args.registers.now c.args.place) c.requires.defined
+    (rw c.requires.cfg at c.in-None.ensures.reserved.0 refl)
 
 pub returns : goal.returns
 returns c =

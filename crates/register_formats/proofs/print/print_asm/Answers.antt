@@ -17,7 +17,8 @@ returns-in_err-print_asm_head g c =
       asm_text name xlen limit start entries,
       refl,
       in_first g.W.Sink.contents g.W.Sink.failures g.W.Sink.stalls
-          (asm_head xlen start (label_of name) (label_end name)) (asm_begin xlen limit start ++ rows_text (asm_address_row xlen start entries) 0 (length entries))
+          (asm_head xlen start (label_of name) (label_end name)) (asm_begin xlen limit start ++ rows_text (asm_address_row xlen start entries) 0
+          (length entries))
           (asm_words xlen limit start entries) (asm_end name) (rw c.label_of-label.ensures at
           (rw c.label_end-label_end.ensures at c.in_err-print_asm_head.ensures)),
     )
@@ -29,12 +30,15 @@ returns-in_err-print_section g c =
     let entries = c.args.entries.now in
     let start = c.args.first in
     let name = option_map (λ s. s.now) c.args.name in
-    let second : Breaks (asm_begin xlen limit start ++ rows_text (asm_address_row xlen start entries) 0 (length entries)) (writing g.W.Sink.contents g.W.Sink.failures g.W.Sink.stalls c.print_asm_head.new.out c.print_section.new.out) = rw c.begin-begin.ensures at (rw c.as_slice.ensures.value at c.in_err-print_section.ensures) in
+    let second : Breaks (asm_begin xlen limit start ++ rows_text (asm_address_row xlen start entries) 0 (length entries))
+    (writing g.W.Sink.contents g.W.Sink.failures g.W.Sink.stalls c.print_asm_head.new.out c.print_section.new.out) = rw c.begin-begin.ensures at
+    (rw c.as_slice.ensures.value at c.in_err-print_section.ensures) in
     rw (err_from_is_err_and c.from_residual-in_err-print_section.result c.from_residual-in_err-print_section.ensures.1).1 (
       asm_text name xlen limit start entries,
       refl,
       in_second g.W.Sink.contents g.W.Sink.failures g.W.Sink.stalls
-          (asm_head xlen start (label_of name) (label_end name)) (asm_begin xlen limit start ++ rows_text (asm_address_row xlen start entries) 0 (length entries))
+          (asm_head xlen start (label_of name) (label_end name)) (asm_begin xlen limit start ++ rows_text (asm_address_row xlen start entries) 0
+          (length entries))
           (asm_words xlen limit start entries) (asm_end name) (rw c.label_of-label.ensures at
           (rw c.label_end-label_end.ensures at c.in_ok-print_asm_head.ensures)) second,
     )
@@ -46,12 +50,15 @@ returns-in_err-print_asm_words g c =
     let entries = c.args.entries.now in
     let start = c.args.first in
     let name = option_map (λ s. s.now) c.args.name in
-    let second : TakesAll (asm_begin xlen limit start ++ rows_text (asm_address_row xlen start entries) 0 (length entries)) (writing g.W.Sink.contents g.W.Sink.failures g.W.Sink.stalls c.print_asm_head.new.out c.print_section.new.out) = rw c.begin-begin.ensures at (rw c.as_slice.ensures.value at c.in_ok-print_section.ensures) in
+    let second : TakesAll (asm_begin xlen limit start ++ rows_text (asm_address_row xlen start entries) 0 (length entries))
+    (writing g.W.Sink.contents g.W.Sink.failures g.W.Sink.stalls c.print_asm_head.new.out c.print_section.new.out) = rw c.begin-begin.ensures at
+    (rw c.as_slice.ensures.value at c.in_ok-print_section.ensures) in
     rw (err_from_is_err_and c.from_residual-in_err-print_asm_words.result c.from_residual-in_err-print_asm_words.ensures.1).1 (
       asm_text name xlen limit start entries,
       refl,
       in_third g.W.Sink.contents g.W.Sink.failures g.W.Sink.stalls
-          (asm_head xlen start (label_of name) (label_end name)) (asm_begin xlen limit start ++ rows_text (asm_address_row xlen start entries) 0 (length entries))
+          (asm_head xlen start (label_of name) (label_end name)) (asm_begin xlen limit start ++ rows_text (asm_address_row xlen start entries) 0
+          (length entries))
           (asm_words xlen limit start entries) (asm_end name) (rw c.label_of-label.ensures at
           (rw c.label_end-label_end.ensures at c.in_ok-print_asm_head.ensures)) second c.in_err-print_asm_words.ensures,
     )
@@ -63,12 +70,15 @@ returns-in_err-write_whole g c =
     let entries = c.args.entries.now in
     let start = c.args.first in
     let name = option_map (λ s. s.now) c.args.name in
-    let second : TakesAll (asm_begin xlen limit start ++ rows_text (asm_address_row xlen start entries) 0 (length entries)) (writing g.W.Sink.contents g.W.Sink.failures g.W.Sink.stalls c.print_asm_head.new.out c.print_section.new.out) = rw c.begin-begin.ensures at (rw c.as_slice.ensures.value at c.in_ok-print_section.ensures) in
+    let second : TakesAll (asm_begin xlen limit start ++ rows_text (asm_address_row xlen start entries) 0 (length entries))
+    (writing g.W.Sink.contents g.W.Sink.failures g.W.Sink.stalls c.print_asm_head.new.out c.print_section.new.out) = rw c.begin-begin.ensures at
+    (rw c.as_slice.ensures.value at c.in_ok-print_section.ensures) in
     rw (err_from_is_err_and c.from_residual-in_err-write_whole.result c.from_residual-in_err-write_whole.ensures.1).1 (
       asm_text name xlen limit start entries,
       refl,
       in_fourth g.W.Sink.contents g.W.Sink.failures g.W.Sink.stalls
-          (asm_head xlen start (label_of name) (label_end name)) (asm_begin xlen limit start ++ rows_text (asm_address_row xlen start entries) 0 (length entries))
+          (asm_head xlen start (label_of name) (label_end name)) (asm_begin xlen limit start ++ rows_text (asm_address_row xlen start entries) 0
+          (length entries))
           (asm_words xlen limit start entries) (asm_end name) (rw c.label_of-label.ensures at
           (rw c.label_end-label_end.ensures at c.in_ok-print_asm_head.ensures)) second c.in_ok-print_asm_words.ensures
           (rw c.end.ensures at c.in_err-write_whole.ensures),
@@ -81,11 +91,14 @@ returns g c =
     let entries = c.args.entries.now in
     let start = c.args.first in
     let name = option_map (λ s. s.now) c.args.name in
-    let second : TakesAll (asm_begin xlen limit start ++ rows_text (asm_address_row xlen start entries) 0 (length entries)) (writing g.W.Sink.contents g.W.Sink.failures g.W.Sink.stalls c.print_asm_head.new.out c.print_section.new.out) = rw c.begin-begin.ensures at (rw c.as_slice.ensures.value at c.in_ok-print_section.ensures) in (
+    let second : TakesAll (asm_begin xlen limit start ++ rows_text (asm_address_row xlen start entries) 0 (length entries))
+    (writing g.W.Sink.contents g.W.Sink.failures g.W.Sink.stalls c.print_asm_head.new.out c.print_section.new.out) = rw c.begin-begin.ensures at
+    (rw c.as_slice.ensures.value at c.in_ok-print_section.ensures) in (
       asm_text name xlen limit start entries,
       refl,
       all_four g.W.Sink.contents g.W.Sink.failures g.W.Sink.stalls
-          (asm_head xlen start (label_of name) (label_end name)) (asm_begin xlen limit start ++ rows_text (asm_address_row xlen start entries) 0 (length entries))
+          (asm_head xlen start (label_of name) (label_end name)) (asm_begin xlen limit start ++ rows_text (asm_address_row xlen start entries) 0
+          (length entries))
           (asm_words xlen limit start entries) (asm_end name) (rw c.label_of-label.ensures at
           (rw c.label_end-label_end.ensures at c.in_ok-print_asm_head.ensures)) second c.in_ok-print_asm_words.ensures
           (rw c.end.ensures at c.in_ok-write_whole.ensures),

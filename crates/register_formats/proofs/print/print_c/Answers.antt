@@ -13,7 +13,9 @@ returns-in_err-print_arrays g c =
     let limit = c.args.limit in
     let entries = c.args.entries.now in
     let start = c.args.first in
-    let first : Breaks (c_arrays (prefix_of name) (array_link name) xlen limit start entries) (writing g.W.Sink.contents g.W.Sink.failures g.W.Sink.stalls c.args.out.now c.print_arrays.new.out) = rw c.array_link-link.ensures at (rw c.prefix_of-prefix.ensures at c.in_err-print_arrays.ensures) in
+    let first : Breaks (c_arrays (prefix_of name) (array_link name) xlen limit start entries)
+    (writing g.W.Sink.contents g.W.Sink.failures g.W.Sink.stalls c.args.out.now c.print_arrays.new.out) = rw c.array_link-link.ensures at
+    (rw c.prefix_of-prefix.ensures at c.in_err-print_arrays.ensures) in
     rw (err_from_is_err_and c.from_residual.result c.from_residual.ensures.1).1 (
       c_text name xlen limit start entries,
       refl,
@@ -28,8 +30,12 @@ returns-in_err-print_loader g c =
     let limit = c.args.limit in
     let entries = c.args.entries.now in
     let start = c.args.first in
-    let first : TakesAll (c_arrays (prefix_of name) (array_link name) xlen limit start entries) (writing g.W.Sink.contents g.W.Sink.failures g.W.Sink.stalls c.args.out.now c.print_arrays.new.out) = rw c.array_link-link.ensures at (rw c.prefix_of-prefix.ensures at c.in_ok-print_arrays.ensures) in
-    let second : Breaks (c_loader (prefix_of name) (array_link name) xlen limit start (decimal (length entries))) (writing g.W.Sink.contents g.W.Sink.failures g.W.Sink.stalls c.print_arrays.new.out c.print_loader.new.out) = rw c.array_link-link.ensures at (rw c.prefix_of-prefix.ensures at (rw c.number_text-count.ensures at (rw c.as_slice.ensures.value at c.in_err-print_loader.ensures))) in
+    let first : TakesAll (c_arrays (prefix_of name) (array_link name) xlen limit start entries)
+    (writing g.W.Sink.contents g.W.Sink.failures g.W.Sink.stalls c.args.out.now c.print_arrays.new.out) = rw c.array_link-link.ensures at
+    (rw c.prefix_of-prefix.ensures at c.in_ok-print_arrays.ensures) in
+    let second : Breaks (c_loader (prefix_of name) (array_link name) xlen limit start (decimal (length entries)))
+    (writing g.W.Sink.contents g.W.Sink.failures g.W.Sink.stalls c.print_arrays.new.out c.print_loader.new.out) = rw c.array_link-link.ensures at
+    (rw c.prefix_of-prefix.ensures at (rw c.number_text-count.ensures at (rw c.as_slice.ensures.value at c.in_err-print_loader.ensures))) in
     rw (err_from_is_err_and c.from_residual-in_err-print_loader.result c.from_residual-in_err-print_loader.ensures.1).1
     (c_text name xlen limit start entries, refl, breaks_after g.W.Sink.contents g.W.Sink.failures g.W.Sink.stalls first second)
 
@@ -40,6 +46,10 @@ returns g c =
     let limit = c.args.limit in
     let entries = c.args.entries.now in
     let start = c.args.first in
-    let first : TakesAll (c_arrays (prefix_of name) (array_link name) xlen limit start entries) (writing g.W.Sink.contents g.W.Sink.failures g.W.Sink.stalls c.args.out.now c.print_arrays.new.out) = rw c.array_link-link.ensures at (rw c.prefix_of-prefix.ensures at c.in_ok-print_arrays.ensures) in
-    let second : TakesAll (c_loader (prefix_of name) (array_link name) xlen limit start (decimal (length entries))) (writing g.W.Sink.contents g.W.Sink.failures g.W.Sink.stalls c.print_arrays.new.out c.print_loader.new.out) = rw c.array_link-link.ensures at (rw c.prefix_of-prefix.ensures at (rw c.number_text-count.ensures at (rw c.as_slice.ensures.value at c.in_ok-print_loader.ensures))) in
+    let first : TakesAll (c_arrays (prefix_of name) (array_link name) xlen limit start entries)
+    (writing g.W.Sink.contents g.W.Sink.failures g.W.Sink.stalls c.args.out.now c.print_arrays.new.out) = rw c.array_link-link.ensures at
+    (rw c.prefix_of-prefix.ensures at c.in_ok-print_arrays.ensures) in
+    let second : TakesAll (c_loader (prefix_of name) (array_link name) xlen limit start (decimal (length entries)))
+    (writing g.W.Sink.contents g.W.Sink.failures g.W.Sink.stalls c.print_arrays.new.out c.print_loader.new.out) = rw c.array_link-link.ensures at
+    (rw c.prefix_of-prefix.ensures at (rw c.number_text-count.ensures at (rw c.as_slice.ensures.value at c.in_ok-print_loader.ensures))) in
     (c_text name xlen limit start entries, refl, takes_then g.W.Sink.contents g.W.Sink.failures g.W.Sink.stalls first second)

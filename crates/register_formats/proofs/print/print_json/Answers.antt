@@ -22,5 +22,6 @@ returns g c = (
       { words = c.words_printed-count.result; fits = c.words_printed-count.ensures.fits; too_many = c.words_printed-count.ensures.too_many; lines = refl },
   subst
       (λ name. TakesAll (json_text name c.args.xlen c.args.limit c.args.first c.args.entries.now c.words_printed-count.result)
-      (writing g.W.Sink.contents g.W.Sink.failures g.W.Sink.stalls c.args.out.now c.print_object.new.out)) c.as_bytes.ensures.value c.in_ok-print_object.ensures,
+      (writing g.W.Sink.contents g.W.Sink.failures g.W.Sink.stalls c.args.out.now c.print_object.new.out)) c.as_bytes.ensures.value
+      c.in_ok-print_object.ensures,
 )

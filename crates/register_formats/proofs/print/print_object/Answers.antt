@@ -13,7 +13,8 @@ returns-in_err-print_section g c =
     let xlen = c.args.xlen in
     let limit = c.args.limit in
     let start = c.args.first in
-    let first : Breaks (json_map_begin ++ rows_text (json_name_row name) 0 (length name)) (writing g.W.Sink.contents g.W.Sink.failures g.W.Sink.stalls c.args.out.now c.print_section.new.out) = c.in_err-print_section.ensures in
+    let first : Breaks (json_map_begin ++ rows_text (json_name_row name) 0 (length name))
+    (writing g.W.Sink.contents g.W.Sink.failures g.W.Sink.stalls c.args.out.now c.print_section.new.out) = c.in_err-print_section.ensures in
     rw (err_from_is_err_and c.from_residual.result c.from_residual.ensures.1).1
     (in_first g.W.Sink.contents g.W.Sink.failures g.W.Sink.stalls (json_map_begin ++ rows_text (json_name_row name) 0 (length name))
     (json_entries_begin xlen limit start ++ rows_text (json_entry_row xlen start entries) 0 (length entries))
@@ -26,8 +27,11 @@ returns-in_err-print_section-2 g c =
     let xlen = c.args.xlen in
     let limit = c.args.limit in
     let start = c.args.first in
-    let first : TakesAll (json_map_begin ++ rows_text (json_name_row name) 0 (length name)) (writing g.W.Sink.contents g.W.Sink.failures g.W.Sink.stalls c.args.out.now c.print_section.new.out) = c.in_ok-print_section.ensures in
-    let second : Breaks (json_entries_begin xlen limit start ++ rows_text (json_entry_row xlen start entries) 0 (length entries)) (writing g.W.Sink.contents g.W.Sink.failures g.W.Sink.stalls c.print_section.new.out c.print_section-2.new.out) = rw c.entries_begin-begin.ensures at (rw c.as_slice.ensures.value at c.in_err-print_section-2.ensures) in
+    let first : TakesAll (json_map_begin ++ rows_text (json_name_row name) 0 (length name))
+    (writing g.W.Sink.contents g.W.Sink.failures g.W.Sink.stalls c.args.out.now c.print_section.new.out) = c.in_ok-print_section.ensures in
+    let second : Breaks (json_entries_begin xlen limit start ++ rows_text (json_entry_row xlen start entries) 0 (length entries))
+    (writing g.W.Sink.contents g.W.Sink.failures g.W.Sink.stalls c.print_section.new.out c.print_section-2.new.out) =
+    rw c.entries_begin-begin.ensures at (rw c.as_slice.ensures.value at c.in_err-print_section-2.ensures) in
     rw (err_from_is_err_and c.from_residual-in_err-print_section-2.result c.from_residual-in_err-print_section-2.ensures.1).1
     (in_second g.W.Sink.contents g.W.Sink.failures g.W.Sink.stalls (json_map_begin ++ rows_text (json_name_row name) 0 (length name))
     (json_entries_begin xlen limit start ++ rows_text (json_entry_row xlen start entries) 0 (length entries))
@@ -40,9 +44,14 @@ returns-in_err-print_section-3 g c =
     let xlen = c.args.xlen in
     let limit = c.args.limit in
     let start = c.args.first in
-    let first : TakesAll (json_map_begin ++ rows_text (json_name_row name) 0 (length name)) (writing g.W.Sink.contents g.W.Sink.failures g.W.Sink.stalls c.args.out.now c.print_section.new.out) = c.in_ok-print_section.ensures in
-    let second : TakesAll (json_entries_begin xlen limit start ++ rows_text (json_entry_row xlen start entries) 0 (length entries)) (writing g.W.Sink.contents g.W.Sink.failures g.W.Sink.stalls c.print_section.new.out c.print_section-2.new.out) = rw c.entries_begin-begin.ensures at (rw c.as_slice.ensures.value at c.in_ok-print_section-2.ensures) in
-    let third : Breaks (json_words_begin ++ rows_text (json_word_row xlen start entries) 0 c.args.count) (writing g.W.Sink.contents g.W.Sink.failures g.W.Sink.stalls c.print_section-2.new.out c.print_section-3.new.out) = c.in_err-print_section-3.ensures in
+    let first : TakesAll (json_map_begin ++ rows_text (json_name_row name) 0 (length name))
+    (writing g.W.Sink.contents g.W.Sink.failures g.W.Sink.stalls c.args.out.now c.print_section.new.out) = c.in_ok-print_section.ensures in
+    let second : TakesAll (json_entries_begin xlen limit start ++ rows_text (json_entry_row xlen start entries) 0 (length entries))
+    (writing g.W.Sink.contents g.W.Sink.failures g.W.Sink.stalls c.print_section.new.out c.print_section-2.new.out) =
+    rw c.entries_begin-begin.ensures at (rw c.as_slice.ensures.value at c.in_ok-print_section-2.ensures) in
+    let third : Breaks (json_words_begin ++ rows_text (json_word_row xlen start entries) 0 c.args.count)
+    (writing g.W.Sink.contents g.W.Sink.failures g.W.Sink.stalls c.print_section-2.new.out c.print_section-3.new.out) =
+    c.in_err-print_section-3.ensures in
     rw (err_from_is_err_and c.from_residual-in_err-print_section-3.result c.from_residual-in_err-print_section-3.ensures.1).1
     (in_third g.W.Sink.contents g.W.Sink.failures g.W.Sink.stalls (json_map_begin ++ rows_text (json_name_row name) 0 (length name))
     (json_entries_begin xlen limit start ++ rows_text (json_entry_row xlen start entries) 0 (length entries))
@@ -55,9 +64,14 @@ returns-in_err-write_whole g c =
     let xlen = c.args.xlen in
     let limit = c.args.limit in
     let start = c.args.first in
-    let first : TakesAll (json_map_begin ++ rows_text (json_name_row name) 0 (length name)) (writing g.W.Sink.contents g.W.Sink.failures g.W.Sink.stalls c.args.out.now c.print_section.new.out) = c.in_ok-print_section.ensures in
-    let second : TakesAll (json_entries_begin xlen limit start ++ rows_text (json_entry_row xlen start entries) 0 (length entries)) (writing g.W.Sink.contents g.W.Sink.failures g.W.Sink.stalls c.print_section.new.out c.print_section-2.new.out) = rw c.entries_begin-begin.ensures at (rw c.as_slice.ensures.value at c.in_ok-print_section-2.ensures) in
-    let third : TakesAll (json_words_begin ++ rows_text (json_word_row xlen start entries) 0 c.args.count) (writing g.W.Sink.contents g.W.Sink.failures g.W.Sink.stalls c.print_section-2.new.out c.print_section-3.new.out) = c.in_ok-print_section-3.ensures in
+    let first : TakesAll (json_map_begin ++ rows_text (json_name_row name) 0 (length name))
+    (writing g.W.Sink.contents g.W.Sink.failures g.W.Sink.stalls c.args.out.now c.print_section.new.out) = c.in_ok-print_section.ensures in
+    let second : TakesAll (json_entries_begin xlen limit start ++ rows_text (json_entry_row xlen start entries) 0 (length entries))
+    (writing g.W.Sink.contents g.W.Sink.failures g.W.Sink.stalls c.print_section.new.out c.print_section-2.new.out) =
+    rw c.entries_begin-begin.ensures at (rw c.as_slice.ensures.value at c.in_ok-print_section-2.ensures) in
+    let third : TakesAll (json_words_begin ++ rows_text (json_word_row xlen start entries) 0 c.args.count)
+    (writing g.W.Sink.contents g.W.Sink.failures g.W.Sink.stalls c.print_section-2.new.out c.print_section-3.new.out) =
+    c.in_ok-print_section-3.ensures in
     rw (err_from_is_err_and c.from_residual-in_err-write_whole.result c.from_residual-in_err-write_whole.ensures.1).1
     (in_fourth g.W.Sink.contents g.W.Sink.failures g.W.Sink.stalls (json_map_begin ++ rows_text (json_name_row name) 0 (length name))
     (json_entries_begin xlen limit start ++ rows_text (json_entry_row xlen start entries) 0 (length entries))
@@ -70,9 +84,14 @@ returns g c =
     let xlen = c.args.xlen in
     let limit = c.args.limit in
     let start = c.args.first in
-    let first : TakesAll (json_map_begin ++ rows_text (json_name_row name) 0 (length name)) (writing g.W.Sink.contents g.W.Sink.failures g.W.Sink.stalls c.args.out.now c.print_section.new.out) = c.in_ok-print_section.ensures in
-    let second : TakesAll (json_entries_begin xlen limit start ++ rows_text (json_entry_row xlen start entries) 0 (length entries)) (writing g.W.Sink.contents g.W.Sink.failures g.W.Sink.stalls c.print_section.new.out c.print_section-2.new.out) = rw c.entries_begin-begin.ensures at (rw c.as_slice.ensures.value at c.in_ok-print_section-2.ensures) in
-    let third : TakesAll (json_words_begin ++ rows_text (json_word_row xlen start entries) 0 c.args.count) (writing g.W.Sink.contents g.W.Sink.failures g.W.Sink.stalls c.print_section-2.new.out c.print_section-3.new.out) = c.in_ok-print_section-3.ensures in
+    let first : TakesAll (json_map_begin ++ rows_text (json_name_row name) 0 (length name))
+    (writing g.W.Sink.contents g.W.Sink.failures g.W.Sink.stalls c.args.out.now c.print_section.new.out) = c.in_ok-print_section.ensures in
+    let second : TakesAll (json_entries_begin xlen limit start ++ rows_text (json_entry_row xlen start entries) 0 (length entries))
+    (writing g.W.Sink.contents g.W.Sink.failures g.W.Sink.stalls c.print_section.new.out c.print_section-2.new.out) =
+    rw c.entries_begin-begin.ensures at (rw c.as_slice.ensures.value at c.in_ok-print_section-2.ensures) in
+    let third : TakesAll (json_words_begin ++ rows_text (json_word_row xlen start entries) 0 c.args.count)
+    (writing g.W.Sink.contents g.W.Sink.failures g.W.Sink.stalls c.print_section-2.new.out c.print_section-3.new.out) =
+    c.in_ok-print_section-3.ensures in
     all_four g.W.Sink.contents g.W.Sink.failures g.W.Sink.stalls (json_map_begin ++ rows_text (json_name_row name) 0 (length name))
     (json_entries_begin xlen limit start ++ rows_text (json_entry_row xlen start entries) 0 (length entries))
     (json_words_begin ++ rows_text (json_word_row xlen start entries) 0 c.args.count) (codes "\n  ]\n}\n") first second third c.in_ok-write_whole.ensures

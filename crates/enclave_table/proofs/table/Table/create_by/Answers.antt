@@ -45,7 +45,8 @@ returns-in_err-list-clause-refused g c =
     let digests : Create → List ℕ = g.D.Digests.digest_of c.args.digests.now in
     handed_on c.from_residual-in_err-list.result c.in_err-list.field-0.0 (RefusesBy (create_checks old c.args.world (parts_of c.args.asked))
     (OutgrowsByCreate digests old c.args.asked)) c.from_residual-in_err-list.ensures.1
-    (enclave_want digests old c.args.world c.args.asked c.normalized-parts.result c.limit.result c.in_err-list.field-0.0 c.normalized-parts.ensures c.limit.ensures
+    (enclave_want digests old c.args.world c.args.asked c.normalized-parts.result c.limit.result c.in_err-list.field-0.0 c.normalized-parts.ensures
+    c.limit.ensures
     c.in_ok-id.ensures.passes c.in_err-list.ensures.want)
 
 pub place-requires-clause-kept : goal.place-requires-clause-kept

@@ -36,7 +36,8 @@ returns-clause-effect c =
     let mid = c.wake.new.self in
     let new = state_in c.happen.new.self in
     let hart = c.args.hart in
-    let met_there : (list : List Entry) → MeetsList (state_in old) (kept_by old.monitor) (bank_in old) hart list → (bank : Bank) × (bank_in mid hart ≡ Some bank) × HasList bank list =
+    let met_there : (list : List Entry) → MeetsList (state_in old) (kept_by old.monitor) (bank_in old) hart list → (bank : Bank) ×
+    (bank_in mid hart ≡ Some bank) × HasList bank list =
     λ list meets. met (state_in old) (kept_by old.monitor) (bank_in old) (bank_in mid) hart list meets c.wake.ensures.woken
     (λ was. ap (λ bs. slice_get bs hart) (c.wake.ensures.asleep was)) in
     subst (λ s. DoesBy (MeetsList (state_in old) (kept_by old.monitor) (bank_in old) hart) c.args.event s hart c.happen.result new) c.wake.ensures.state
