@@ -1,6 +1,6 @@
 -- What a range that was set, or refused, says of the runs that were wanted.
 use Rattle.std.proofs.Common.{◌≡◌, ℕ, ◌+◌, ◌-◌, ◌^◌, ◌<◌, ◌≤◌, ◌↔◌, ⊎_elim, List, ◌++◌, length, take, drop, get_or, All, Result, Ok, Err, Option}
-use Rattle.std.proofs.Common.{option_to_list, refl, sym, ap, ◌∙◌, arith}
+use Rattle.std.proofs.Common.{option_to_list, refl, sym, ap, subst, ◌∙◌, arith}
 use Rattle.std.proofs.lemmas.Bool.{cases_lt, cond-false}
 use Rattle.std.proofs.lemmas.List.{append_assoc, get_or-drop, length-drop}
 use Rattle.std.proofs.lemmas.List.Elements.{All-get_or}
@@ -9,7 +9,7 @@ use Rattle.permission_map.specs.declared.runs.Run.{Run}
 use Rattle.permission_map.specs.declared.fault.MapFault.{MapFault}
 use Rattle.permission_map.specs.declared.fault.MapFault.TheVariants.{PastEnd, TooManyRanges, Memory}
 use Rattle.permission_map.specs.Runs.{end_of, AreRuns, in_range, view_of_runs}
-use Rattle.permission_map.specs.Overwrite.{AreOverwritten, IsBelow, IsAbove, IsNew, Becomes}
+use Rattle.permission_map.specs.Overwrite.{AreOverwritten, SetsRange, IsBelow, IsAbove, IsNew, Becomes}
 use Rattle.permission_map.proofs.Rising.{range_above, range_past}
 use Rattle.permission_map.proofs.Determined.{determined}
 use Rattle.permission_map.proofs.Parted.{at_back}
@@ -55,6 +55,52 @@ too_many old new wanted first count perm (Err Memory) inside is becomes = (
   (λ e. cc),
   (λ m. absurd (let same : m.1.0 ≡ wanted = one_wanted old first count perm m.1.0 wanted m.1.1 is in omega (arith, ap length same, m.1.2, becomes.1))),
 )
+
+-- a range of the space is set, or it is refused for what is said
+pub sets :
+    (old new wanted : List Run) (first count : ℕ) (perm : Perm) (result : Result (Unit {0}) MapFault) → AreRuns old → first + count ≤ 2 ^ 44
+    → AreOverwritten old first count perm wanted → Becomes old new wanted result → SetsRange old first count perm new result
+sets old new wanted first count perm (Ok done) are inside is becomes =
+    record {
+      done = subst (AreOverwritten old first count perm) (sym becomes.0) is;
+      kept = tt;
+      nothing = stays old new wanted first count perm (Ok done) are is becomes;
+      past_end = ((λ e. cc), (λ far. absurd (omega arith)));
+      too_many = too_many old new wanted first count perm (Ok done) inside is becomes;
+      memory = λ e. cc;
+    }
+sets old new wanted first count perm (Err PastEnd) are inside is becomes = absurd becomes.1
+sets old new wanted first count perm (Err TooManyRanges) are inside is becomes =
+    record {
+      done = tt;
+      kept = becomes.0;
+      nothing = λ none. becomes.0;
+      past_end = ((λ e. cc), (λ far. absurd (omega arith)));
+      too_many = too_many old new wanted first count perm (Err TooManyRanges) inside is becomes;
+      memory = λ e. cc;
+    }
+sets old new wanted first count perm (Err Memory) are inside is becomes =
+    record {
+      done = tt;
+      kept = becomes.0;
+      nothing = λ none. becomes.0;
+      past_end = ((λ e. cc), (λ far. absurd (omega arith)));
+      too_many = too_many old new wanted first count perm (Err Memory) inside is becomes;
+      memory = λ e. (wanted, is, becomes.1.0, becomes.1.1);
+    }
+
+-- a range that ends past the space is refused
+pub past_end_refused :
+    (old : List Run) (first count : ℕ) (perm : Perm) → 2 ^ 44 < first + count → SetsRange old first count perm old (Err PastEnd)
+past_end_refused old first count perm far =
+    record {
+      done = tt;
+      kept = refl;
+      nothing = λ none. refl;
+      past_end = ((λ e. far), (λ is. refl));
+      too_many = ((λ e. cc), (λ m. absurd (omega (arith, far, m.0))));
+      memory = λ e. cc;
+    }
 
 -- the runs that end before a range are before those that begin after it
 pub in_order :

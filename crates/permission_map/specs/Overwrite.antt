@@ -1,6 +1,6 @@
 -- Runs with one range overwritten, and the parts from which they are put together.
-use Rattle.std.specs.Prelude.{◌≡◌, ◌≢◌, ℕ, ◌^◌, ◌<◌, ◌≤◌, List, [], ◌∷◌, length, Result, Ok, Err}
-use Rattle.std.specs.Prelude.{Option, None, Some}
+use Rattle.std.specs.Prelude.{◌≡◌, ◌≢◌, ℕ, ◌+◌, ◌^◌, ◌<◌, ◌≤◌, ◌↔◌, List, [], ◌∷◌, length, Result}
+use Rattle.std.specs.Prelude.{Option, None, Some, Ok, Err, OnOk, OnErr}
 use Rattle.pmp_encoding.specs.declared.perm.Perm.{Perm}
 use Rattle.pmp_encoding.specs.declared.perm.Perm.TheVariants.{NoAccess}
 use Rattle.permission_map.specs.declared.runs.Run.{Run}
@@ -14,6 +14,21 @@ pub record AreOverwritten (old : List Run) (first count : ℕ) (perm : Perm) (ru
     Type 0 where
   pub are_runs : AreRuns runs
   pub view_is : SameView (view_of_runs runs) (overwritten (view_of_runs old) first count perm)
+
+-- the permission of the `count` pages from `first` on is set, and no other; or it is refused, when
+-- each reason says, and nothing changes
+pub record SetsRange (old : List Run) (first count : ℕ) (perm : Perm) (new : List Run)
+    (result : Result (Unit {0}) MapFault) : Type 0 where
+  pub done : OnOk result (AreOverwritten old first count perm new)
+  pub kept : OnErr result (new ≡ old)
+  pub nothing : count ≡ 0 → new ≡ old
+  pub past_end : (result ≡ Err PastEnd) ↔ (2 ^ 44 < first + count)
+  pub too_many : (result ≡ Err TooManyRanges)
+      ↔ ((first + count ≤ 2 ^ 44)
+      × ((runs : List Run) × AreOverwritten old first count perm runs × (4096 < length runs)))
+  pub memory : result ≡ Err Memory
+      → (runs : List Run) × AreOverwritten old first count perm runs
+      × (length old < length runs) × (length runs ≤ 4096)
 
 -- when runs that should become `wanted` may be left as they are: these are too many, or more than
 -- there were, so that a growth can have been refused

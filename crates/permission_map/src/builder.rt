@@ -3,7 +3,7 @@
 ghost use Rattle.std.specs.Prelude.{◌≡◌, ◌≤◌, ◌<◌, ◌+◌, ◌++◌, ◌^◌, ◌↔◌, List, [], length, Err, OnOk, OnErr, IfOk, option_to_list, vec_capacity};
 ghost use Rattle.permission_map.specs.declared.runs.Run.{Run};
 ghost use Rattle.permission_map.specs.declared.fault.MapFault as MapFault;
-ghost use Rattle.permission_map.specs.Overwrite.{AreOverwritten, Becomes};
+ghost use Rattle.permission_map.specs.Overwrite.{AreOverwritten, Becomes, SetsRange};
 ghost use Rattle.permission_map.specs.Points.{IsBuilt, Rise, page_of, run_to, runs_of, turns};
 
 use crate::changes::{MOST_IDLE, Setting, change};
@@ -160,17 +160,7 @@ impl MapBuilder {
     /// Sets the permission of the `count` pages from `first` on, and of no other page, as
     /// [`PermissionMap::set_range`] does. Only the first run takes memory.
     pub fn set_range(&mut self, first: u64, count: u64, perm: Perm) -> Result<(), MapFault>
-        ensures done { OnOk result (AreOverwritten self.old first count perm self.new) }
-        ensures kept { OnErr result (self.new ≡ self.old) }
-        ensures nothing { count ≡ 0 → self.new ≡ self.old }
-        ensures past_end { (result ≡ Err MapFault.PastEnd) ↔ (2 ^ 44 < first + count) }
-        ensures too_many { (result ≡ Err MapFault.TooManyRanges)
-            ↔ ((first + count ≤ 2 ^ 44)
-            × ((runs : List Run) × AreOverwritten self.old first count perm runs
-            × (4096 < length runs))) }
-        ensures memory { result ≡ Err MapFault.Memory
-            → (runs : List Run) × AreOverwritten self.old first count perm runs
-            × (length self.old < length runs) × (length runs ≤ 4096) }
+        ensures sets { SetsRange self.old first count perm self.new result }
         ensures first { result ≡ Err MapFault.Memory → self.old ≡ [] }
     {
         if first > SPACE_PAGES || count > SPACE_PAGES - first {

@@ -7,7 +7,7 @@ ghost use Rattle.pmp_encoding.specs.Views.{IsUniform};
 ghost use Rattle.permission_map.specs.declared.runs.Run.{Run};
 ghost use Rattle.permission_map.specs.declared.fault.MapFault as MapFault;
 ghost use Rattle.permission_map.specs.Runs.{AreRuns, view_of_runs};
-ghost use Rattle.permission_map.specs.Overwrite.{AreOverwritten};
+ghost use Rattle.permission_map.specs.Overwrite.{SetsRange};
 ghost use Rattle.permission_map.specs.Search.{IsNext};
 
 use crate::fault::MapFault;
@@ -127,17 +127,7 @@ impl PermissionMap {
     /// Sets the permission of the `count` pages from `first` on, and of no other page. On an error the map stays as it
     /// was; see [`MapFault`] for when each comes. A range of no pages changes nothing.
     pub fn set_range(&mut self, first: u64, count: u64, perm: Perm) -> Result<(), MapFault>
-        ensures done { OnOk result (AreOverwritten self.old first count perm self.new) }
-        ensures kept { OnErr result (self.new ≡ self.old) }
-        ensures nothing { count ≡ 0 → self.new ≡ self.old }
-        ensures past_end { (result ≡ Err MapFault.PastEnd) ↔ (2 ^ 44 < first + count) }
-        ensures too_many { (result ≡ Err MapFault.TooManyRanges)
-            ↔ ((first + count ≤ 2 ^ 44)
-            × ((runs : List Run) × AreOverwritten self.old first count perm runs
-            × (4096 < length runs))) }
-        ensures memory { result ≡ Err MapFault.Memory
-            → (runs : List Run) × AreOverwritten self.old first count perm runs
-            × (length self.old < length runs) × (length runs ≤ 4096) }
+        ensures { SetsRange self.old first count perm self.new result }
     {
         if first > SPACE_PAGES || count > SPACE_PAGES - first {
             return Err(MapFault::PastEnd);

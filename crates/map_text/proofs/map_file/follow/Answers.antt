@@ -9,8 +9,9 @@ pub returns-in-Ok-set_range-clause-said : goal.returns-in-Ok-set_range-clause-sa
 returns-in-Ok-set_range-clause-said c =
     let says : line_says c.args.line.now ≡ Some (Some c.in-Some.setting) = sym c.in-Ok.ensures.value ∙ ap (λ said. Some said) c.in-Some.is in
     let inside = rw c.in-Some.is at c.in-Ok.ensures.inside in
-    let done = c.in-Ok-set_range.ensures.done in
+    let done = c.in-Ok-set_range.ensures.sets.done in
     rw says (record {
       overwritten = done;
-      most = at_most (length c.set_range.new.self) (λ many. let e = c.in-Ok-set_range.ensures.too_many.1 (inside, (c.set_range.new.self, done, many)) in cc);
+      most = at_most (length c.set_range.new.self)
+          (λ many. let e = c.in-Ok-set_range.ensures.sets.too_many.1 (inside, (c.set_range.new.self, done, many)) in cc);
     })
