@@ -14,13 +14,13 @@ struct world {
 };
 _Static_assert(sizeof(struct world) == 36 * 8, "trap.S counts on it");
 
-/* trap.S: the hart that calls loads its entries, lets go of the monitor and runs the world until it traps; the monitor goes
-   on as this hart does then. `instructions` counts since the hart was reset. */
+/* trap.S: the hart that calls lets go of the monitor and runs the world until a trap needs the monitor; the monitor goes on as
+   this hart does then. `instructions` counts since the hart was reset. */
 void run_world(struct world *world);
 uint64_t instructions(void);
+/* Whether a hart waits for the monitor's lock, has it, or is parked. take_lock waits for it. */
 extern volatile uint32_t halted[MOST_HARTS];
-/* The harts that a hart interrupts once it has let go of the monitor, hart h in bit h. */
-extern volatile uint32_t to_raise[MOST_HARTS];
+void take_lock(void);
 
 /* pmp.S: the words of configuration and the addresses are loaded, then sfence.vma. */
 struct bank {
@@ -36,8 +36,8 @@ void check_entries(void);
 extern struct world worlds[MOST_HARTS];
 extern struct bank banks[MOST_HARTS];
 extern uint64_t world_number[MOST_HARTS];
-/* Whether a hart's world, its entries or pages are others than when it last left machine mode, or the host asked for a fence.
-   Then it loads its entries, and executes sfence.vma and fence.i, before it goes on. */
+/* Whether a hart's world, its entries or pages are others than when it last ran one. Then it loads its entries, and executes
+   sfence.vma and fence.i, before it goes on. */
 extern uint8_t is_stale[MOST_HARTS];
 int differ(const uint64_t *a, const uint64_t *b, unsigned words);
 /* Makes pages of memory that are not the monitor's zero. */
@@ -56,6 +56,8 @@ _Noreturn void begin_anew(void);
 
 /* traps.c: runs the hart's world until the monitor has to know of a trap, and says which it is: TAG_CALL or TAG_STOP. */
 uint64_t next_trap(void);
+/* Whether the trap of this hart's world is served, without the monitor: trap.S calls it on a small stack of the hart's own. */
+int serve_alone(void);
 /* What is done with an answer, and with the end, beside loading it. */
 void answered(const struct answer_frame *answer);
 _Noreturn void ended(const struct end_frame *end);
@@ -77,15 +79,28 @@ static inline unsigned this_hart(void)
     return (unsigned)hart;
 }
 unsigned hart_count(void);
-#define ALL_HARTS (~0ul)
-/* Stops each other hart of a set, hart h in bit h: none of them runs a world before this hart does. */
-void stop_harts(uint64_t harts);
+/* Stops the other harts: none of them runs a world before this hart does. It has the monitor's lock. */
+void stop_harts(void);
 /* Whether they stopped in ten seconds. */
-int are_stopped(uint64_t harts);
+int are_stopped(void);
 /* A started hart of the host will find its software interrupt. */
 void interrupt_supervisor(unsigned hart);
-/* What other harts asked this one for. */
-void take_requests(void);
+/* The harts of a set, hart h in bit h, execute sfence.vma or fence.i, or both, before they run their worlds on: whether each has
+   said so in ten seconds. */
+#define FENCE_VMA 1u
+#define FENCE_I 2u
+int fence_harts(uint64_t harts, uint32_t kinds);
+static inline void fence_here(uint32_t kinds)
+{
+    if (kinds & FENCE_VMA)
+        __asm__ volatile("sfence.vma" ::: "memory");
+    if (kinds & FENCE_I)
+        __asm__ volatile("fence.i" ::: "memory");
+}
+/* Does what other harts asked this one for. Whether one of them wants it to stop: then it has to come for the lock. */
+int take_requests(void);
+/* Before this hart runs its world: what is stale, and what was asked for. It has the monitor's lock. */
+void load_changes(void);
 void start_others(void);
 
 /* trap.S: this hart lets go of the monitor, and comes back as one that was interrupted once another hart asks for it. */
@@ -100,8 +115,9 @@ void host_timer_begin(int has_stimecmp);
 void host_timer_at(uint64_t time);
 void host_timer_came(void);
 
-/* sbi.c: answers a call of the host that is not the monitor's, if it knows it. */
+/* sbi.c: answers a call of the host that is not the monitor's, if it knows it: with the monitor's lock, or if it needs none. */
 int board_call(struct world *world);
+int board_call_alone(struct world *world);
 extern uint64_t stop_cause[MOST_HARTS], stop_value[MOST_HARTS];
 
 /* uart.c, memory.c. What ends the board there leaves memory as it is. */

@@ -1,7 +1,7 @@
 /*
  * The harts of the board, and what they ask of one another, by software interrupts. While the host's view changes no other
- * hart runs a world. A hart that waits for the monitor's lock, or that is parked, is stopped already; the others come, and
- * load their entries before they leave (run_world).
+ * hart runs a world. A hart that waits for the monitor's lock, has it, or is parked, is halted: it runs no world, and looks for
+ * requests before it does (load_changes). Others take the interrupt.
  */
 #include "board.h"
 
@@ -12,6 +12,9 @@ static volatile uint32_t *const software_interrupt = (volatile uint32_t *)0x2000
 #ifndef TEN_SECONDS
 #define TEN_SECONDS 100000000ul
 #endif
+#ifndef LEAVE_RUNNING
+#define LEAVE_RUNNING 0 /* 1: a test sees a hart that does not come */
+#endif
 
 volatile enum hart_state hart_state[MOST_HARTS] = {STARTED, STOPPED, STOPPED, STOPPED};
 
@@ -20,56 +23,128 @@ unsigned hart_count(void)
     return (unsigned)platform->harts;
 }
 
-int are_stopped(uint64_t harts)
+/* What is asked of a hart. */
+#define FENCES 3u /* a bit for each kind */
+#define STOP 4u
+#define INTERRUPT_OF_HOST 8u
+static uint32_t requests[MOST_HARTS];
+/* How often a hart was asked for fences, and how often before it last made them. */
+static uint32_t fences_asked[MOST_HARTS], fences_made[MOST_HARTS];
+
+static void interrupt(unsigned hart)
+{
+    __asm__ volatile("fence" ::: "memory");
+    if (!LEAVE_RUNNING)
+        software_interrupt[hart] = 1;
+}
+
+static void request(unsigned hart, uint32_t what)
+{
+    __atomic_fetch_or(&requests[hart], what, __ATOMIC_SEQ_CST);
+    interrupt(hart);
+}
+
+/* They are counted before they are made, so that no request is counted that comes later. */
+static void make_fences(unsigned self)
+{
+    uint32_t asked = __atomic_load_n(&fences_asked[self], __ATOMIC_ACQUIRE);
+    fence_here(__atomic_fetch_and(&requests[self], ~FENCES, __ATOMIC_SEQ_CST));
+    __atomic_store_n(&fences_made[self], asked, __ATOMIC_RELEASE);
+}
+
+int take_requests(void)
+{
+    unsigned self = this_hart();
+    uint32_t what;
+    software_interrupt[self] = 0;
+    __asm__ volatile("fence" ::: "memory"); /* a later wish of another hart comes after this */
+    make_fences(self);
+    what = __atomic_fetch_and(&requests[self], FENCES, __ATOMIC_SEQ_CST);
+    if (what & INTERRUPT_OF_HOST && hart_state[self] == STARTED)
+        SET(mip, SOFTWARE_OF_SUPERVISOR);
+    return (what & STOP) != 0;
+}
+
+/* From here on who asks this hart for a fence waits for it. Who came before finds it here. */
+void load_changes(void)
+{
+    unsigned self = this_hart();
+    halted[self] = 0;
+    __asm__ volatile("fence rw, rw" ::: "memory");
+    if (__atomic_load_n(&requests[self], __ATOMIC_ACQUIRE))
+        take_requests();
+    if (!is_stale[self])
+        return;
+    is_stale[self] = 0;
+    load_bank(&banks[self]);
+    fence_here(FENCE_I); /* pages may have other bytes than when this hart last ran a world */
+}
+
+static int is_other(uint64_t harts, unsigned hart)
+{
+    return hart != this_hart() && (harts >> hart & 1);
+}
+
+/* It makes its own fences meanwhile: the other may wait for them. */
+static int has_fenced(unsigned hart, uint32_t number, uint64_t last)
+{
+    while (!halted[hart] && (int32_t)(__atomic_load_n(&fences_made[hart], __ATOMIC_ACQUIRE) - number) < 0) {
+        make_fences(this_hart());
+        if (timer_now() > last)
+            return 0;
+    }
+    return 1;
+}
+
+int fence_harts(uint64_t harts, uint32_t kinds)
 {
     uint64_t last = timer_now() + TEN_SECONDS;
-    unsigned self = this_hart();
+    uint32_t number[MOST_HARTS];
+    int is_made = 1;
+    for (unsigned hart = 0; hart < hart_count(); hart++)
+        if (is_other(harts, hart)) {
+            __atomic_fetch_or(&requests[hart], kinds, __ATOMIC_SEQ_CST);
+            number[hart] = __atomic_add_fetch(&fences_asked[hart], 1, __ATOMIC_SEQ_CST);
+            interrupt(hart);
+        }
+    if (harts >> this_hart() & 1)
+        fence_here(kinds);
+    for (unsigned hart = 0; hart < hart_count(); hart++)
+        is_made &= !is_other(harts, hart) || has_fenced(hart, number[hart], last);
+    return is_made;
+}
+
+int are_stopped(void)
+{
+    uint64_t last = timer_now() + TEN_SECONDS;
 #ifdef NO_STOP
     return 1; /* so that a test sees what comes of it */
 #endif
     if (!harts_run)
         return 1;
-    harts &= ~(1ul << self);
-#ifndef LEAVE_RUNNING /* so that a test sees a hart that does not stop */
     for (unsigned hart = 0; hart < hart_count(); hart++)
-        if (harts >> hart & 1)
-            software_interrupt[hart] = 1;
-#endif
+        if (!halted[hart])
+            request(hart, STOP);
     for (unsigned hart = 0; hart < hart_count(); hart++)
-        while (harts >> hart & 1 && !halted[hart])
+        while (!halted[hart])
             if (timer_now() > last)
                 return 0;
     __asm__ volatile("fence rw, rw" ::: "memory");
     return 1;
 }
 
-void stop_harts(uint64_t harts)
+void stop_harts(void)
 {
-    if (!are_stopped(harts))
+    if (!are_stopped())
         end_because("a hart does not stop, asked by hart ", this_hart());
 }
 
-static volatile uint8_t is_interrupted[MOST_HARTS];
-
 void interrupt_supervisor(unsigned hart)
 {
-    if (hart == this_hart()) {
+    if (hart == this_hart())
         SET(mip, SOFTWARE_OF_SUPERVISOR);
-        return;
-    }
-    is_interrupted[hart] = 1;
-    to_raise[this_hart()] |= 1u << hart;
-}
-
-/* A stop has had its effect: the hart stood still. It has the monitor now, so that no other asks it for anything. */
-void take_requests(void)
-{
-    unsigned self = this_hart();
-    software_interrupt[self] = 0;
-    __asm__ volatile("fence" ::: "memory"); /* a later wish of another hart comes after this */
-    if (is_interrupted[self] && hart_state[self] == STARTED)
-        SET(mip, SOFTWARE_OF_SUPERVISOR);
-    is_interrupted[self] = 0;
+    else
+        request(hart, INTERRUPT_OF_HOST);
 }
 
 /* trap.S waits for it. */

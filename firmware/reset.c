@@ -58,14 +58,18 @@ void forget_private(void)
     }
 }
 
-/* No enclave writes meanwhile. A trap of the monitor in here ends the board at once. */
+/* No enclave writes meanwhile, and no other hart has the monitor. A trap of the monitor in here ends the board at once. */
 static void forget(void)
 {
     static uint8_t is_ending;
+    if (!halted[this_hart()]) {
+        halted[this_hart()] = 1;
+        take_lock();
+    }
     if (is_ending)
         return;
     is_ending = 1;
-    are_stopped(ALL_HARTS);
+    are_stopped();
     forget_private();
 }
 

@@ -17,17 +17,19 @@ static struct sbiret stops_call(uint64_t function, const uint64_t *a)
     return (struct sbiret){SBI_ERR_NOT_SUPPORTED, 0};
 }
 
+/* Whether a hart serves its calls alone: they change nothing that the lock keeps. */
 static const struct extension {
     uint64_t number;
     struct sbiret (*call)(uint64_t function, const uint64_t *a);
+    int is_alone;
 } extensions[] = {
-    {0x10, sbi_base},
-    {0x54494d45, sbi_time},
-    {0x735049, sbi_ipi},
-    {0x52464e43, sbi_rfence},
-    {0x48534d, sbi_hsm},
-    {0x53525354, sbi_srst},
-    {PMPMON_STOPS, stops_call},
+    {0x10, sbi_base, 1},
+    {0x54494d45, sbi_time, 1},
+    {0x735049, sbi_ipi, 1},
+    {0x52464e43, sbi_rfence, 1},
+    {0x48534d, sbi_hsm, 0},
+    {0x53525354, sbi_srst, 0},
+    {PMPMON_STOPS, stops_call, 1},
 };
 
 static const struct extension *extension_of(uint64_t number)
@@ -55,14 +57,23 @@ int hart_list(uint64_t hart_mask, uint64_t hart_mask_base, uint64_t *harts)
     return 1;
 }
 
-int board_call(struct world *world)
+static int answer_call(struct world *world, const struct extension *extension)
 {
-    const struct extension *extension = extension_of(world->x[17]);
-    if (!extension)
-        return 0;
     struct sbiret answer = extension->call(world->x[16], world->x + 10);
     world->x[10] = (uint64_t)answer.error;
     world->x[11] = answer.value;
     world->pc += 4;
     return 1;
+}
+
+int board_call(struct world *world)
+{
+    const struct extension *extension = extension_of(world->x[17]);
+    return extension && answer_call(world, extension);
+}
+
+int board_call_alone(struct world *world)
+{
+    const struct extension *extension = extension_of(world->x[17]);
+    return extension && extension->is_alone && answer_call(world, extension);
 }

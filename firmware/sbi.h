@@ -9,6 +9,7 @@ struct sbiret {
     uint64_t value;
 };
 #define SBI_SUCCESS 0
+#define SBI_ERR_FAILED (-1)
 #define SBI_ERR_NOT_SUPPORTED (-2)
 #define SBI_ERR_INVALID_PARAM (-3)
 #define SBI_ERR_INVALID_ADDRESS (-5)

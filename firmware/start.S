@@ -41,7 +41,7 @@ other:
     .balign 4
     .globl  died
 died:
-    la      sp, last_stack_end
+    call    own_stack
     csrr    a0, mcause
     csrr    a1, mepc
     csrr    a2, mtval
@@ -63,5 +63,3 @@ stack_start:
 stack_guard:
     .skip   STACK_SIZE - 8192
 stack_end:
-    .skip   2048
-last_stack_end:

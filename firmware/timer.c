@@ -4,12 +4,11 @@
  */
 #include "board.h"
 
-static volatile uint64_t *const time_now = (volatile uint64_t *)0x200bff8;
 static volatile uint64_t *const compare = (volatile uint64_t *)0x2004000;
 
 uint64_t timer_now(void)
 {
-    return *time_now;
+    return READ(time);
 }
 
 void timer_at(uint64_t time)

@@ -3,10 +3,10 @@
  *
  * The monitor is one thread of control with one stack. A hart that runs it has the lock, and lets go of it in run_world,
  * once its registers of protection are loaded. The hart whose world traps next, or the next to come by the lock, goes on
- * with the monitor where the last one left it: it returns from that call of run_world.
+ * with the monitor where the last one left it: it returns from that call of run_world. A trap that changes nothing of the
+ * monitor's a hart serves alone, without the lock and on a stack of its own (serve_alone).
  */
     .equ    WORLD, 36 * 8       # the bytes of a struct world
-    .equ    BANK, 72 * 8        # and of a struct bank
     .equ    SAVED, 14 * 8
     .equ    CLINT, 0x2000000    # its first words: a software interrupt for each hart
 
@@ -54,36 +54,9 @@ run_world:
     la      t0, monitor_sp
     sd      sp, (t0)
     mv      s0, a0
-    csrr    t1, mhartid
-    la      t0, is_stale        # where it is not, entries and translations are those that the world was stopped with
-    add     t0, t0, t1
-    lbu     t2, (t0)
-    beqz    t2, 1f
-    sb      zero, (t0)
-    li      t2, BANK
-    mul     t1, t1, t2
-    la      a0, banks
-    add     a0, a0, t1
-    call    load_bank
-    fence.i                     # pages may have other bytes than when this hart last ran a world
-1:
 /* From here on nothing of the monitor's is used but this hart's own: another hart may go on with it. */
-    csrr    t1, mhartid
-    slli    t1, t1, 2
-    la      t0, to_raise
-    add     t0, t0, t1
-    lw      t1, (t0)
-    sw      zero, (t0)
     unlock
-/* Software interrupts for other harts of the host: each of them comes for the lock, so this hart lets go of it first. */
-    li      t0, CLINT
-    li      t3, 1
-2:  andi    t2, t1, 1
-    beqz    t2, 3f
-    sw      t3, (t0)
-3:  addi    t0, t0, 4
-    srli    t1, t1, 1
-    bnez    t1, 2b
+enter_world:
     la      t0, trap
     csrw    mtvec, t0
     csrw    mscratch, s0
@@ -113,15 +86,10 @@ park:
     sd      sp, (t0)
     csrr    t1, mhartid
     slli    t1, t1, 2
-    la      t2, halted
-    add     t2, t2, t1
     la      t3, is_wanted
     add     t3, t3, t1
     li      t4, CLINT
     add     t4, t4, t1
-    li      t1, 1
-    fence   rw, rw
-    sw      t1, (t2)
     unlock
 1:  sw      zero, (t4)
     fence
@@ -162,6 +130,10 @@ trap:
     sd      t0, 35 * 8(x31)
     la      t0, died
     csrw    mtvec, t0
+    mv      s0, x31
+    call    own_stack
+    call    serve_alone
+    bnez    a0, enter_world
 take_monitor:
     csrr    t1, mhartid
     slli    t1, t1, 2
@@ -171,12 +143,26 @@ take_monitor:
     fence   rw, rw
     sw      t1, (t2)
     lock
-    sw      zero, (t2)
-    fence   rw, rw
     la      t0, monitor_sp
     ld      sp, (t0)
     callee_saved ld
     addi    sp, sp, SAVED
+    ret
+
+/* A hart that serves alone ends the board: it comes for the lock first. */
+    .globl  take_lock
+take_lock:
+    lock
+    ret
+
+/* The stack is that of this hart alone. */
+    .globl  own_stack
+own_stack:
+    csrr    t0, mhartid
+    addi    t0, t0, 1
+    slli    t0, t0, 10          # a kilobyte for each hart
+    la      sp, own_stacks
+    add     sp, sp, t0
     ret
 
     .section .sdata, "aw"
@@ -184,12 +170,12 @@ take_monitor:
 /* Hart 0 has the monitor first: the next number, and the one that is called. */
 tickets:
     .word   1, 0
-    .section .sbss, "aw", @nobits
-    .balign 8
-monitor_sp:
-    .skip   8
-    .globl  halted, to_raise
+    .globl  halted
 halted:
+    .word   1, 0, 0, 0
+    .section .sbss, "aw", @nobits
+    .balign 16
+monitor_sp:
     .skip   16
-to_raise:
-    .skip   16
+own_stacks:
+    .skip   4 * 1024

@@ -1,6 +1,7 @@
 /*
  * Which trap is whose business. The monitor has every call of its extension, every call of an enclave, and whatever stops an
- * enclave. The board has the host's other calls, its timer and the stop of a hart.
+ * enclave. The board has the host's other calls, its timer and the stop of a hart. What changes nothing that another hart reads
+ * but by its requests is served by the hart alone.
  */
 #include "board.h"
 #include "pmpmon_calls.h"
@@ -26,14 +27,17 @@ static void begin(unsigned hart)
 /* This hart runs its world, or waits to be started. The hart that traps next comes back, and does what it was asked for. */
 static void leave_monitor(void)
 {
-    if (hart_state[this_hart()] == STOPPED)
+    if (hart_state[this_hart()] == STOPPED) {
         park();
-    else
+    } else {
+        load_changes();
         run_world(&worlds[this_hart()]);
+    }
     begin(this_hart());
-    take_requests();
-    if (hart_state[this_hart()] == START_PENDING)
-        hart_state[this_hart()] = STARTED;
+    if (hart_state[this_hart()] != START_PENDING)
+        return;
+    take_requests(); /* no interrupt is left from before it starts */
+    hart_state[this_hart()] = STARTED;
 }
 
 /* A call of an enclave, or of the host's supervisor mode: a program of the host calls its own kernel. */
@@ -47,24 +51,34 @@ static uint64_t call_of_monitor(const struct world *world, unsigned hart)
 {
     int is_owning = world->x[16] == CREATE || world->x[16] == DESTROY;
     if (!world_number[hart] && world->x[17] == PMPMON_EXTENSION && is_owning)
-        stop_harts(ALL_HARTS);
+        stop_harts();
     return TAG_CALL;
 }
 
-/* Whether a trap is not the monitor's, and what it asked for is done. */
-static int is_of_board(struct world *world, unsigned hart)
+/* A timer that comes to an enclave stops it too. */
+int serve_alone(void)
 {
+    unsigned hart = this_hart();
+    struct world *world = &worlds[hart];
     if (world->cause == CAUSE_SOFTWARE)
-        return 1;
+        return !take_requests();
     if (world->cause == CAUSE_TIMER)
         host_timer_came();
     if (world_number[hart])
         return 0;
     if (is_call(world, hart))
-        return board_call(world);
+        return board_call_alone(world);
     if (world->cause != CAUSE_TIMER)
         control_to_handler(world);
     return 1;
+}
+
+/* Whether a trap that the hart does not serve alone is not the monitor's either, and what it asked for is done. */
+static int is_of_board(struct world *world, unsigned hart)
+{
+    if (world->cause == CAUSE_SOFTWARE)
+        return 1;
+    return !world_number[hart] && board_call(world);
 }
 
 /* The stack has grown into its last 8 KiB. What lies below it is the monitor's memory. */

@@ -86,7 +86,14 @@ static void execute(struct world *world, uint64_t place, uint64_t mode)
     world->pc = place;
     world->mode = mode;
     is_stale[this_hart()] = 1; /* what it executes was written just now */
+    load_changes();
     run_world(world);
+}
+
+/* A trace's traps are all looked at. */
+int serve_alone(void)
+{
+    return 0;
 }
 
 /* Every register that the instruction does not name is as it was handed out. */

@@ -1,12 +1,13 @@
-"""Every order in which two harts can go through the monitor's lock, the stop of a hart, and its wait to be started.
+"""Every order in which two harts can go through the monitor's lock, the stop of a hart, its fences, and its wait to be started.
 
-What firmware/trap.S and firmware/harts.c do with the lock, `halted`, `is_wanted` and the CLINT's software interrupts is written here
-once more, a step for each access. A store waits in a buffer of its hart: one for memory, in which stores to two words may be done
-in either order, and one for the CLINT, which is no memory. A fence waits for both, `fence rw, rw` and a release for that of memory
-alone. Loads are done in their order. All states that there are get looked at; where a hart's world calls is left open, and also
-whether it ever does. The search says:
+What firmware/trap.S and firmware/harts.c do with the lock, `halted`, `is_wanted`, what harts ask of one another and the CLINT's
+software interrupts is written here once more, a step for each access. A store waits in a buffer of its hart: one for memory, in
+which stores to two words may be done in either order, and one for the CLINT, which is no memory. A fence waits for both,
+`fence rw, rw` and a release for that of memory alone, as an atomic access does. Loads are done in their order. All states that there
+are get looked at; where a hart's world calls is left open, and also whether it ever does. The search says:
 
   runs     a world runs on a hart that was stopped
+  old      a world runs with translations for which a fence was asked, and the hart that asked went on
   lost     a hart waits for another that will never come, whatever the buffers do
   passed   the most often that a hart which waits for the lock sees another go in before it (2: 2 or more)
 """
@@ -17,55 +18,79 @@ TOP = Path(__file__).resolve().parents[2]
 HARTS = 2
 MOST = 2
 ROOM = 2  # stores that wait in a buffer
+STOP, FENCE = 2, 1  # what is asked of a hart
+TURN = 3  # tickets and fences are counted up to here, and then from 0
 # The lines that the steps are of: the model has them, so the sources have to.
 LINES = {
     "firmware/trap.S": (
         r"\.macro  lock\n +la +t0, tickets\n +li +t1, 1\n +amoadd\.w\.aq t1, t1, \(t0\)\n1: +lw +t3, 4\(t0\)\n +bne +t1, t3, 1b\n +fence +r, rw\n",
         r"\.macro  unlock\n +fence\n +la +t0, tickets\n +lw +t5, 4\(t0\)\n +addiw +t5, t5, 1\n +sw +t5, 4\(t0\)\n",
-        r"fence   rw, rw\n +sw      t1, \(t2\)\n +unlock\n1: +sw +zero, \(t4\)\n +fence\n +lw +t1, \(t3\)\n +bnez +t1, 2f\n +wfi\n +j +1b\n2: +sw +zero, \(t3\)\n",
-        r"fence   rw, rw\n +sw      t1, \(t2\)\n +lock\n +sw      zero, \(t2\)\n +fence   rw, rw\n",
+        r" +unlock\n1: +sw +zero, \(t4\)\n +fence\n +lw +t1, \(t3\)\n +bnez +t1, 2f\n +wfi\n +j +1b\n2: +sw +zero, \(t3\)\n",
+        r"fence   rw, rw\n +sw      t1, \(t2\)\n +lock\n",
     ),
     "firmware/harts.c": (
-        r"software_interrupt\[self\] = 0;\n.*\"fence\" ",
+        r"\"fence\" .*\n +if \(!LEAVE_RUNNING\)\n +software_interrupt\[hart\] = 1;\n",
+        r"fetch_or\(&requests\[hart\], what, __ATOMIC_SEQ_CST\);\n +interrupt\(hart\);\n",
+        r"load_n\(&fences_asked\[self\], __ATOMIC_ACQUIRE\);\n +fence_here\(__atomic_fetch_and\(&requests\[self\], ~FENCES, __ATOMIC_SEQ_CST\)\);\n"
+        r" +__atomic_store_n\(&fences_made\[self\], asked, __ATOMIC_RELEASE\);\n",
+        r"software_interrupt\[self\] = 0;\n.*\"fence\" .*\n +make_fences\(self\);\n +what = __atomic_fetch_and\(&requests\[self\], FENCES, __ATOMIC_SEQ_CST\);\n",
+        r"halted\[self\] = 0;\n.*\"fence rw, rw\" .*\n +if \(__atomic_load_n\(&requests\[self\], __ATOMIC_ACQUIRE\)\)\n +take_requests\(\);\n",
+        r"while \(!halted\[hart\] && .*&fences_made\[hart\], __ATOMIC_ACQUIRE\) - number\) < 0\) {\n +make_fences\(this_hart\(\)\);\n",
+        r"fetch_or\(&requests\[hart\], kinds, __ATOMIC_SEQ_CST\);\n.*add_fetch\(&fences_asked\[hart\], 1, __ATOMIC_SEQ_CST\);\n +interrupt\(hart\);\n",
+        r"request\(hart, STOP\);\n.*\n +while \(!halted\[hart\]\)\n",
         r"is_wanted\[hart\] = 1;\n.*\"fence\" .*\n +software_interrupt\[hart\] = 1;\n",
     ),
 }
 
 
-def programs(has_tickets, has_fence):
+def programs(lacks):
     """What a hart does, by the name of each step: the fence before it, its kind, its words, and the step after it."""
-    full = "all" if has_fence else ""
-    free = (full, "next") if has_tickets else (full or "memory", "release")
-    lock = {"lock": ("", "ticket", "spin"), "spin": ("", "called", "in")} if has_tickets else {"lock": ("", "swap", "in")}
+    full = "" if "fence after the CLINT" in lacks else "all"
+    free = (full or "memory", "release") if "tickets" in lacks else (full, "next")
+    lock = {"lock": ("", "swap", "in")} if "tickets" in lacks else {"lock": ("", "ticket", "spin"), "spin": ("", "called", "in")}
     return {
         # (a world, until its interrupt comes or it calls)
-        "world": ("", "world", "trap"),
+        "world": ("", "world"),
+        # alone: take_requests, with which a hart also leaves the monitor
+        "clear": ("memory", "store", "clint", 0, "count"),
+        "count": (full, "count", "fences"),
+        "fences": ("memory", "fences", "made"),
+        "made": ("memory", "made", "stop?"),
+        "stop?": ("memory", "stop?"),
+        # alone: fences are asked for, and waited for
+        "fence": ("memory", "ask", FENCE, "fence2"),
+        "fence2": ("memory", "count up", "fence3"),
+        "fence3": ("all", "raise", "fenced"),
+        "fenced": ("", "fenced"),
+        # the monitor
         "trap": ("memory", "store", "halted", 1, "lock"),
         **lock,
-        "in": ("", "store", "halted", 0, "clear"),
-        # take_requests, and then what was called for: nothing, the stop of the other hart, its start, or to be parked
-        "clear": ("memory", "store", "clint", 0, "called for"),
-        "called for": (full, "what"),
-        "unlock": (*free, "world"),
-        "stop": ("", "raise", "wait"),
-        "wait": ("", "wait", "unlock"),
+        "in": ("", "what"),
+        "stop": ("memory", "ask", STOP, "stop2"),
+        "stop2": ("all", "raise", "wait"),
+        "wait": ("", "wait", "leave"),
         "unpark": ("", "want", "unpark2"),
-        "unpark2": ("all", "raise", "unlock"),
-        # parked: halted, and then without the lock
-        "park": ("memory", "store", "halted", 1, "park2"),
-        "park2": (*free, "park3"),
-        "park3": ("", "store", "clint", 0, "park4"),
-        "park4": ("all", "wanted", "park5", "wfi"),
-        "wfi": ("", "wfi", "park3"),
-        "park5": ("", "store", "wanted", 0, "trap"),
+        "unpark2": ("all", "raise", "leave"),
+        "leave": ("", "store", "halted", 0, "requests"),
+        "requests": ("" if "fence after halted" in lacks else "memory", "requests"),
+        "unlock": (*free, "world"),
+        # parked: halted, and without the lock
+        "park": (*free, "park2"),
+        "park2": ("", "store", "clint", 0, "park3"),
+        "park3": ("all", "wanted", "park4", "wfi"),
+        "wfi": ("", "wfi", "park2"),
+        "park4": ("", "store", "wanted", 0, "trap"),
     }
 
 
-# A state: for each hart its step, what it called for, its ticket and who went in before it; its buffers of memory and of the CLINT; and
-# memory: the next ticket and the one that is called (or the lock), and for each hart halted, wanted and the CLINT's word.
-START = ((("world", "", 0, 0),) * HARTS, ((),) * HARTS, ((),) * HARTS, (0, 0), (0,) * HARTS, (0,) * HARTS, (0,) * HARTS)
-PLACES = {"lock": 3, "halted": 4, "wanted": 5, "clint": 6}
-TURN = HARTS + 1  # tickets are counted up to here, and then from 0
+# A state: for each hart its step, what it called for, its number (of its ticket, or of fences) and who went in before it; its buffers of
+# memory and of the CLINT; memory: the next ticket and the one that is called (or the lock), and for each hart halted, wanted, the
+# CLINT's word, what is asked of it, and how many fences were asked for and made; and whether a fence is to come, and was promised.
+START = ((("world", "", 0, 0),) * HARTS, ((),) * HARTS, ((),) * HARTS, (0, 0)) + ((0,) * HARTS,) * 8
+PLACES = {"lock": 3, "halted": 4, "wanted": 5, "clint": 6, "requests": 7, "asked": 8, "fenced": 9}
+LACKS, OWES = 10, 11
+# The steps in which a hart has a number: of a ticket, of its own fences, of another's.
+NUMBERED = dict.fromkeys((("lock", False), ("lock", True)), ("spin",)) | {("fenced", True): ("fences", "made"), ("fenced", False): ("fence3", "fenced")}
 
 
 def put(state, at, index, value):
@@ -79,10 +104,26 @@ def drained(state):
     for hart in range(HARTS):
         for i, (place, index, value) in enumerate(state[1][hart]):
             if all(it[:2] != (place, index) for it in state[1][hart][:i]):
-                yield put(put(state, 1, hart, state[1][hart][:i] + state[1][hart][i + 1 :]), PLACES[place], index, value)
+                yield counted_anew(put(put(state, 1, hart, state[1][hart][:i] + state[1][hart][i + 1 :]), PLACES[place], index, value), place, index)
         if state[2][hart]:
             (place, index, value), rest = state[2][hart][0], state[2][hart][1:]
             yield put(put(state, 2, hart, rest), PLACES[place], index, value)
+
+
+def counted_anew(state, place, index):
+    """The ticket that is called, and the fences that were made, are 0: other numbers count from there."""
+    by = state[PLACES[place]][index] if place in ("lock", "fenced") else 0
+    if not by:
+        return state
+    highest = ("lock", 0) if place == "lock" else ("asked", index)
+    state = put(put(state, PLACES[place], index, 0), PLACES[highest[0]], highest[1], (state[PLACES[highest[0]]][highest[1]] - by) % TURN)
+    for hart in range(HARTS):
+        step, call, number, passed = state[0][hart]
+        if step in NUMBERED[place, hart == index]:
+            state = put(state, 0, hart, (step, call, (number - by) % TURN, passed))
+        waits = tuple((*it[:2], (it[2] - by) % TURN) if it[:2] == (place, index) else it for it in state[1][hart])
+        state = put(state, 1, hart, waits)
+    return state
 
 
 def seen(state, hart, place, index):
@@ -101,56 +142,89 @@ def stored(state, hart, place, index, value):
 def went_in(state, hart):
     """A hart goes in: another that waits for the lock has seen it."""
     other = 1 - hart
-    step, call, ticket, passed = state[0][other]
-    return put(state, 0, other, (step, call, ticket, min(passed + 1, MOST))) if step == "spin" or (step == "lock" and ticket < 0) else state
+    step, call, number, passed = state[0][other]
+    return put(state, 0, other, (step, call, number, min(passed + 1, MOST))) if step == "spin" or (step == "lock" and number < 0) else state
 
 
-PARKED = ("park", "park2", "park3", "park4", "wfi")
+PARKED = ("park", "park2", "park3", "wfi")
 
 
-def calls(state, other, has_park):
-    """What a world may call for: a stopped hart is started, and the last one that is not stopped does not stop."""
-    if not has_park:
-        return ("stop",)
-    step, call, _, _ = state[0][other]
-    return ("stop", "unpark") if step in PARKED[2:] and not state[5][other] and not state[1][1 - other] else ("stop",) if call == "park" else ("stop", "park")
+def calls(state, hart, has_park):
+    """What a world calls the monitor for: a stopped hart is started, and the last one that is not stopped does not stop."""
+    step = state[0][1 - hart][0]
+    yield from ("leave", "stop")
+    if has_park and step in PARKED[1:] and not state[5][1 - hart] and not state[1][hart]:
+        yield "unpark"
+    elif has_park and step not in PARKED:
+        yield "park"
 
 
-def steps(state, hart, program, has_park):
+def fenced(state, hart, number):
+    """A hart has executed the fences that were asked of it."""
+    state = put(put(state, LACKS, hart, 0), OWES, hart, 0)
+    return put(state, 7, hart, state[7][hart] & ~FENCE) if number is None else state
+
+
+def steps(state, hart, program, has, lacks):
     """What a hart may do next: (whether it is free not to, the state)."""
-    step, call, ticket, passed = state[0][hart]
+    step, call, number, passed = state[0][hart]
     fence, kind, *words = program[step]
     other, memory, clint = 1 - hart, state[1][hart], state[2][hart]
 
-    def to(name, state=state, call=call, ticket=ticket, passed=passed):
-        return put(state, 0, hart, (name, call, ticket, passed))
+    def to(name, state=state, call=call, number=number, passed=passed):
+        return put(state, 0, hart, (name, call, number, passed))
 
     if fence and memory or fence == "all" and clint or max(len(memory), len(clint)) == ROOM:
         return
     if kind == "world":
         if state[6][hart]:
-            yield False, to(words[0])
-        for what in calls(state, other, has_park):
-            yield True, to(words[0], call=what)
+            yield False, to("clear")
+        yield True, to("trap")
+        if "fences" in has and (state[8][other] - state[9][other]) % TURN < 2:
+            yield True, to("fence")
     elif kind == "store":
         yield False, to(words[2], stored(state, hart, words[0], hart, words[1]))
+    elif kind == "ask":
+        yield False, to(words[1], put(state if words[0] == STOP else put(state, LACKS, other, 1), 7, other, state[7][other] | words[0]))
+    elif kind == "count up":
+        yield False, to(words[0], put(state, 8, other, (state[8][other] + 1) % TURN), number=(state[8][other] + 1) % TURN)
+    elif kind == "fenced":
+        if seen(state, hart, "halted", other) or seen(state, hart, "fenced", other) == number:
+            yield False, to("world", put(state, OWES, other, state[LACKS][other]), number=0)
+        elif "fences while it waits" not in lacks and (state[7][hart] & FENCE or state[8][hart] != seen(state, hart, "fenced", hart)) and not memory:
+            # (make_fences, of which nothing is seen apart but by the hart itself)
+            done = state if not state[7][hart] & FENCE else put(fenced(state, hart, 0), 7, hart, state[7][hart] & ~FENCE)
+            yield False, to(step, stored(done, hart, "fenced", hart, state[8][hart]))
+    elif kind == "count":
+        yield False, to(words[0], number=state[8][hart])
+    elif kind == "fences":
+        done = state if not state[7][hart] & FENCE else put(fenced(state, hart, 0), 7, hart, state[7][hart] & ~FENCE)
+        yield False, to(words[0], done)
+    elif kind == "made":
+        yield False, to(words[0], stored(state, hart, "fenced", hart, number), number=0)
+    elif kind == "stop?":
+        next_step = "unlock" if call == "leave" else "trap" if state[7][hart] & STOP else "world"
+        yield False, to(next_step, put(state, 7, hart, state[7][hart] & FENCE), call="")
+    elif kind == "requests":
+        yield False, to("clear", call="leave") if state[7][hart] else to("unlock", call="")
     elif kind == "ticket":
-        yield False, to(words[0], put(state, 3, 0, (state[3][0] + 1) % TURN), ticket=state[3][0])
+        yield False, to(words[0], put(state, 3, 0, (state[3][0] + 1) % TURN), number=state[3][0])
     elif kind == "called":
-        if seen(state, hart, "lock", 1) == ticket:
-            yield False, to(words[0], went_in(state, hart), ticket=0, passed=0)
+        if seen(state, hart, "lock", 1) == number:
+            yield False, to(words[0], went_in(state, hart), number=0, passed=0)
     elif kind == "swap":
-        # (a ticket below zero says that it has tried)
+        # (a number below zero says that it has tried)
         if not state[3][0]:
-            yield False, to(words[0], went_in(put(state, 3, 0, 1), hart), ticket=0, passed=0)
-        elif not ticket:
-            yield False, to(step, ticket=-1)
+            yield False, to(words[0], went_in(put(state, 3, 0, 1), hart), number=0, passed=0)
+        elif not number:
+            yield False, to(step, number=-1)
     elif kind == "release":
         yield False, to(words[0], put(state, 3, 0, 0))
     elif kind == "next":
         yield False, to(words[0], stored(state, hart, "lock", 1, (seen(state, hart, "lock", 1) + 1) % TURN))
     elif kind == "what":
-        yield False, to(call or "unlock", call=call if call == "park" else "")
+        for it in calls(state, hart, "park" in has):
+            yield False, to(it)
     elif kind == "raise":
         yield False, to(words[0], stored(state, hart, "clint", other, 1))
     elif kind == "want":
@@ -159,32 +233,34 @@ def steps(state, hart, program, has_park):
         if seen(state, hart, "halted", other):
             yield False, to(words[0])
     elif kind == "wanted":
-        yield False, to(words[0], call="") if seen(state, hart, "wanted", hart) else to(words[1])
+        yield False, to(words[0] if seen(state, hart, "wanted", hart) else words[1])
     elif kind == "wfi" and state[6][hart]:
         yield False, to(words[0])
 
 
-def searched(has_tickets, has_fence, has_park=True):
-    """What the search finds: `runs` and `lost` with the number of states, and the most that a hart is passed."""
-    program = programs(has_tickets, has_fence)
+def is_waiting(state):
+    """Whether a hart waits for another, or is to be started."""
+    return any(it[0] in ("wait", "fenced", "spin", "lock") or (it[0] == "wfi" and (state[5][h] or ("wanted", h, 1) in state[1][1 - h])) for h, it in enumerate(state[0]))
+
+
+def searched(*lacks, has=("park", "fences")):
+    """What the search finds: `runs`, `old` and `lost` with numbers of states, the most that a hart is passed, and all states."""
+    program = programs(lacks)
     before, found, waits = {}, {START}, [START]
-    runs, most = 0, 0
+    runs, old, most = 0, 0, 0
     while waits:
         state = waits.pop()
-        runs += any(state[0][h][0] == "world" and state[0][1 - h][0] == "wait" and seen(state, 1 - h, "halted", h) for h in range(HARTS))
+        worlds = [h for h in range(HARTS) if state[0][h][0] == "world"]
+        runs += any(state[0][1 - h][0] == "wait" and seen(state, 1 - h, "halted", h) for h in worlds)
+        old += any(state[OWES][h] for h in worlds)
         most = max([most] + [it[3] for it in state[0]])
-        nexts = [(False, it) for it in drained(state)] + [it for hart in range(HARTS) for it in steps(state, hart, program, has_park)]
+        nexts = [(False, it) for it in drained(state)] + [it for hart in range(HARTS) for it in steps(state, hart, program, has, lacks)]
         for is_free, it in nexts:
             if not is_free:
                 before.setdefault(it, []).append(state)
             if it not in found:
                 found.add(it)
                 waits.append(it)
-
-    def is_waiting(state):
-        # a hart waits for another, or is to be started
-        return any(it[0] in ("wait", "spin", "lock") or (it[0] == "wfi" and (state[5][h] or ("wanted", h, 1) in state[1][1 - h])) for h, it in enumerate(state[0]))
-
     good = [it for it in found if not is_waiting(it)]
     comes = set(good)
     while good:
@@ -192,7 +268,7 @@ def searched(has_tickets, has_fence, has_park=True):
             if it not in comes:
                 comes.add(it)
                 good.append(it)
-    return runs, len(found) - len(comes), most, len(found)
+    return runs, old, len(found) - len(comes), most, len(found)
 
 
 def interleavings(told):
@@ -200,12 +276,17 @@ def interleavings(told):
         text = re.sub(r" *#.*", "", (TOP / name).read_text()) if name.endswith(".S") else (TOP / name).read_text()
         lacking = [it for it in patterns if not re.search(it, text)]
         told(f"{name} has the steps of the model of its lock", not lacking, " ".join(lacking)[:300])
-    runs, lost, most, count = searched(True, True)
-    told(f"in all {count} states of two harts none runs while it is stopped, none waits for ever, and one goes in before another at most once", (runs, lost, most) == (0, 0, 1), f"{runs} {lost} {most}")
-    runs, lost, most, count = searched(True, False, has_park=False)
-    told(f"without the fences an interrupt is lost ({lost} of {count} states)", lost and not runs, f"{runs} {lost}")
-    runs, lost, most, count = searched(False, True, has_park=False)
-    told(f"with the lock that has no order a hart is passed {most} times and more", (runs, lost, most) == (0, 0, MOST), f"{runs} {lost} {most}")
+    *found, count = searched()
+    told(f"in all {count} states of two harts none runs while it is stopped or without its fence, none waits for ever, one goes in before another at most once", found == [0, 0, 0, 1], str(found))
+    for lack, has, what, index in (
+        ("fence after the CLINT", (), "an interrupt is lost", 2),
+        ("fence after halted", ("fences",), "a world goes on without its fence", 1),
+        ("fences while it waits", ("fences",), "two harts wait for one another", 2),
+        ("tickets", (), "a hart is passed twice and more", 3),
+    ):
+        found = searched(lack, has=has)
+        wrong = [i for i, it in enumerate(found[:4]) if it > (i == 3)]
+        told(f"without {lack} {what} ({found[index]} of {found[4]} states)", wrong == [index], str(found))
 
 
 if __name__ == "__main__":

@@ -326,6 +326,8 @@ def ends(folder, told):
     built(folder / "two.toml", folder / "late", "-DLEAVE_RUNNING -DTEN_SECONDS=10000000ul")
     said = booted(folder / "late/pmpmon-virt.elf", folder / "race.elf", 2)
     told("a hart that does not stop in time ends the board", said == "monitor: a hart does not stop, asked by hart 0\n", said)
+    said = booted(folder / "late/pmpmon-virt.elf", host(folder / "late.elf", "harts.S", "two_hosts.S", "late.c"), 2)
+    told("a fence that does not come in time is an error of the call", said == "its own fence 0\nthat of the other hart -1\n", said)
     with Wired(image, folder / "reset-1.elf", 1, kind=5) as board:
         board.until("it waits\n")
         board.written(symbol(image, "stack_guard"), bytes(8))

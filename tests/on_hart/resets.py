@@ -39,11 +39,11 @@ def button(image, payload, harts):
         return right, repr(board.said)
 
 
-def fatal(image, payload, harts):
+def fatal(image, payload, harts, function):
     """The monitor itself traps: code of its own was overwritten with an illegal instruction."""
     with Wired(image, payload, harts, kind=WAITS) as board:
         begun = board.until("it waits\n") and board.word(SECRET_AT) == SECRET
-        board.written(symbol(image, "take_requests"), bytes(8))
+        board.written(symbol(image, function), bytes(8))
         right = begun and board.has_ended() and "\nmonitor: trapped 0x0000000000000002 " in board.said and board.word(SECRET_AT) == 0
         return right, f"{board.said!r} {board.word(SECRET_AT):#x}"
 
@@ -56,7 +56,8 @@ def resets(images, payloads, told):
         rows += [(f"the reset button, {harts} harts", button, (image, payload, harts))]
     rows += [("a warm reboot", asked_for, (images[0], payloads[0], 1, WARM))]
     rows += [("a store to the finisher", asked_for, (images[0], payloads[0], 1, FINISHER, "the finisher: fault 7\n"))]
-    rows += [(f"a fatal end, {harts} harts", fatal, (images[harts - 1], payloads[harts - 1], harts)) for harts in (1, 2)]
+    for function in ("load_changes", "serve_alone"):
+        rows += [(f"a fatal end in {function}, {harts} harts", fatal, (images[harts - 1], payloads[harts - 1], harts, function)) for harts in (1, 2)]
     with ThreadPoolExecutor(max_workers=3) as boards:
         for (name, _, _), (right, why) in zip(rows, boards.map(lambda it: it[1](*it[2]), rows)):
             told(f"{name}: nothing of an enclave is left", right, "" if right else why)
