@@ -1,5 +1,5 @@
 -- What a verdict says of the registers.
-use Rattle.std.proofs.Common.{ℕ, ◌≡◌, ◌≢◌, ◌∙◌, ◌⊎◌, ◌&&◌, inl, inr, List, Bool, true, false, sym, subst, arith}
+use Rattle.std.proofs.Common.{ℕ, ◌≡◌, ◌≢◌, ◌∙◌, ◌⊎◌, ◌&&◌, inl, inr, List, Bool, true, false, None, sym, subst, arith}
 use Rattle.pmp_encoding.specs.declared.extent.Extent.{Extent}
 use Rattle.pmp_encoding.specs.Views.{View}
 use Rattle.pmp_match.specs.declared.registers.Registers.{Registers}
@@ -14,7 +14,9 @@ use Rattle.register_audit.specs.Findings.{IsFirstDifference}
 use Rattle.register_text.specs.declared.listing.Listing.{Listing}
 use Rattle.register_audit.specs.Audits.{IsAnswer, judged, unmodelled}
 use Rattle.register_audit.specs.Verdicts.{IsVerdict, is_difference, is_meant}
+use Rattle.register_text.specs.SecurityBits.{unknown_bit}
 use Rattle.register_audit.proofs.Cut.{cut_not}
+use Rattle.register_audit.proofs.NoMap.{one_or_none}
 
 differs_not : (view : View) (registers : Registers) (xs : List Extent) (s : Stretch) → AreExtents registers xs → IsFirstDifference view xs s
     → ¬ ExtentsMean xs view
@@ -54,12 +56,12 @@ extents_given view registers true (verdicts.NoMeaning found) is e = absurd cc
 -- what an answer says of the registers
 pub answer_yes : (view : View) (fewest : ℕ) (all : Bool) (listing : Listing) (text : List ℕ) (means : Bool) → IsAnswer view fewest all listing text means
     → means ≡ true
-    → (listing.mseccfg ≡ 0) × RegistersMean listing.registers view
+    → (unknown_bit listing.mseccfg ≡ None) × RegistersMean listing.registers view
 answer_yes view fewest all listing _ means (judged none verdict is text said) told = (none, verdict_yes view listing.registers verdict is (sym told))
-answer_yes view fewest all listing text means (unmodelled other) told = absurd cc
+answer_yes view fewest all listing text means (unmodelled bit is) told = absurd cc
 
 pub answer_no : (view : View) (fewest : ℕ) (all : Bool) (listing : Listing) (text : List ℕ) (means : Bool) → IsAnswer view fewest all listing text means
     → means ≡ false
-    → (listing.mseccfg ≢ 0) ⊎ (¬ RegistersMean listing.registers view)
+    → (unknown_bit listing.mseccfg ≢ None) ⊎ (¬ RegistersMean listing.registers view)
 answer_no view fewest all listing _ means (judged none verdict is text said) told = inr (verdict_no view listing.registers verdict is (sym told))
-answer_no view fewest all listing text means (unmodelled other) told = inl other
+answer_no view fewest all listing text means (unmodelled bit is) told = inl (λ none. one_or_none (unknown_bit listing.mseccfg) bit is none)

@@ -10,17 +10,23 @@ use Rattle.pmp_match.specs.declared.access.Access.{Access}
 use Rattle.pmp_match.specs.Decision.{allows}
 use Rattle.pmp_match.specs.Matching.{touches, grants, lets_through}
 use Rattle.pmp_match.specs.declared.registers.Registers.{Registers}
-use Rattle.pmp_match.specs.RegisterMatching.{AreExtentsFrom, nowhere, unlocked}
+use Rattle.pmp_match.specs.RegisterMatching.{AreExtentsFrom, nowhere}
 use Rattle.pmp_match.specs.Registers.{cfg_at, pairs_from}
 use Rattle.pmp_encoding.specs.Widths.{AreReached}
-use Rattle.pmp_match.proofs.Instance.{entry_extent, off_extent, off_untouched, whole_cfg}
+use Rattle.pmp_match.proofs.Instance.{entry_extent, off_extent, off_untouched}
 use Rattle.pmp_match.proofs.Spaces.{reached_end, reached_rest}
-use Rattle.register_audit.specs.Decision.{IsLocked}
+use Rattle.pmp_match.specs.Smepmp.{user_cfg}
+use Rattle.pmp_match.proofs.UserBytes.{user_bits_below, whole_cfg}
 
 -- ---- a pair without a fault
 
-not_locked : (registers : Registers) (place : ℕ) → unlocked (cfg_at registers place) ≡ cfg_at registers place → ¬ IsLocked registers place
-not_locked registers place whole locked = omega (arith, whole, locked)
+-- L is set
+abbrev pub IsLocked : Registers → ℕ → Type 0
+IsLocked registers place = cfg_at registers place / 2 ^ 7 % 2 ≡ 1
+
+not_locked : (registers : Registers) (place : ℕ) → user_cfg registers.security (cfg_at registers place) ≡ cfg_at registers place → ¬ IsLocked registers place
+not_locked registers place whole locked =
+    let below = user_bits_below registers.security (cfg_at registers place) in omega (arith, whole, locked, below)
 
 -- ---- a list
 
@@ -59,8 +65,8 @@ pub none_locked : (registers : Registers) (first count : ℕ) (entries : List En
     → first ≤ place → place < first + count → ¬ IsLocked registers place
 none_locked registers first zero _ done place low high = absurd (omega (arith, low, high))
 none_locked registers first (suc count) entries (skip o list) place low high =
-    ⊎_elim (λ same. subst (λ p. ¬ IsLocked registers p) same (not_locked registers first (whole_cfg _ _ (off_faultless _ _ o))))
+    ⊎_elim (λ same. subst (λ p. ¬ IsLocked registers p) same (not_locked registers first (whole_cfg registers.security _ _ (off_faultless _ _ o))))
     (λ above. none_locked registers (first + 1) count entries list place above (omega (arith, high))) (at_or_above first place low)
 none_locked registers first (suc count) _ (keep {e = e} {entries = entries} m list) place low high =
-    ⊎_elim (λ same. subst (λ p. ¬ IsLocked registers p) same (not_locked registers first (whole_cfg _ _ (entry_faultless _ _ e m))))
+    ⊎_elim (λ same. subst (λ p. ¬ IsLocked registers p) same (not_locked registers first (whole_cfg registers.security _ _ (entry_faultless _ _ e m))))
     (λ above. none_locked registers (first + 1) count entries list place above (omega (arith, high))) (at_or_above first place low)

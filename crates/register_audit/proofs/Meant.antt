@@ -1,23 +1,24 @@
 -- The view that registers mean where a map is printed.
-use Rattle.std.proofs.Common.{◌≡◌, ℕ, List, Bool, true, refl}
+use Rattle.std.proofs.Common.{◌≡◌, ℕ, List, Bool, true, None, refl}
 use Rattle.pmp_encoding.specs.declared.extent.Extent.{Extent}
 use Rattle.permission_map.specs.declared.runs.Run.{Run}
 use Rattle.permission_map.specs.Runs.{AreRuns, view_of_runs}
 use Rattle.pmp_match.specs.RegisterDecision.{RegistersMean}
 use Rattle.pmp_match.specs.RegisterMatching.{AreExtents}
 use Rattle.register_text.specs.declared.listing.Listing.{Listing}
+use Rattle.register_text.specs.SecurityBits.{unknown_bit}
 use Rattle.register_audit.specs.Maps.{IsMapOf, IsMapOfExtents, below, cut, mapped, refused, told}
 use Rattle.register_audit.specs.MapTexts.{map_text}
 
 -- what a printed map is
 pub record IsMeant (listing : Listing) (text : List ℕ) : Type 0 where
-  pub modelled : listing.mseccfg ≡ 0
+  pub modelled : unknown_bit listing.mseccfg ≡ None
   pub runs : List Run
   pub are_runs : AreRuns runs
   pub means : RegistersMean listing.registers (view_of_runs runs)
   pub is_text : text ≡ map_text runs
 
-extents_mean : (listing : Listing) (xs : List Extent) (text : List ℕ) (is_map : Bool) → listing.mseccfg ≡ 0 → AreExtents listing.registers xs
+extents_mean : (listing : Listing) (xs : List Extent) (text : List ℕ) (is_map : Bool) → unknown_bit listing.mseccfg ≡ None → AreExtents listing.registers xs
     → IsMapOfExtents xs text is_map
     → is_map ≡ true → IsMeant listing text
 extents_mean listing xs text is_map none are (mapped runs are_runs means) is_one = record {

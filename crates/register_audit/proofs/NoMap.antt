@@ -1,5 +1,5 @@
 -- Extents that mean no view.
-use Rattle.std.proofs.Common.{◌≡◌, ◌≢◌, ◌∙◌, ℕ, ◌*◌, ◌/◌, ◌%◌, ◌==◌, ◌^◌, ◌<◌, ◌⊎◌, inl, inr, List, Bool, false, ap, sym, subst, arith}
+use Rattle.std.proofs.Common.{◌≡◌, ◌≢◌, ◌∙◌, ℕ, ◌*◌, ◌/◌, ◌%◌, ◌==◌, ◌^◌, ◌<◌, ◌⊎◌, inl, inr, List, Bool, false, None, Option, Some, ap, sym, subst, arith}
 use Rattle.std.specs.List.{AllByRecursion}
 use Rattle.pmp_encoding.specs.declared.extent.Extent.{Extent}
 use Rattle.pmp_encoding.specs.Views.{View}
@@ -8,6 +8,7 @@ use Rattle.pmp_match.proofs.RegistersEachByte.{each_byte}
 use Rattle.pmp_match.proofs.Matched.{all_defined, each_words, one_list}
 use Rattle.map_table.specs.declared.stretch.Stretch.{Stretch}
 use Rattle.register_text.specs.declared.listing.Listing.{Listing}
+use Rattle.register_text.specs.SecurityBits.{unknown_bit}
 use Rattle.register_text.specs.Texts.{IsRefusal, reserved, unmodelled}
 use Rattle.register_audit.specs.Findings.{CutsAlone, IsCut, IsFirstDifference}
 use Rattle.register_audit.proofs.Cut.{cut_not}
@@ -52,15 +53,20 @@ extents_none xs text is_map other words (mapped runs are means) no_map = absurd 
 extents_none xs text is_map other words (below view first s d) no_map = below_none xs view other s words first d
 extents_none xs text is_map other words (cut view first i at c) no_map = cut_none xs view other i at words first c
 
+-- a bit is not none
+pub one_or_none : (o : Option ℕ) (bit : ℕ) → o ≡ Some bit → o ≡ None → ⊥
+one_or_none None bit is none = cc
+one_or_none (Some other) bit is none = cc
+
 -- what a listing leaves that means nothing means no view
-none_refused : (listing : Listing) (line : List ℕ) → IsRefusal listing line → (listing.mseccfg ≢ 0) ⊎ ((view : View) → ¬ RegistersMean listing.registers view)
+none_refused : (listing : Listing) (line : List ℕ) → IsRefusal listing line → (unknown_bit listing.mseccfg ≢ None) ⊎ ((view : View) → ¬ RegistersMean listing.registers view)
 none_refused listing line (reserved none found is) =
     inr (λ view m. all_defined listing.registers m.extents m.are_extents found.place is.inside found.value is.value.has)
-none_refused listing line (unmodelled other) = inl other
+none_refused listing line (unmodelled bit is) = inl (λ none. one_or_none (unknown_bit listing.mseccfg) bit is none)
 
 -- where no map is printed there is none
 pub none_meant : (listing : Listing) (text : List ℕ) (is_map : Bool) → IsMapOf listing text is_map → is_map ≡ false
-    → (listing.mseccfg ≢ 0) ⊎ ((view : View) → ¬ RegistersMean listing.registers view)
+    → (unknown_bit listing.mseccfg ≢ None) ⊎ ((view : View) → ¬ RegistersMean listing.registers view)
 none_meant listing text is_map (told none xs are said it of) no_map =
     inr (λ view m. extents_none xs text is_map view (each_words listing.registers xs are) of no_map
     (subst (λ (ys : List Extent). ExtentsMean ys view) (one_list listing.registers m.extents xs m.are_extents are) m.means))

@@ -10,7 +10,8 @@ use Rattle.pmp_match.specs.declared.registers.Registers.{Registers}
 use Rattle.pmp_match.specs.RegisterDecision.{ContainsAll, Meets}
 use Rattle.pmp_match.specs.RegisterMatching.{AreExtents, AreExtentsFrom, IsExtentAt}
 use Rattle.pmp_match.proofs.Matched.{one_extent}
-use Rattle.register_audit.specs.Decision.{LetsThrough, Misses, RegistersAllow, matched, unmatched}
+use Rattle.pmp_match.specs.Kinds.{holds}
+use Rattle.register_audit.specs.Decision.{LetsThrough, Misses, RegistersAllow, default_perm, matched, unmatched}
 
 pub machine_from_test : (m : Mode) → is_machine m ≡ true → m ≡ Machine
 machine_from_test Machine h = refl
@@ -50,7 +51,8 @@ pub record IsDecidedFrom (registers : Registers) (a : Access) (first place : ℕ
 pub data AllowFrom (registers : Registers) (a : Access) (first : ℕ) : Type 0 where
   by_place : (place : ℕ) (x : Extent) → IsDecidedFrom registers a first place x → ContainsAll x a → LetsThrough registers a place x
       → AllowFrom registers a first
-  by_none : ((place : ℕ) → first ≤ place → place < 64 → Misses registers a place) → a.mode ≡ Machine → AllowFrom registers a first
+  by_none : ((place : ℕ) → first ≤ place → place < 64 → Misses registers a place) → holds (default_perm registers a.mode) a.kind ≡ true
+      → AllowFrom registers a first
 
 module _ (registers : Registers) (a : Access) where
   all_from : RegistersAllow registers a → AllowFrom registers a 0
@@ -58,25 +60,25 @@ module _ (registers : Registers) (a : Access) where
       by_place place x
       (record { low = omega arith; inside = d.inside; is_extent = d.is_extent; met = d.met; missed = λ lower low less. d.missed lower less })
       whole may
-  all_from (unmatched none machine) = by_none (λ place low inside. none place inside) machine
+  all_from (unmatched none may) = by_none (λ place low inside. none place inside) may
 
   from_all : AllowFrom registers a 0 → RegistersAllow registers a
   from_all (by_place place x d whole may) =
       matched place x
       (record { inside = d.inside; is_extent = d.is_extent; met = d.met; missed = λ lower less. d.missed lower (omega arith) less })
       whole may
-  from_all (by_none none machine) = unmatched (λ place inside. none place (omega arith) inside) machine
+  from_all (by_none none may) = unmatched (λ place inside. none place (omega arith) inside) may
 
   pub allow_all : RegistersAllow registers a ↔ AllowFrom registers a 0
   allow_all = (all_from, from_all)
 
   -- no entry is left
-  past_left : (first : ℕ) → 64 ≤ first → AllowFrom registers a first → a.mode ≡ Machine
+  past_left : (first : ℕ) → 64 ≤ first → AllowFrom registers a first → holds (default_perm registers a.mode) a.kind ≡ true
   past_left first past (by_place place x d whole may) = absurd (omega (arith, past, d.low, d.inside))
-  past_left first past (by_none none machine) = machine
+  past_left first past (by_none none may) = may
 
-  pub allow_past : (first : ℕ) → 64 ≤ first → AllowFrom registers a first ↔ (a.mode ≡ Machine)
-  allow_past first past = (past_left first past, (λ machine. by_none (λ place low inside. absurd (omega (arith, past, low, inside))) machine))
+  pub allow_past : (first : ℕ) → 64 ≤ first → AllowFrom registers a first ↔ (holds (default_perm registers a.mode) a.kind ≡ true)
+  allow_past first past = (past_left first past, (λ may. by_none (λ place low inside. absurd (omega (arith, past, low, inside))) may))
 
   -- the first of them misses
   at_or_above : (first place : ℕ) → first ≤ place → (first ≡ place) ⊎ (first + 1 ≤ place)
@@ -90,7 +92,7 @@ module _ (registers : Registers) (a : Access) where
       (record { low = above; inside = d.inside; is_extent = d.is_extent; met = d.met; missed = λ lower low less. d.missed lower (omega (arith, low)) less })
       whole may)
       (at_or_above first place d.low)
-  over_missed first off (by_none none machine) = by_none (λ place low inside. none place (omega (arith, low)) inside) machine
+  over_missed first off (by_none none may) = by_none (λ place low inside. none place (omega (arith, low)) inside) may
 
   under_missed : (first : ℕ) → Misses registers a first → AllowFrom registers a (first + 1) → AllowFrom registers a first
   under_missed first off (by_place place x d whole may) =
@@ -104,9 +106,9 @@ module _ (registers : Registers) (a : Access) where
             (at_or_above first lower low);
       })
       whole may
-  under_missed first off (by_none none machine) =
+  under_missed first off (by_none none may) =
       by_none (λ place low inside. ⊎_elim (λ same. subst (λ p. Misses registers a p) same off) (λ above. none place above inside) (at_or_above first place low))
-      machine
+      may
 
   pub allow_missed : (first : ℕ) → Misses registers a first → AllowFrom registers a first ↔ AllowFrom registers a (first + 1)
   allow_missed first off = (over_missed first off, under_missed first off)
@@ -122,7 +124,7 @@ module _ (registers : Registers) (a : Access) where
       (subst (λ z. ContainsAll z a) equal whole, subst (λ z. LetsThrough registers a first z) equal (subst (λ p. LetsThrough registers a p y) (sym same) may)))
       (λ above. absurd (d.missed first (omega arith) (omega (arith, above)) x is met))
       (at_or_above first place d.low)
-  decided_by first x inside is met (by_none none machine) = absurd (none first (omega arith) inside x is met)
+  decided_by first x inside is met (by_none none may) = absurd (none first (omega arith) inside x is met)
 
   pub allow_met : (first : ℕ) (x : Extent) → first < 64 → IsExtentAt registers first x → Meets x a
       → AllowFrom registers a first ↔ (ContainsAll x a × LetsThrough registers a first x)

@@ -1,5 +1,5 @@
 -- An audit of a listing.
-use Rattle.std.specs.Prelude.{◌≡◌, ◌≢◌, ℕ, List, ◌++◌, ◌&&◌, Bool, true, false, Some}
+use Rattle.std.specs.Prelude.{◌≡◌, ℕ, List, ◌++◌, ◌&&◌, Bool, true, false, Some, None}
 use Rattle.pmp_encoding.specs.Views.{View}
 use Rattle.pmp_match.specs.declared.registers.Registers.{Registers}
 use Rattle.pmp_encoding.specs.declared.xlen.Xlen.{Xlen}
@@ -9,7 +9,8 @@ use Rattle.register_audit.specs.declared.verdict.Verdict.{Verdict}
 use Rattle.register_audit.specs.Differences.{AreDifferences}
 use Rattle.register_audit.specs.Verdicts.{IsVerdict, is_difference, is_meant}
 use Rattle.register_audit.specs.Texts.{verdict_text}
-use Rattle.register_text.specs.Texts.{passed_text, smepmp_text}
+use Rattle.register_text.specs.SecurityBits.{unknown_bit}
+use Rattle.register_text.specs.Texts.{notes_text, unknown_bit_text}
 
 -- what is said of a verdict: its line; but where it is a stretch that differs and all are asked
 -- for, a line for each
@@ -21,22 +22,22 @@ pub data IsSaid (view : View) (fewest : ℕ) (all : Bool) (registers : Registers
       → AreDifferences view registers text → IsSaid view fewest all registers verdict text
 
 -- what is said of what a listing leaves and its answer: the verdict on the registers; and a no
--- where mseccfg is not zero, since its bits change what the entries mean
+-- where mseccfg has a bit that no extension gives, since it might change what the entries mean
 pub data IsAnswer (view : View) (fewest : ℕ) (all : Bool) (listing : Listing) : List ℕ → Bool
     → Type 0 where
   judged :
-      listing.mseccfg ≡ 0 → (verdict : Verdict) → IsVerdict view listing.registers verdict
+      unknown_bit listing.mseccfg ≡ None → (verdict : Verdict) → IsVerdict view listing.registers verdict
       → (text : List ℕ) → IsSaid view fewest all listing.registers verdict text
       → IsAnswer view fewest all listing text (is_meant verdict)
-  unmodelled : listing.mseccfg ≢ 0
-      → IsAnswer view fewest all listing (smepmp_text listing.mseccfg) false
+  unmodelled : (bit : ℕ) → unknown_bit listing.mseccfg ≡ Some bit
+      → IsAnswer view fewest all listing (unknown_bit_text listing.mseccfg bit) false
 
--- the text is what is said of the listing of registers of that width, and after it a comment on
--- lines that are passed over
+-- the text is what is said of the listing of registers of that width, and after it comments on
+-- what is passed over
 pub record IsAudit (view : View) (xlen : Xlen) (fewest : ℕ) (all : Bool) (listing text : List ℕ)
     (means : Bool) : Type 0 where
   pub leaves : Listing
   pub listed_as : listed xlen listing ≡ Some leaves
   pub said : List ℕ
   pub answer : IsAnswer view fewest all leaves said means
-  pub lines : text ≡ said ++ passed_text leaves.passed
+  pub lines : text ≡ said ++ notes_text leaves

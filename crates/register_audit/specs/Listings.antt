@@ -1,33 +1,34 @@
 -- The registers that a listing leaves, or why they judge nothing.
-use Rattle.std.specs.Prelude.{◌≡◌, List, ℕ, ◌++◌, Some}
+use Rattle.std.specs.Prelude.{◌≡◌, List, ℕ, ◌++◌, Some, None}
 use Rattle.pmp_encoding.specs.declared.extent.Extent.{Extent}
 use Rattle.pmp_match.specs.declared.registers.Registers.{Registers}
 use Rattle.pmp_match.specs.RegisterMatching.{AreExtents}
 use Rattle.pmp_encoding.specs.declared.xlen.Xlen.{Xlen}
 use Rattle.register_text.specs.declared.listing.Listing.{Listing}
 use Rattle.register_text.specs.Listings.{listed}
-use Rattle.register_text.specs.Texts.{IsRefusal, passed_text}
+use Rattle.register_text.specs.SecurityBits.{unknown_bit}
+use Rattle.register_text.specs.Texts.{IsRefusal, notes_text}
 use Rattle.register_audit.specs.declared.listing_rules.Ruled.{Ruled}
 use Rattle.register_audit.specs.declared.listing_rules.Ruled.TheVariants as ruled
 
--- a listing of registers of that width leaves these, without a reserved value and with an mseccfg
--- of zero
+-- a listing of registers of that width leaves these, without a reserved value and with no bit
+-- of mseccfg that no extension gives
 pub record HasRules (xlen : Xlen) (listing : List ℕ) (registers : Registers) : Type 0 where
   pub leaves : Listing
   pub listed_as : listed xlen listing ≡ Some leaves
-  pub modelled : leaves.mseccfg ≡ 0
+  pub modelled : unknown_bit leaves.mseccfg ≡ None
   pub registers_are : registers ≡ leaves.registers
   pub extents : List Extent
   pub are_extents : AreExtents leaves.registers extents
 
--- the text is the line that says why what a listing leaves judges nothing, and after it a comment
--- on lines that are passed over
+-- the text is the line that says why what a listing leaves judges nothing, and after it comments
+-- on what is passed over
 pub record IsRefused (xlen : Xlen) (listing text : List ℕ) : Type 0 where
   pub leaves : Listing
   pub listed_as : listed xlen listing ≡ Some leaves
   pub line : List ℕ
   pub is_line : IsRefusal leaves line
-  pub lines : text ≡ line ++ passed_text leaves.passed
+  pub lines : text ≡ line ++ notes_text leaves
 
 -- what a listing has
 abbrev pub IsRuled : Xlen → List ℕ → Ruled → Type 0

@@ -1,5 +1,5 @@
 -- The map that a listing of registers means.
-use Rattle.std.specs.Prelude.{◌≡◌, ℕ, List, ◌++◌, Bool, true, false, Some}
+use Rattle.std.specs.Prelude.{◌≡◌, ℕ, List, ◌++◌, Bool, true, false, Some, None}
 use Rattle.pmp_encoding.specs.declared.extent.Extent.{Extent}
 use Rattle.pmp_encoding.specs.Views.{View}
 use Rattle.permission_map.specs.declared.runs.Run.{Run}
@@ -11,7 +11,8 @@ use Rattle.pmp_encoding.specs.declared.xlen.Xlen.{Xlen}
 use Rattle.register_text.specs.declared.listing.Listing.{Listing}
 use Rattle.register_text.specs.Listings.{listed}
 use Rattle.register_audit.specs.Findings.{CutsAlone, IsFirstDifference}
-use Rattle.register_text.specs.Texts.{IsRefusal, passed_text}
+use Rattle.register_text.specs.SecurityBits.{unknown_bit}
+use Rattle.register_text.specs.Texts.{IsRefusal, notes_text}
 use Rattle.register_audit.specs.Pages.{HasFirstBytes, IsTooFine}
 use Rattle.register_audit.specs.MapTexts.{below_text, cut_text, map_text}
 
@@ -30,7 +31,7 @@ pub data IsMapOfExtents (extents : List Extent) : List ℕ → Bool → Type 0 w
 -- they mean nothing
 pub data IsMapOf (listing : Listing) : List ℕ → Bool → Type 0 where
   told :
-      listing.mseccfg ≡ 0 → (extents : List Extent) → AreExtents listing.registers extents
+      unknown_bit listing.mseccfg ≡ None → (extents : List Extent) → AreExtents listing.registers extents
       → (text : List ℕ) (is_map : Bool) → IsMapOfExtents extents text is_map
       → IsMapOf listing text is_map
   refused : (line : List ℕ) → IsRefusal listing line → IsMapOf listing line false
@@ -40,11 +41,11 @@ abbrev pub AreTooFine : Listing → Type 0
 AreTooFine listing = (extents : List Extent) × AreExtents listing.registers extents
     × IsTooFine extents
 
--- the text is what is said of what the listing of registers of that width leaves, and after it a
--- comment on lines that are passed over
+-- the text is what is said of what the listing of registers of that width leaves, and after it
+-- comments on what is passed over
 pub record IsMapFile (xlen : Xlen) (listing text : List ℕ) (is_map : Bool) : Type 0 where
   pub leaves : Listing
   pub listed_as : listed xlen listing ≡ Some leaves
   pub said : List ℕ
   pub is_said : IsMapOf leaves said is_map
-  pub lines : text ≡ said ++ passed_text leaves.passed
+  pub lines : text ≡ said ++ notes_text leaves

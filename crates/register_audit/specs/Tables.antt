@@ -1,28 +1,29 @@
 -- The table of what a listing of registers leaves.
-use Rattle.std.specs.Prelude.{◌≡◌, ℕ, List, ◌++◌, Bool, true, false, Some}
+use Rattle.std.specs.Prelude.{◌≡◌, ℕ, List, ◌++◌, Bool, true, false, Some, None}
 use Rattle.pmp_encoding.specs.declared.extent.Extent.{Extent}
 use Rattle.pmp_match.specs.RegisterMatching.{AreExtents}
 use Rattle.pmp_encoding.specs.declared.xlen.Xlen.{Xlen}
 use Rattle.register_text.specs.declared.listing.Listing.{Listing}
 use Rattle.register_text.specs.Listings.{listed}
 use Rattle.register_audit.specs.Registers.{count_on}
-use Rattle.register_text.specs.Texts.{IsRefusal, passed_text}
+use Rattle.register_text.specs.SecurityBits.{unknown_bit}
+use Rattle.register_text.specs.Texts.{IsRefusal, notes_text}
 use Rattle.map_table.specs.Tables.{IsExtentTable}
 
 -- what is said of what a listing leaves, and whether the registers mean something: the table of
 -- their extents, or the line that says why they mean nothing
 pub data IsShown (listing : Listing) : List ℕ → Bool → Type 0 where
   shown :
-      listing.mseccfg ≡ 0 → (extents : List Extent) → AreExtents listing.registers extents
+      unknown_bit listing.mseccfg ≡ None → (extents : List Extent) → AreExtents listing.registers extents
       → (text : List ℕ) → IsExtentTable extents (count_on listing.registers.cfgs) text
       → IsShown listing text true
   refused : (line : List ℕ) → IsRefusal listing line → IsShown listing line false
 
--- the text is what is said of what the listing of registers of that width leaves, and after it a
--- comment on lines that are passed over
+-- the text is what is said of what the listing of registers of that width leaves, and after it
+-- comments on what is passed over
 pub record IsRegisterTable (xlen : Xlen) (listing text : List ℕ) (meant : Bool) : Type 0 where
   pub leaves : Listing
   pub listed_as : listed xlen listing ≡ Some leaves
   pub said : List ℕ
   pub is_said : IsShown leaves said meant
-  pub lines : text ≡ said ++ passed_text leaves.passed
+  pub lines : text ≡ said ++ notes_text leaves

@@ -1,30 +1,35 @@
 //! What registers say of an access.
 
 ghost use Rattle.std.specs.Prelude.{◌≡◌, ◌^◌, ◌<◌, ◌↔◌, IsTrue};
-ghost use Rattle.pmp_match.specs.declared.access.Mode.TheVariants.{Machine};
 ghost use Rattle.pmp_match.specs.RegisterDecision.{ContainsAll};
 ghost use Rattle.pmp_match.specs.RegisterMatching.{AreExtents};
 ghost use Rattle.register_audit.specs.Deciders.{by_entry};
-ghost use Rattle.register_audit.specs.Decision.{IsLocked, LetsThrough, RegistersAllow};
+ghost use Rattle.register_audit.specs.Decision.{LetsThrough, RegistersAllow, default_perm, perm_in};
 
 use crate::extents::{contains, meets};
-use pmp_match::{Access, Extent, Mode, Registers, holds, is_machine};
+use pmp_encoding::Perm;
+use pmp_match::{Access, Extent, Mode, Registers, holds, machine_default, machine_perm};
 use trace_answers::Decider;
 
-/// Whether the entry of a place is locked.
-fn is_locked(registers: &Registers, place: usize) -> bool
+/// What the entry of a place, which matches these addresses, gives a mode.
+fn perm_in(registers: &Registers, mode: Mode, place: usize, extent: &Extent) -> Perm
     requires { place < 64 }
-    ensures { IsTrue result ↔ IsLocked registers.now place }
+    ensures { result ≡ perm_in registers.now mode place extent.now }
 {
-    registers.cfgs[place] / 128 % 2 == 1
+    match mode {
+        Mode::Machine => machine_perm(registers.security, registers.cfgs[place]),
+        Mode::Supervisor | Mode::User => extent.perm,
+    }
 }
 
-/// Whether a mode needs no permission of the entry of a place: machine mode, where it is not locked.
-fn is_free(registers: &Registers, place: usize, mode: Mode) -> bool
-    requires { place < 64 }
-    ensures { IsTrue result ↔ ((mode ≡ Machine) × ¬ IsLocked registers.now place) }
+/// What a mode may do where no entry has a byte of an access.
+fn default_perm(registers: &Registers, mode: Mode) -> Perm
+    ensures { result ≡ default_perm registers.now mode }
 {
-    is_machine(mode) && !is_locked(registers, place)
+    match mode {
+        Mode::Machine => machine_default(registers.security),
+        Mode::Supervisor | Mode::User => Perm::NoAccess,
+    }
 }
 
 /// Whether the entry of a place, which matches these addresses, lets the access through.
@@ -32,7 +37,7 @@ fn lets_through(registers: &Registers, place: usize, extent: &Extent, access: &A
     requires { place < 64 }
     ensures { IsTrue result ↔ LetsThrough registers.now access.now place extent.now }
 {
-    is_free(registers, place, access.mode) || holds(extent.perm, access.kind)
+    holds(perm_in(registers, access.mode, place, extent), access.kind)
 }
 
 /// Whether the entry of a place, if it decides the access, says yes.
@@ -57,7 +62,7 @@ pub(crate) fn allow(registers: &Registers, extents: &[Extent; 64], access: &Acce
             return grants(registers, place, extent, access);
         }
     }
-    is_machine(access.mode)
+    holds(default_perm(registers, access.mode), access.kind)
 }
 
 /// The first entry by number that has a byte of the access, where there is one.

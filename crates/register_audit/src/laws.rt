@@ -13,15 +13,17 @@ ghost use Rattle.pmp_match.specs.declared.registers.Registers.{Registers};
 ghost use Rattle.pmp_match.specs.RegisterDecision.{Permits};
 ghost use Rattle.pmp_match.specs.RegisterMatching.{AreExtents};
 ghost use Rattle.pmp_match.specs.Registers.{pairs_of};
+ghost use Rattle.pmp_match.specs.Smepmp.{security_of};
 ghost use Rattle.register_audit.specs.Decision.{RegistersAllow};
 ghost use Rattle.register_audit.specs.Judgement.{RegistersJudge};
 
-/// Registers that hold a list of NA4 and NAPOT entries judge each access, of any mode, as the list does, where the hart's address registers reach it. Such a list has no locked
-/// entry.
+/// Registers that hold a list of NA4 and NAPOT entries judge each access as the list does, where the hart's address registers reach it:
+/// those of supervisor and user mode whatever `mseccfg` is, and those of machine mode where it is zero. Such a list has no locked entry.
 pub fn list_law()
     ensures { (registers : Registers) (entries : List Entry)
         → MeansList (pairs_of registers) entries → AreReached registers.xlen entries
-        → (a : Access) (answer : Result (Unit {0}) Cause)
+        → (a : Access) → (a.mode ≡ Machine → registers.security ≡ security_of 0)
+        → (answer : Result (Unit {0}) Cause)
         → RegistersJudge registers a answer ↔ Judges entries a answer }
 {}
 

@@ -1,6 +1,6 @@
 //! The audit of a listing.
 
-ghost use Rattle.std.specs.Prelude.{◌≡◌, ◌≢◌, ◌⊎◌, ◌-◌, ◌^◌, ◌<◌, ◌++◌, ◌&&◌, ℕ, Bool, Err, Ok, Some, List, IfOk, length, true, false};
+ghost use Rattle.std.specs.Prelude.{◌≡◌, ◌≢◌, ◌⊎◌, ◌-◌, ◌^◌, ◌<◌, ◌++◌, ◌&&◌, ℕ, Bool, Err, Ok, Some, List, IfOk, length, true, false, None};
 ghost use Rattle.byte_streams.specs.Writings.{writing, Breaks, TakesAll};
 ghost use Rattle.permission_map.specs.Runs.{view_of_runs};
 ghost use Rattle.pmp_match.specs.RegisterDecision.{RegistersMean};
@@ -8,7 +8,8 @@ ghost use Rattle.register_text.specs.declared.listing.Listing.{Listing};
 ghost use Rattle.register_text.specs.Listings.{IsFirstUnknown, listed};
 ghost use Rattle.register_audit.specs.declared.fault.ListingFault as ListingFault;
 ghost use Rattle.register_audit.specs.Audits.{IsAnswer, IsAudit, IsSaid};
-ghost use Rattle.register_text.specs.Texts.{passed_text};
+ghost use Rattle.register_text.specs.SecurityBits.{unknown_bit};
+ghost use Rattle.register_text.specs.Texts.{notes_text};
 ghost use Rattle.register_audit.specs.Verdicts.{IsVerdict, is_difference, is_meant};
 
 use crate::differences::differences_of;
@@ -19,7 +20,7 @@ use byte_streams::{Sink, write_whole};
 use permission_map::{Memory, PermissionMap};
 use pmp_encoding::Xlen;
 use pmp_match::Registers;
-use register_text::{Listing, listing_of, passed_line, smepmp_line, text_of_line};
+use register_text::{Listing, listing_of, push_notes, text_of_line, unknown_bit, unknown_bit_line};
 use std::alloc::Global;
 
 /// What is said of a listing, and whether it is a yes.
@@ -74,8 +75,8 @@ fn answer_of(
     ensures { IfOk result (λ answer. IsAnswer (view_of_runs map.now) fewest all listing.now
         answer.text.items answer.means) }
 {
-    if listing.mseccfg != 0 {
-        let text = text_of_line(alloc, &smepmp_line(listing.mseccfg))?;
+    if let Some(bit) = unknown_bit(listing.mseccfg) {
+        let text = text_of_line(alloc, &unknown_bit_line(listing.mseccfg, bit))?;
         return Ok(Answer { text, means: false });
     }
     let registers = &listing.registers;
@@ -87,15 +88,8 @@ fn answer_of(
     })
 }
 
-/// Appends the comment on lines that are passed over.
-fn push_passed(text: &mut Vec<u8>, passed: Option<u64>) -> Result<(), Memory>
-    ensures { IfOk result (λ _. text.new.items ≡ text.old.items ++ passed_text passed) }
-{
-    text.extend_from_slice(passed_line(passed).as_slice())
-}
-
 /// Reads a listing of registers of that width and writes, in one line, whether they mean the map, and where they do not first, or with `all`
-/// in a line for each stretch that differs; and after it a comment where lines of other registers are passed over. `fewest` is
+/// in a line for each stretch that differs; and after it comments on what is passed over. `fewest` is
 /// how many entries are enough for the map. Where a line is not understood or memory is refused, nothing is written; where the device failed, or took none of some bytes, a
 /// beginning of the text was written, not all of it.
 pub fn audit<W: Sink>(
@@ -112,11 +106,11 @@ pub fn audit<W: Sink>(
         (text : List ℕ) × IsAudit (view_of_runs map.now) xlen fewest all listing.now text means
         × TakesAll text (writing W.contents W.failures W.stalls out.old out.new)) }
     ensures means { result ≡ Ok true
-        → (leaves : Listing) × (listed xlen listing.now ≡ Some leaves) × (leaves.mseccfg ≡ 0)
+        → (leaves : Listing) × (listed xlen listing.now ≡ Some leaves) × (unknown_bit leaves.mseccfg ≡ None)
         × RegistersMean leaves.registers (view_of_runs map.now) }
     ensures differs { result ≡ Ok false
         → (leaves : Listing) × (listed xlen listing.now ≡ Some leaves)
-        × (leaves.mseccfg ≢ 0 ⊎ ¬ RegistersMean leaves.registers (view_of_runs map.now)) }
+        × (unknown_bit leaves.mseccfg ≢ None ⊎ ¬ RegistersMean leaves.registers (view_of_runs map.now)) }
     ensures line { (n : ℕ) → result ≡ Err (ListingFault.Line n)
         → IsFirstUnknown xlen listing.now n × (out.new ≡ out.old) }
     ensures untouched { result ≡ Err ListingFault.Memory → out.new ≡ out.old }
@@ -131,7 +125,7 @@ pub fn audit<W: Sink>(
     let Ok(mut answer) = answer_of(alloc, map, fewest, &listing, all) else {
         return Err(ListingFault::Memory);
     };
-    let Ok(()) = push_passed(&mut answer.text, listing.passed) else {
+    let Ok(()) = push_notes(&mut answer.text, &listing) else {
         return Err(ListingFault::Memory);
     };
     let Ok(()) = write_whole(out, answer.text.as_slice()) else {

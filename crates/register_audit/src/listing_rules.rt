@@ -2,7 +2,7 @@
 
 ghost use Rattle.std.specs.Prelude.{◌≡◌, ◌≢◌, ℕ, ◌-◌, ◌^◌, ◌<◌, ◌++◌, Err, IfOk, List, Some, length};
 ghost use Rattle.register_text.specs.Listings.{IsFirstUnknown, listed};
-ghost use Rattle.register_text.specs.Texts.{passed_text};
+ghost use Rattle.register_text.specs.Texts.{notes_text};
 ghost use Rattle.pmp_encoding.specs.declared.xlen.Xlen.{Xlen};
 ghost use Rattle.register_audit.specs.declared.fault.ListingFault as ListingFault;
 ghost use Rattle.register_audit.specs.Listings.{IsRuled};
@@ -10,7 +10,7 @@ ghost use Rattle.register_audit.specs.Listings.{IsRuled};
 use crate::fault::ListingFault;
 use crate::rules::Rules;
 use pmp_encoding::Xlen;
-use register_text::{Listing, extents_in, listing_of, passed_line, text_of_line};
+use register_text::{Listing, extents_in, listing_of, push_notes, text_of_line};
 use std::alloc::{AllocError, Global};
 use text_lines::Line;
 
@@ -23,13 +23,12 @@ pub enum Ruled {
     Refused(Vec<u8>),
 }
 
-/// A line, and the comment on lines that are passed over. The only error is out of memory.
-fn text_of(alloc: Global, line: &Line, passed: Option<u64>) -> Result<Vec<u8>, AllocError>
-    ensures { IfOk result (λ text. text.items ≡ line.now ++ passed_text passed) }
+/// A line on a listing, and the comments on what is passed over of it. The only error is out of memory.
+fn text_of(alloc: Global, line: &Line, listing: &Listing) -> Result<Vec<u8>, AllocError>
+    ensures { IfOk result (λ text. text.items ≡ line.now ++ notes_text listing.now) }
 {
     let mut text = text_of_line(alloc, line)?;
-    let comment = passed_line(passed);
-    text.extend_from_slice(comment.as_slice())?;
+    push_notes(&mut text, listing)?;
     Ok(text)
 }
 
@@ -41,14 +40,14 @@ fn ruled_by(alloc: Global, listing: &Listing) -> Result<Ruled, AllocError>
     match extents_in(listing) {
         Ok(extents) => Ok(Ruled::Rules(Rules::by(&listing.registers, extents))),
         Err(line) => {
-            let text = text_of(alloc, &line, listing.passed)?;
+            let text = text_of(alloc, &line, listing)?;
             Ok(Ruled::Refused(text))
         }
     }
 }
 
 /// The rules of the registers of that width that a listing leaves, or the text that says why they judge nothing: an entry with a reserved
-/// value, or Smepmp.
+/// value, or a bit of `mseccfg` that is not known.
 pub fn rules_in(alloc: Global, xlen: Xlen, listing: &[u8]) -> Result<Ruled, ListingFault>
     requires { length listing.now < 2 ^ 64 - 1 }
     ensures ruled { IfOk result (IsRuled xlen listing.now) }

@@ -1,6 +1,6 @@
 //! The map of a listing.
 
-ghost use Rattle.std.specs.Prelude.{◌≡◌, ◌≢◌, ◌⊎◌, ◌-◌, ◌^◌, ◌<◌, ◌++◌, ℕ, All, Bool, Err, IfOk, List, Ok, Some, false, length, true};
+ghost use Rattle.std.specs.Prelude.{◌≡◌, ◌≢◌, ◌⊎◌, ◌-◌, ◌^◌, ◌<◌, ◌++◌, ℕ, All, Bool, Err, IfOk, List, Ok, Some, false, length, true, None};
 ghost use Rattle.byte_streams.specs.Writings.{writing, Breaks, TakesAll};
 ghost use Rattle.pmp_encoding.specs.Views.{View};
 ghost use Rattle.permission_map.specs.declared.runs.Run.{Run};
@@ -8,7 +8,8 @@ ghost use Rattle.permission_map.specs.Runs.{AreRuns, view_of_runs};
 ghost use Rattle.pmp_match.specs.RegisterDecision.{IsWords, RegistersMean};
 ghost use Rattle.register_text.specs.declared.listing.Listing.{Listing};
 ghost use Rattle.register_text.specs.Listings.{IsFirstUnknown, listed};
-ghost use Rattle.register_text.specs.Texts.{passed_text};
+ghost use Rattle.register_text.specs.SecurityBits.{unknown_bit};
+ghost use Rattle.register_text.specs.Texts.{notes_text};
 ghost use Rattle.register_audit.specs.declared.fault.ListingFault as ListingFault;
 ghost use Rattle.register_audit.specs.declared.fault.MapOfFault as MapOfFault;
 ghost use Rattle.register_audit.specs.declared.fault.NoMapReason as NoMapReason;
@@ -24,7 +25,7 @@ use byte_streams::{Sink, write_whole};
 use permission_map::Memory;
 use pmp_encoding::Xlen;
 use pmp_match::Extent;
-use register_text::{Listing, extents_in, listing_of, passed_line, text_of_line};
+use register_text::{Listing, extents_in, listing_of, push_notes, text_of_line};
 use std::alloc::Global;
 
 /// What is said of registers, and whether it is a map.
@@ -83,21 +84,20 @@ fn said_of(alloc: Global, listing: &Listing) -> Result<Said, NoMapReason>
     Ok(said)
 }
 
-/// The same with the comment on lines that are passed over.
+/// The same with the comments on what is passed over.
 fn with_comment(alloc: Global, listing: &Listing) -> Result<Said, NoMapReason>
     ensures said { IfOk result (λ all. (text : List ℕ) × IsMapOf listing.now text all.is_map
-        × (all.text.items ≡ text ++ passed_text listing.now.passed)) }
+        × (all.text.items ≡ text ++ notes_text listing.now)) }
     ensures many { result ≡ Err NoMapReason.TooManyRanges → AreTooFine listing.now }
 {
     let mut all = said_of(alloc, listing)?;
-    let comment = passed_line(listing.passed);
-    all.text.extend_from_slice(comment.as_slice())?;
+    push_notes(&mut all.text, listing)?;
     Ok(all)
 }
 
 /// Reads a listing of registers of that width, and writes the map that they mean, as the lines of a map file; or one line that says why no map
-/// of whole pages is what supervisor and user mode may do under them. After it comes a comment where lines of other registers
-/// are passed over. The answer is whether there is a map. Where a line is not understood, there are too many ranges or memory is
+/// of whole pages is what supervisor and user mode may do under them. After it come comments on
+/// what is passed over. The answer is whether there is a map. Where a line is not understood, there are too many ranges or memory is
 /// refused, nothing is written; where the device failed, or took none of some bytes, a beginning of the text was written.
 pub fn print_map_of<W: Sink>(
     alloc: Global,
@@ -110,13 +110,13 @@ pub fn print_map_of<W: Sink>(
         × IsMapFile xlen listing.now text is_map
         × TakesAll text (writing W.contents W.failures W.stalls out.old out.new)) }
     ensures means { result ≡ Ok true → (leaves : Listing)
-        × (listed xlen listing.now ≡ Some leaves) × (leaves.mseccfg ≡ 0) × (runs : List Run)
+        × (listed xlen listing.now ≡ Some leaves) × (unknown_bit leaves.mseccfg ≡ None) × (runs : List Run)
         × AreRuns runs × RegistersMean leaves.registers (view_of_runs runs)
-        × TakesAll (map_text runs ++ passed_text leaves.passed)
+        × TakesAll (map_text runs ++ notes_text leaves)
         (writing W.contents W.failures W.stalls out.old out.new) }
     ensures none { result ≡ Ok false → (leaves : Listing)
         × (listed xlen listing.now ≡ Some leaves)
-        × (leaves.mseccfg ≢ 0 ⊎ ((view : View) → ¬ RegistersMean leaves.registers view)) }
+        × (unknown_bit leaves.mseccfg ≢ None ⊎ ((view : View) → ¬ RegistersMean leaves.registers view)) }
     ensures line { (n : ℕ) → result ≡ Err (MapOfFault.Listing (ListingFault.Line n))
         → IsFirstUnknown xlen listing.now n × (out.new ≡ out.old) }
     ensures many { result ≡ Err MapOfFault.TooManyRanges

@@ -3,7 +3,7 @@
 ghost use Rattle.std.specs.Prelude.{◌≡◌, ◌-◌, ◌^◌, ◌<◌, ◌++◌, ℕ, Bool, Err, IfOk, List, length};
 ghost use Rattle.byte_streams.specs.Writings.{writing, Breaks, TakesAll};
 ghost use Rattle.register_text.specs.Listings.{IsFirstUnknown};
-ghost use Rattle.register_text.specs.Texts.{passed_text};
+ghost use Rattle.register_text.specs.Texts.{notes_text};
 ghost use Rattle.register_audit.specs.declared.fault.ListingFault as ListingFault;
 ghost use Rattle.register_audit.specs.Tables.{IsRegisterTable, IsShown};
 
@@ -13,7 +13,7 @@ use byte_streams::{Sink, write_whole};
 use map_table::extent_table;
 use permission_map::Memory;
 use pmp_encoding::Xlen;
-use register_text::{Listing, extents_in, listing_of, passed_line, text_of_line};
+use register_text::{Listing, extents_in, listing_of, push_notes, text_of_line};
 use std::alloc::Global;
 
 /// What is said of registers, and whether they mean something.
@@ -39,19 +39,18 @@ fn said_of(alloc: Global, listing: &Listing) -> Result<Shown, Memory>
     Ok(Shown { text, meant: true })
 }
 
-/// The same with the comment on lines that are passed over. The only error is out of memory.
+/// The same with the comments on what is passed over. The only error is out of memory.
 fn with_comment(alloc: Global, listing: &Listing) -> Result<Shown, Memory>
     ensures { IfOk result (λ all. (text : List ℕ) × IsShown listing.now text all.meant
-        × (all.text.items ≡ text ++ passed_text listing.now.passed)) }
+        × (all.text.items ≡ text ++ notes_text listing.now)) }
 {
     let mut all = said_of(alloc, listing)?;
-    let comment = passed_line(listing.passed);
-    all.text.extend_from_slice(comment.as_slice())?;
+    push_notes(&mut all.text, listing)?;
     Ok(all)
 }
 
 /// Reads a listing of registers of that width, and writes the table of what they give to supervisor and user mode, or the line that says why
-/// they mean nothing; and after it a comment where lines of other registers are passed over. The answer is whether they mean
+/// they mean nothing; and after it comments on what is passed over. The answer is whether they mean
 /// something. Where a line is not understood or memory is refused, nothing is written; where the device failed, or took none of
 /// some bytes, a beginning of the text was written, not all of it.
 pub fn print_registers<W: Sink>(

@@ -1,5 +1,6 @@
 pub mod Lines
 pub mod Listings
+pub mod SecurityBits
 pub mod Texts
 pub mod Blocks
 pub mod Letters

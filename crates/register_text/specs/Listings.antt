@@ -6,6 +6,7 @@ use Rattle.std.specs.Option.{option_and_then}
 use Rattle.pmp_encoding.specs.declared.xlen.Xlen.{Xlen}
 use Rattle.pmp_encoding.specs.Widths.{word_entries}
 use Rattle.pmp_match.specs.declared.registers.Registers.{Registers}
+use Rattle.pmp_match.specs.Smepmp.{security_of}
 use Rattle.register_text.specs.declared.listing.Listing.{Listing}
 use Rattle.register_text.specs.declared.setting.Setting.{Setting}
 use Rattle.register_text.specs.declared.setting.Setting.TheVariants as settings
@@ -17,7 +18,12 @@ use Rattle.register_text.specs.Lines.{log_sets, raw_sets}
 abbrev pub nothing_set : Xlen → Listing
 nothing_set xlen = record {
   registers =
-      record { xlen = xlen; cfgs = replicate 64 0; addresses = replicate 64 0 };
+      record {
+        xlen = xlen;
+        security = security_of 0;
+        cfgs = replicate 64 0;
+        addresses = replicate 64 0;
+      };
   mseccfg = 0;
   passed = None;
   entries = None;
@@ -32,25 +38,35 @@ set_bytes place (suc count) value bytes =
     set_bytes (place + 1) count (value / 256) (slice_set bytes place (value % 256))
 
 -- the registers of the protection after a setting: a configuration word has a byte of as many
--- entries as its width says
+-- entries as its width says, and of mseccfg the bits are kept that change what entries give
 abbrev pub registers_by : Registers → Setting → Registers
 registers_by registers (settings.Pair place cfg address) =
     record {
       xlen = registers.xlen;
+      security = registers.security;
       cfgs = slice_set registers.cfgs place cfg;
       addresses = slice_set registers.addresses place address;
     }
 registers_by registers (settings.Address place value) =
     record {
       xlen = registers.xlen;
+      security = registers.security;
       cfgs = registers.cfgs;
       addresses = slice_set registers.addresses place value;
     }
 registers_by registers (settings.Word place value) =
     record {
       xlen = registers.xlen;
+      security = registers.security;
       cfgs =
           set_bytes place (word_entries registers.xlen) value registers.cfgs;
+      addresses = registers.addresses;
+    }
+registers_by registers (settings.Security value) =
+    record {
+      xlen = registers.xlen;
+      security = security_of value;
+      cfgs = registers.cfgs;
       addresses = registers.addresses;
     }
 registers_by registers setting = registers

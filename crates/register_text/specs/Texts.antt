@@ -1,5 +1,5 @@
 -- What is said of what a listing leaves.
-use Rattle.std.specs.Prelude.{◌≡◌, ◌≢◌, ℕ, List, [], ◌++◌, codes, decimal, Option, Some, None}
+use Rattle.std.specs.Prelude.{◌≡◌, ℕ, List, [], ◌++◌, codes, decimal, Option, Some, None}
 use Rattle.text_lines.specs.Written.{hex}
 use Rattle.pmp_encoding.specs.Widths.{register_digits}
 use Rattle.pmp_match.specs.declared.registers.Registers.{Registers}
@@ -9,6 +9,7 @@ use Rattle.pmp_match.specs.declared.reserved.Reserved.TheVariants.{Permission, B
 use Rattle.pmp_match.specs.Registers.{address_at, cfg_at}
 use Rattle.pmp_match.specs.Reserved.{IsFirstReserved}
 use Rattle.register_text.specs.declared.listing.Listing.{Listing}
+use Rattle.register_text.specs.SecurityBits.{foreign_bit, unknown_bit}
 
 -- the reserved value of a pair
 abbrev pub reserved_name : Reserved → List ℕ
@@ -23,10 +24,11 @@ reserved_text registers f =
     ++ codes " 0x" ++ hex (register_digits registers.xlen) (address_at registers f.place)
     ++ codes ": " ++ reserved_name f.value ++ codes "\n"
 
--- what is said of registers beside an mseccfg that is not zero
-abbrev pub smepmp_text : ℕ → List ℕ
-smepmp_text mseccfg = codes "mseccfg 0x" ++ hex 16 mseccfg
-    ++ codes ": no verdict, Smepmp is not modelled\n"
+-- `mseccfg 0xVVVVVVVVVVVVVVVV: no verdict, bit N is not known`, what is said of registers beside an
+-- mseccfg with a bit that no extension gives
+abbrev pub unknown_bit_text : ℕ → ℕ → List ℕ
+unknown_bit_text mseccfg bit = codes "mseccfg 0x" ++ hex 16 mseccfg
+    ++ codes ": no verdict, bit " ++ decimal bit ++ codes " is not known\n"
 
 -- the comment on lines that are passed over, by the first of them
 abbrev pub passed_text : Option ℕ → List ℕ
@@ -34,9 +36,21 @@ passed_text None = []
 passed_text (Some first) = codes "# lines of other registers are passed over, line "
     ++ decimal first ++ codes " first\n"
 
+-- the comment on bits of mseccfg that are not about PMP, by the lowest of them
+abbrev pub foreign_bit_text : Option ℕ → List ℕ
+foreign_bit_text None = []
+foreign_bit_text (Some bit) = codes "# bits of mseccfg that are not about PMP are passed over, bit "
+    ++ decimal bit ++ codes " first\n"
+
+-- the comments on what is passed over of a listing
+abbrev pub notes_text : Listing → List ℕ
+notes_text leaves = passed_text leaves.passed ++ foreign_bit_text (foreign_bit leaves.mseccfg)
+
 -- why what a listing leaves means nothing: the line of the first entry that has a reserved value,
--- or of an mseccfg that is not zero, since its bits change what the entries mean
+-- or of an mseccfg with a bit that no extension gives, since it might change what the entries mean
 pub data IsRefusal (leaves : Listing) : List ℕ → Type 0 where
-  reserved : leaves.mseccfg ≡ 0 → (found : ReservedAt) → IsFirstReserved leaves.registers found
+  reserved : unknown_bit leaves.mseccfg ≡ None → (found : ReservedAt)
+      → IsFirstReserved leaves.registers found
       → IsRefusal leaves (reserved_text leaves.registers found)
-  unmodelled : leaves.mseccfg ≢ 0 → IsRefusal leaves (smepmp_text leaves.mseccfg)
+  unmodelled : (bit : ℕ) → unknown_bit leaves.mseccfg ≡ Some bit
+      → IsRefusal leaves (unknown_bit_text leaves.mseccfg bit)

@@ -11,7 +11,7 @@
 //!   log sets, that it says nothing, or that it is not understood. A region is an aligned block of 2^k bytes, or the whole
 //!   space (`block`); its letters say what supervisor and user mode may do there (`letters`).
 //! - `extents`: [`extents_in`] answers what the entries match, or the line that says why they mean nothing. `texts` has the lines
-//!   on such listings.
+//!   on such listings, and `security_bits` the bits of `mseccfg` that are not of Smepmp.
 //!
 //! ```rust
 //! let listing = listing_of(Xlen::Rv64, b"pmpaddr0 0x200001ff\npmpcfg0 0x1f\n")?;
@@ -29,6 +29,7 @@ mod listing;
 mod log;
 mod names;
 mod register_lines;
+mod security_bits;
 mod setting;
 mod texts;
 
@@ -40,5 +41,6 @@ pub use lines::{is_boot_log, log_says};
 pub use listing::{Listing, is_listing, listing_of};
 pub use pmp_match::Registers;
 pub use register_lines::line_sets;
+pub use security_bits::unknown_bit;
 pub use setting::Setting;
-pub use texts::{passed_line, reserved_line, smepmp_line, text_of_line};
+pub use texts::{push_notes, reserved_line, text_of_line, unknown_bit_line};

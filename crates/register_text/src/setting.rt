@@ -7,7 +7,7 @@ ghost use Rattle.register_text.specs.Listings.{count_by, first_of, is_of_pmp, no
 
 use crate::listing::Listing;
 use pmp_encoding::Xlen;
-use pmp_match::Registers;
+use pmp_match::{Registers, Security};
 
 /// What a line sets. Places are below 64.
 #[derive(Clone, Copy, Debug, PartialEq, Eq)]
@@ -58,6 +58,7 @@ pub(crate) fn nothing_set(xlen: Xlen) -> Listing
     Listing {
         registers: Registers {
             xlen,
+            security: Security::of(0),
             cfgs: [0; 64],
             addresses: [0; 64],
         },
@@ -101,8 +102,8 @@ impl Setting {
     {
         let mut registers = *registers;
         match self {
-            Setting::Nothing | Setting::Count { .. } | Setting::Other | Setting::Security { .. } =>
-                {}
+            Setting::Nothing | Setting::Count { .. } | Setting::Other => {}
+            Setting::Security { value } => registers.security = Security::of(value),
             Setting::Pair {
                 place,
                 cfg,

@@ -1,8 +1,10 @@
 //! What is said of what a listing leaves.
 
-ghost use Rattle.std.specs.Prelude.{◌≡◌, ◌<◌, ◌≤◌, IfOk, length};
-ghost use Rattle.register_text.specs.Texts.{passed_text, reserved_name, reserved_text, smepmp_text};
+ghost use Rattle.std.specs.Prelude.{◌≡◌, ◌++◌, ◌<◌, ◌≤◌, IfOk, length};
+ghost use Rattle.register_text.specs.Texts.{foreign_bit_text, notes_text, passed_text, reserved_name, reserved_text, unknown_bit_text};
 
+use crate::listing::Listing;
+use crate::security_bits::foreign_bit;
 use pmp_match::{Registers, Reserved, ReservedAt};
 use std::alloc::{AllocError, Global};
 use text_lines::{Line, push_decimal, push_hex, push_text};
@@ -39,19 +41,21 @@ pub fn reserved_line(registers: &Registers, found: &ReservedAt) -> Line
     line
 }
 
-/// The line on an `mseccfg` that is not zero.
-pub fn smepmp_line(mseccfg: u64) -> Line
-    ensures { result ≡ smepmp_text mseccfg }
+/// The line on an `mseccfg` with a bit that no extension gives.
+pub fn unknown_bit_line(mseccfg: u64, bit: u8) -> Line
+    ensures { result ≡ unknown_bit_text mseccfg bit }
 {
     let mut line = Line::new();
     push_text(&mut line, b"mseccfg 0x");
     push_hex(&mut line, mseccfg, 16);
-    push_text(&mut line, b": no verdict, Smepmp is not modelled\n");
+    push_text(&mut line, b": no verdict, bit ");
+    push_decimal(&mut line, u64::from(bit));
+    push_text(&mut line, b" is not known\n");
     line
 }
 
 /// The comment on lines that are passed over.
-pub fn passed_line(passed: Option<u64>) -> Line
+fn passed_line(passed: Option<u64>) -> Line
     ensures { result ≡ passed_text passed }
 {
     let mut line = Line::new();
@@ -65,6 +69,32 @@ pub fn passed_line(passed: Option<u64>) -> Line
     push_decimal(&mut line, first);
     push_text(&mut line, b" first\n");
     line
+}
+
+/// The comment on bits of `mseccfg` that are not about PMP.
+fn foreign_bit_line(bit: Option<u8>) -> Line
+    ensures { result ≡ foreign_bit_text bit }
+{
+    let mut line = Line::new();
+    let Some(first) = bit else {
+        return line;
+    };
+    push_text(
+        &mut line,
+        b"# bits of mseccfg that are not about PMP are passed over, bit ",
+    );
+    push_decimal(&mut line, u64::from(first));
+    push_text(&mut line, b" first\n");
+    line
+}
+
+/// Appends the comments on what is passed over of a listing. The only error is out of memory.
+pub fn push_notes(text: &mut Vec<u8>, listing: &Listing) -> Result<(), AllocError>
+    ensures { IfOk result (λ _. text.new.items ≡ text.old.items ++ notes_text listing.now) }
+{
+    text.extend_from_slice(passed_line(listing.passed).as_slice())?;
+    text.extend_from_slice(foreign_bit_line(foreign_bit(listing.mseccfg)).as_slice())?;
+    Ok(())
 }
 
 /// A line as a text of its own. The only error is out of memory.

@@ -3,7 +3,7 @@
 use byte_streams::fakes::{PieceSink, PieceSource};
 use hart_trace::judge_lines;
 use pmp_encoding::Xlen;
-use pmp_match::{Access, Cause, Kind, Mode};
+use pmp_match::{Access, Cause, Kind, Mode, Security};
 use register_audit::{Registers, Reserved, ReservedAt, Ruled, Rules, rules_in};
 use std::alloc::Global;
 use std::process::Abort;
@@ -18,6 +18,7 @@ const ALL: u64 = 0x1f_ffff_ffff_ffff;
 fn two(first: (u8, u64), second: (u8, u64)) -> Registers {
     let mut registers = Registers {
         xlen: Xlen::Rv64,
+        security: Security::of(0),
         cfgs: [0; 64],
         addresses: [0; 64],
     };
@@ -113,6 +114,67 @@ fn locked_entries_and_partial_matches_bind_machine_mode(rt: HostRuntime) {
 fn a_range_is_from_the_register_before_to_before_its_own(rt: HostRuntime) {
     for row in OF_RANGES {
         judges_so(&rt, Mode::User, row);
+    }
+}
+
+/// With MML set: L, R, W and X of an entry, and what it gives machine mode and supervisor mode, each as R 1, W 2 and X 4.
+const OF_LOCKDOWN: &[(u8, u8, u8)] = &[
+    (0x18, 0, 0),
+    (0x1c, 0, 4),
+    (0x1a, 3, 1),
+    (0x1e, 3, 3),
+    (0x19, 0, 1),
+    (0x1d, 0, 5),
+    (0x1b, 0, 3),
+    (0x1f, 0, 7),
+    (0x98, 0, 0),
+    (0x9c, 4, 0),
+    (0x9a, 4, 4),
+    (0x9e, 5, 4),
+    (0x99, 1, 0),
+    (0x9d, 5, 0),
+    (0x9b, 3, 0),
+    (0x9f, 1, 1),
+];
+
+/// What machine mode may do at a byte that no entry matches, by `mseccfg`.
+const UNMATCHED: &[(u64, u8)] = &[(0, 7), (1, 3), (2, 0), (3, 0), (4, 7)];
+
+/// Rules give a mode these rights, R 1, W 2 and X 4, to four bytes at an address.
+fn gives(rt: &impl Abort, rules: &Rules, mode: Mode, addr: u64, rights: u8) {
+    for (kind, right) in [(Kind::Load, 1), (Kind::Store, 2), (Kind::Fetch, 4)] {
+        let access = Access::new(mode, kind, 4, addr).expect(rt, "a size");
+        let may = rules.judge(&access).is_ok();
+        assert!(rt;
+            may == (rights & right != 0),
+            "{mode:?} {kind:?} {addr:#x} {rights}"
+        );
+    }
+}
+
+/// The rules of one entry on a page, under this `mseccfg`.
+fn secured(rt: &impl Abort, mseccfg: u64, cfg: u8) -> Rules {
+    let mut registers = two((cfg, PAGE), (0, 0));
+    registers.security = Security::of(mseccfg);
+    Rules::of(&registers).ok().expect(rt, "rules")
+}
+
+#[test]
+fn sixteen_rules_of_lockdown(rt: HostRuntime) {
+    for (cfg, machine, supervisor) in OF_LOCKDOWN {
+        let rules = secured(&rt, 1, *cfg);
+        gives(&rt, &rules, Mode::Machine, IN_PAGE, *machine);
+        gives(&rt, &rules, Mode::Supervisor, IN_PAGE, *supervisor);
+        gives(&rt, &rules, Mode::User, IN_PAGE, *supervisor);
+    }
+}
+
+#[test]
+fn machine_mode_where_nothing_matches(rt: HostRuntime) {
+    for (mseccfg, machine) in UNMATCHED {
+        let rules = secured(&rt, *mseccfg, 0x1f);
+        gives(&rt, &rules, Mode::Machine, 0x1000, *machine);
+        gives(&rt, &rules, Mode::User, 0x1000, 0);
     }
 }
 

@@ -4,7 +4,7 @@ use Rattle.std.proofs.lemmas.Bool.{both_ways}
 use Rattle.pmp_match.specs.Tor.{nowhere}
 use Rattle.pmp_match.proofs.Matched.{extent_words}
 use Rattle.register_audit.proofs.Places.{allow_all, allow_met, allow_missed, allow_past, extent_in, misses_by}
-use Rattle.register_audit.proofs.Same.{machine_test, through, back}
+use Rattle.register_audit.proofs.Same.{through, back}
 use Rattle.register_audit.proofs.decision.allow.Goals as goal
 
 pub loop-place-init : goal.loop-place-init
@@ -35,4 +35,4 @@ loop-place-preserved c =
 pub returns : goal.returns
 returns c =
     let past = allow_past c.args.registers.now c.args.access.now c.loop-place.place (omega (arith, c.loop-place-test.false)) in
-    rw c.is_machine.ensures (back (through (through c.loop-place.invariant past) (machine_test c.args.access.now)))
+    rw (c.holds.ensures, c.default_perm.ensures) (back (through c.loop-place.invariant past))
