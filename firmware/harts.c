@@ -71,7 +71,7 @@ void load_changes(void)
     unsigned self = this_hart();
     halted[self] = 0;
     __asm__ volatile("fence rw, rw" ::: "memory");
-    if (__atomic_load_n(&requests[self], __ATOMIC_ACQUIRE))
+    if (__atomic_load_n(&requests[self], __ATOMIC_ACQUIRE) || fences_asked[self] != fences_made[self])
         take_requests();
     if (!is_stale[self])
         return;

@@ -23,22 +23,28 @@
     .endr
     .endm
 
-/* The lock is two numbers: who comes takes the next, and goes in when it is called. So each comes in before who came later. */
-    .macro  lock
-    la      t0, tickets
-    li      t1, 1
-    amoadd.w.aq t1, t1, (t0)
-1:  lw      t3, 4(t0)
-    bne     t1, t3, 1b
-    fence   r, rw
-    .endm
-/* Before it the hart is done with memory, and with what it said to the CLINT, which a release alone does not order. */
+/*
+ * Before it the hart is done with memory, and with what it said to the CLINT, which a release alone does not order. The hart that is
+ * called next may sleep.
+ */
     .macro  unlock
     fence
     la      t0, tickets
     lw      t5, 4(t0)
     addiw   t5, t5, 1
     sw      t5, 4(t0)
+    fence
+    andi    t5, t5, 3
+    slli    t5, t5, 2
+    add     t0, t0, t5
+    lw      t5, 8(t0)
+    beqz    t5, 9f
+    slli    t5, t5, 2
+    li      t0, CLINT - 4
+    add     t0, t0, t5
+    li      t5, 1
+    sw      t5, (t0)
+9:
     .endm
 
     .text
@@ -142,17 +148,49 @@ take_monitor:
     li      t1, 1
     fence   rw, rw
     sw      t1, (t2)
-    lock
+    call    take_lock
     la      t0, monitor_sp
     ld      sp, (t0)
     callee_saved ld
     addi    sp, sp, SAVED
     ret
 
-/* A hart that serves alone ends the board: it comes for the lock first. */
+/*
+ * The lock is two numbers: who comes takes the next, and goes in when it is called. So each comes in before who came later. Who has
+ * waited for some microseconds sleeps until it is called, and says so: another hart may need its core. It makes its word of the
+ * CLINT zero before it looks.
+ */
     .globl  take_lock
 take_lock:
-    lock
+    la      t0, tickets
+    li      t1, 1
+    amoadd.w.aq t1, t1, (t0)
+    li      t5, 1000
+1:  lw      t3, 4(t0)
+    beq     t1, t3, 4f
+    addi    t5, t5, -1
+    bgtz    t5, 1b
+    csrr    t6, mie
+    li      t5, 1 << 3
+    csrw    mie, t5             # its software interrupt alone wakes it
+    csrr    t4, mhartid
+    addi    t5, t4, 1
+    slli    t4, t4, 2
+    li      t2, CLINT
+    add     t4, t4, t2
+    andi    t2, t1, 3
+    slli    t2, t2, 2
+    add     t2, t2, t0
+    sw      t5, 8(t2)
+2:  sw      zero, (t4)
+    fence
+    lw      t3, 4(t0)
+    beq     t1, t3, 3f
+    wfi
+    j       2b
+3:  sw      zero, 8(t2)
+    csrw    mie, t6
+4:  fence   r, rw
     ret
 
 /* The stack is that of this hart alone. */
@@ -167,9 +205,9 @@ own_stack:
 
     .section .sdata, "aw"
     .balign 8
-/* Hart 0 has the monitor first: the next number, and the one that is called. */
+/* Hart 0 has the monitor first: the next number, the one that is called, and of four numbers the harts that sleep, plus 1. */
 tickets:
-    .word   1, 0
+    .word   1, 0, 0, 0, 0, 0
     .globl  halted
 halted:
     .word   1, 0, 0, 0

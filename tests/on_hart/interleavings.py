@@ -23,10 +23,11 @@ TURN = 3  # tickets and fences are counted up to here, and then from 0
 # The lines that the steps are of: the model has them, so the sources have to.
 LINES = {
     "firmware/trap.S": (
-        r"\.macro  lock\n +la +t0, tickets\n +li +t1, 1\n +amoadd\.w\.aq t1, t1, \(t0\)\n1: +lw +t3, 4\(t0\)\n +bne +t1, t3, 1b\n +fence +r, rw\n",
-        r"\.macro  unlock\n +fence\n +la +t0, tickets\n +lw +t5, 4\(t0\)\n +addiw +t5, t5, 1\n +sw +t5, 4\(t0\)\n",
+        r" +fence\n +la +t0, tickets\n +lw +t5, 4\(t0\)\n +addiw +t5, t5, 1\n +sw +t5, 4\(t0\)\n +fence\n(?: +(?:andi|slli|add) .*\n)+ +lw +t5, 8\(t0\)\n +beqz +t5, 9f\n",
+        r"take_lock:\n +la +t0, tickets\n +li +t1, 1\n +amoadd\.w\.aq t1, t1, \(t0\)\n +li .*\n1: +lw +t3, 4\(t0\)\n +beq +t1, t3, 4f\n",
+        r" +sw +t5, 8\(t2\)\n2: +sw +zero, \(t4\)\n +fence\n +lw +t3, 4\(t0\)\n +beq +t1, t3, 3f\n +wfi\n +j +2b\n3: +sw +zero, 8\(t2\)\n.*\n4: +fence +r, rw\n",
         r" +unlock\n1: +sw +zero, \(t4\)\n +fence\n +lw +t1, \(t3\)\n +bnez +t1, 2f\n +wfi\n +j +1b\n2: +sw +zero, \(t3\)\n",
-        r"fence   rw, rw\n +sw      t1, \(t2\)\n +lock\n",
+        r"fence   rw, rw\n +sw      t1, \(t2\)\n +call    take_lock\n",
     ),
     "firmware/harts.c": (
         r"\"fence\" .*\n +if \(!LEAVE_RUNNING\)\n +software_interrupt\[hart\] = 1;\n",
@@ -34,7 +35,7 @@ LINES = {
         r"load_n\(&fences_asked\[self\], __ATOMIC_ACQUIRE\);\n +fence_here\(__atomic_fetch_and\(&requests\[self\], ~FENCES, __ATOMIC_SEQ_CST\)\);\n"
         r" +__atomic_store_n\(&fences_made\[self\], asked, __ATOMIC_RELEASE\);\n",
         r"software_interrupt\[self\] = 0;\n.*\"fence\" .*\n +make_fences\(self\);\n +what = __atomic_fetch_and\(&requests\[self\], FENCES, __ATOMIC_SEQ_CST\);\n",
-        r"halted\[self\] = 0;\n.*\"fence rw, rw\" .*\n +if \(__atomic_load_n\(&requests\[self\], __ATOMIC_ACQUIRE\)\)\n +take_requests\(\);\n",
+        r"halted\[self\] = 0;\n.*\"fence rw, rw\" .*\n +if \(__atomic_load_n\(&requests\[self\], __ATOMIC_ACQUIRE\) \|\| fences_asked\[self\] != fences_made\[self\]\)\n +take_requests\(\);\n",
         r"while \(!halted\[hart\] && .*&fences_made\[hart\], __ATOMIC_ACQUIRE\) - number\) < 0\) {\n +make_fences\(this_hart\(\)\);\n",
         r"fetch_or\(&requests\[hart\], kinds, __ATOMIC_SEQ_CST\);\n.*add_fetch\(&fences_asked\[hart\], 1, __ATOMIC_SEQ_CST\);\n +interrupt\(hart\);\n",
         r"request\(hart, STOP\);\n.*\n +while \(!halted\[hart\]\)\n",
@@ -46,8 +47,19 @@ LINES = {
 def programs(lacks):
     """What a hart does, by the name of each step: the fence before it, its kind, its words, and the step after it."""
     full = "" if "fence after the CLINT" in lacks else "all"
-    free = (full or "memory", "release") if "tickets" in lacks else (full, "next")
-    lock = {"lock": ("", "swap", "in")} if "tickets" in lacks else {"lock": ("", "ticket", "spin"), "spin": ("", "called", "in")}
+    lock = {
+        "lock": ("", "ticket", "spin"),
+        "spin": ("", "called", "in", "sleep"),
+        "sleep": ("", "store", "sleeps", 1, "sleep2"),
+        "sleep2": ("", "store", "clint", 0, "sleep3"),
+        "sleep3": ("all", "called", "awake", "sleep4"),
+        "sleep4": ("", "wfi", "sleep2"),
+        "awake": ("", "store", "sleeps", 0, "in"),
+    }
+    if "tickets" in lacks:
+        lock = {"lock": ("", "swap", "in")}
+    gives_up = (full or "memory", "release") if "tickets" in lacks else (full, "next")
+    wakes = ("" if "fence before it wakes" in lacks else "all", "wake")
     return {
         # (a world, until its interrupt comes or it calls)
         "world": ("", "world"),
@@ -73,9 +85,11 @@ def programs(lacks):
         "unpark2": ("all", "raise", "leave"),
         "leave": ("", "store", "halted", 0, "requests"),
         "requests": ("" if "fence after halted" in lacks else "memory", "requests"),
-        "unlock": (*free, "world"),
+        "unlock": (*gives_up, "unlock2"),
+        "unlock2": (*wakes, "world"),
         # parked: halted, and without the lock
-        "park": (*free, "park2"),
+        "park": (*gives_up, "park1"),
+        "park1": (*wakes, "park2"),
         "park2": ("", "store", "clint", 0, "park3"),
         "park3": ("all", "wanted", "park4", "wfi"),
         "wfi": ("", "wfi", "park2"),
@@ -86,11 +100,12 @@ def programs(lacks):
 # A state: for each hart its step, what it called for, its number (of its ticket, or of fences) and who went in before it; its buffers of
 # memory and of the CLINT; memory: the next ticket and the one that is called (or the lock), and for each hart halted, wanted, the
 # CLINT's word, what is asked of it, and how many fences were asked for and made; and whether a fence is to come, and was promised.
-START = ((("world", "", 0, 0),) * HARTS, ((),) * HARTS, ((),) * HARTS, (0, 0)) + ((0,) * HARTS,) * 8
-PLACES = {"lock": 3, "halted": 4, "wanted": 5, "clint": 6, "requests": 7, "asked": 8, "fenced": 9}
-LACKS, OWES = 10, 11
+START = ((("world", "", 0, 0),) * HARTS, ((),) * HARTS, ((),) * HARTS, (0, 0)) + ((0,) * HARTS,) * 9
+PLACES = {"lock": 3, "halted": 4, "wanted": 5, "clint": 6, "requests": 7, "asked": 8, "fenced": 9, "sleeps": 10}
+LACKS, OWES = 11, 12
+COMES = ("spin", "sleep", "sleep2", "sleep3", "sleep4")
 # The steps in which a hart has a number: of a ticket, of its own fences, of another's.
-NUMBERED = dict.fromkeys((("lock", False), ("lock", True)), ("spin",)) | {("fenced", True): ("fences", "made"), ("fenced", False): ("fence3", "fenced")}
+NUMBERED = dict.fromkeys((("lock", False), ("lock", True)), COMES) | {("fenced", True): ("fences", "made"), ("fenced", False): ("fence3", "fenced")}
 
 
 def put(state, at, index, value):
@@ -143,17 +158,17 @@ def went_in(state, hart):
     """A hart goes in: another that waits for the lock has seen it."""
     other = 1 - hart
     step, call, number, passed = state[0][other]
-    return put(state, 0, other, (step, call, number, min(passed + 1, MOST))) if step == "spin" or (step == "lock" and number < 0) else state
+    return put(state, 0, other, (step, call, number, min(passed + 1, MOST))) if step in COMES or (step == "lock" and number < 0) else state
 
 
-PARKED = ("park", "park2", "park3", "wfi")
+PARKED = ("park", "park1", "park2", "park3", "wfi")
 
 
 def calls(state, hart, has_park):
     """What a world calls the monitor for: a stopped hart is started, and the last one that is not stopped does not stop."""
     step = state[0][1 - hart][0]
     yield from ("leave", "stop")
-    if has_park and step in PARKED[1:] and not state[5][1 - hart] and not state[1][hart]:
+    if has_park and step in PARKED[2:] and not state[5][1 - hart] and not state[1][hart]:
         yield "unpark"
     elif has_park and step not in PARKED:
         yield "park"
@@ -180,7 +195,7 @@ def steps(state, hart, program, has, lacks):
         if state[6][hart]:
             yield False, to("clear")
         yield True, to("trap")
-        if "fences" in has and (state[8][other] - state[9][other]) % TURN < 2:
+        if "fences" in has and (state[8][other] - state[9][other]) % TURN < (1 if "one" in has else 2):
             yield True, to("fence")
     elif kind == "store":
         yield False, to(words[2], stored(state, hart, words[0], hart, words[1]))
@@ -206,12 +221,17 @@ def steps(state, hart, program, has, lacks):
         next_step = "unlock" if call == "leave" else "trap" if state[7][hart] & STOP else "world"
         yield False, to(next_step, put(state, 7, hart, state[7][hart] & FENCE), call="")
     elif kind == "requests":
-        yield False, to("clear", call="leave") if state[7][hart] else to("unlock", call="")
+        is_asked = state[7][hart] or "look at the count" not in lacks and state[8][hart] != seen(state, hart, "fenced", hart)
+        yield False, to("clear", call="leave") if is_asked else to("unlock", call="")
     elif kind == "ticket":
         yield False, to(words[0], put(state, 3, 0, (state[3][0] + 1) % TURN), number=state[3][0])
     elif kind == "called":
         if seen(state, hart, "lock", 1) == number:
             yield False, to(words[0], went_in(state, hart), number=0, passed=0)
+        if "sleep" in has and (step == "spin" or seen(state, hart, "lock", 1) != number):
+            yield False, to(words[1])
+    elif kind == "wake":
+        yield False, to(words[0], stored(state, hart, "clint", other, 1) if seen(state, hart, "sleeps", other) else state)
     elif kind == "swap":
         # (a number below zero says that it has tried)
         if not state[3][0]:
@@ -240,11 +260,14 @@ def steps(state, hart, program, has, lacks):
 
 def is_waiting(state):
     """Whether a hart waits for another, or is to be started."""
-    return any(it[0] in ("wait", "fenced", "spin", "lock") or (it[0] == "wfi" and (state[5][h] or ("wanted", h, 1) in state[1][1 - h])) for h, it in enumerate(state[0]))
+    return any(it[0] in ("wait", "fenced", "lock", *COMES) or (it[0] == "wfi" and (state[5][h] or ("wanted", h, 1) in state[1][1 - h])) for h, it in enumerate(state[0]))
 
 
-def searched(*lacks, has=("park", "fences")):
-    """What the search finds: `runs`, `old` and `lost` with numbers of states, the most that a hart is passed, and all states."""
+def searched(*lacks, has=("park", "fences", "sleep")):
+    """What the search finds: `runs`, `old` and `lost` with numbers of states, the most that a hart is passed, and all states.
+
+    `has` says what there is beside the lock and the stop; with `one` a hart is asked for one fence at a time, and else for two.
+    """
     program = programs(lacks)
     before, found, waits = {}, {START}, [START]
     runs, old, most = 0, 0, 0
@@ -276,17 +299,20 @@ def interleavings(told):
         text = re.sub(r" *#.*", "", (TOP / name).read_text()) if name.endswith(".S") else (TOP / name).read_text()
         lacking = [it for it in patterns if not re.search(it, text)]
         told(f"{name} has the steps of the model of its lock", not lacking, " ".join(lacking)[:300])
-    *found, count = searched()
-    told(f"in all {count} states of two harts none runs while it is stopped or without its fence, none waits for ever, one goes in before another at most once", found == [0, 0, 0, 1], str(found))
+    for has in (("park", "fences"), ("park", "sleep"), ("fences", "sleep")):
+        *found, count = searched(has=has)
+        told(f"with {' and '.join(has)} none runs while it is stopped or without its fence, none waits for ever, one goes in before another at most once: {count} states", found == [0, 0, 0, 1], str(found))
     for lack, has, what, index in (
         ("fence after the CLINT", (), "an interrupt is lost", 2),
-        ("fence after halted", ("fences",), "a world goes on without its fence", 1),
-        ("fences while it waits", ("fences",), "two harts wait for one another", 2),
+        ("fence before it wakes", ("sleep",), "a hart that sleeps is not woken", 2),
+        ("fence after halted", ("fences", "one"), "a world goes on without its fence", 1),
+        ("fences while it waits", ("fences", "one"), "two harts wait for one another", 2),
+        ("look at the count", ("fences", "sleep", "one"), "a request whose interrupt the sleep has taken is lost", 2),
         ("tickets", (), "a hart is passed twice and more", 3),
     ):
-        found = searched(lack, has=has)
-        wrong = [i for i, it in enumerate(found[:4]) if it > (i == 3)]
-        told(f"without {lack} {what} ({found[index]} of {found[4]} states)", wrong == [index], str(found))
+        *found, count = searched(lack, has=has)
+        wrong = [i for i, it in enumerate(found) if it > (i == 3)]
+        told(f"without {lack} {what} ({found[index]} of {count} states)", wrong == [index], str(found))
 
 
 if __name__ == "__main__":

@@ -9,7 +9,7 @@
  *   enclaves fit PAGES N     64 enclaves of so many pages in the pool, and all go, in N random orders
  *   enclaves stuck           enclaves of which none can go but by filled gaps
  *   enclaves limit N         a process has N enclaves at most (the driver's parameter)
- *   enclaves lives WORKERS N SECONDS
+ *   enclaves lives WORKERS N SECONDS LOADS
  *                            so many processes make, run and end N enclaves each, or fewer in that time, beside others that load the machine
  *   enclaves parallel N      two enclaves at once on two CPUs, N millions of rounds each
  *   enclaves costs N         what a run to the next stop takes by ioctl, a creation, and how long another CPU stands still
@@ -448,9 +448,9 @@ static void live(const struct image *it, struct counts *c, uint64_t rounds, uint
     c->done++;
 }
 
-static void start_loads(pid_t *loads)
+static void start_loads(pid_t *loads, unsigned count)
 {
-    for (int i = 0; i < LOADS; i++) {
+    for (unsigned i = 0; i < count; i++) {
         loads[i] = fork();
         if (loads[i])
             continue;
@@ -461,17 +461,17 @@ static void start_loads(pid_t *loads)
     }
 }
 
-static void end_loads(pid_t *loads)
+static void end_loads(pid_t *loads, unsigned count)
 {
     int status;
-    for (int i = 0; i < LOADS; i++) {
+    for (unsigned i = 0; i < count; i++) {
         want(waitpid(loads[i], &status, WNOHANG) == 0, "a load goes on");
         kill(loads[i], SIGKILL);
         waitpid(loads[i], &status, 0);
     }
 }
 
-static int lives(unsigned workers, unsigned n, unsigned seconds)
+static int lives(unsigned workers, unsigned n, unsigned seconds, unsigned load_count)
 {
     struct image it = tried_image();
     struct counts *counts = mmap(0, 4096, PROT_READ | PROT_WRITE, MAP_SHARED | MAP_ANONYMOUS, -1, 0), all = {0};
@@ -479,7 +479,7 @@ static int lives(unsigned workers, unsigned n, unsigned seconds)
     int status;
     double begun = now();
     workers = workers > 16 ? 16 : workers;
-    start_loads(loads);
+    start_loads(loads, load_count);
     for (unsigned w = 0; w < workers; w++) {
         child[w] = fork();
         if (child[w])
@@ -494,7 +494,7 @@ static int lives(unsigned workers, unsigned n, unsigned seconds)
         all.done += counts[w].done, all.wrong += counts[w].wrong, all.refused += counts[w].refused;
         all.interrupts += counts[w].interrupts, all.again += counts[w].again;
     }
-    end_loads(loads);
+    end_loads(loads, load_count);
     printf("lives: %u workers, %lu lives, %lu wrong, %lu refused, %lu interrupts stopped an enclave, %lu tries again, %.1f s\n", workers, all.done, all.wrong,
            all.refused, all.interrupts, all.again, now() - begun);
     return wrong || all.wrong || all.refused || all.done < workers;
@@ -680,6 +680,7 @@ int main(int count, char **words)
 {
     const char *what = count > 1 ? words[1] : "";
     unsigned first = count > 2 ? (unsigned)atoi(words[2]) : 1, second = count > 3 ? (unsigned)atoi(words[3]) : 1, third = count > 4 ? (unsigned)atoi(words[4]) : 900;
+    unsigned fourth = count > 5 ? (unsigned)atoi(words[5]) % (LOADS + 1) : LOADS;
     program_name = "enclaves";
     setvbuf(stdout, 0, _IOLBF, 0);
     if (!strcmp(what, "faults"))
@@ -699,7 +700,7 @@ int main(int count, char **words)
     if (!strcmp(what, "limit"))
         return limit(first);
     if (!strcmp(what, "lives"))
-        return lives(first, second, third);
+        return lives(first, second, third, fourth);
     if (!strcmp(what, "parallel"))
         return parallel(first);
     if (!strcmp(what, "costs"))

@@ -641,7 +641,7 @@ static void program(const char *words)
     int status = -1;
     double begun = now();
     char *copy = strdup(words);
-    waitpid(start(copy, 900), &status, 0);
+    waitpid(start(copy, 7200), &status, 0);
     report(words, status == 0, "%s, %.2f s", ended(status), now() - begun);
     free(copy);
 }

@@ -41,7 +41,7 @@ DIGEST = re.compile(r"\b[0-9a-f]{64}\b")
 MANY = "unload,load:most=64;mode=0666,enclaves:user"
 BOOTS = {
     (4, 128): f"basic,hotplug,load,pmpmon-look:/enclaves/hello.elf,enclaves:wrong,enclaves:faults,enclaves:times,enclaves:killed,enclaves:limit:32,{MANY},"
-    "enclaves:fit:1:3,enclaves:fit:16:0,enclaves:stuck,enclaves:parallel:20,enclaves:lives:4:200:25,both:20,unload",
+    "enclaves:fit:1:3,enclaves:fit:16:0,enclaves:stuck,enclaves:parallel:20,enclaves:lives:4:250:60,both:20,unload",
     (2, 256): "basic,hotplug,load:most=64,enclaves:faults,enclaves:fit:4:0,enclaves:parallel:10,enclaves:lives:2:100:20,unload",
     (1, 128): "basic,load:most=64,enclaves:faults,enclaves:times,enclaves:killed,enclaves:lives:2:50:20,unload",
 }
@@ -103,7 +103,7 @@ def make_enclave(place, source, *words):
 
 def boot(out, place, harts, megabytes, tests, firmware=None, is_shown=False):
     """What a boot with these tests says, line by line."""
-    words = {"HARTS": str(harts), "MEMORY": str(megabytes), "INITRAMFS": str(place / "tests.gz"), "WORDS": f"loglevel=4 rdinit=/machine tests={tests}"}
+    words = {"HARTS": str(harts), "MEMORY": str(megabytes), "INITRAMFS": str(place / "tests.gz"), "WORDS": f"loglevel={5 if is_shown else 4} rdinit=/machine tests={tests}"}
     if firmware:
         words["FIRMWARE"] = str(firmware)
     lines, end = [], time.monotonic() + MOST_SECONDS
@@ -172,7 +172,7 @@ class Prompt:
     def until_prompt(self, seconds=90):
         """What is said up to the next prompt, or the end."""
         said, end = b"", time.monotonic() + seconds
-        while time.monotonic() < end and not said.endswith(b"\n# "):
+        while time.monotonic() < end and not (b"\n" + said).endswith(b"\n# "):
             if select.select([self.board.stdout], [], [], 0.2)[0]:
                 some = os.read(self.board.stdout.fileno(), 4096)
                 if not some:
