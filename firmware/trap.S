@@ -24,8 +24,8 @@
     .endm
 
 /*
- * Before it the hart is done with memory, and with what it said to the CLINT, which a release alone does not order. The hart that is
- * called next may sleep.
+ * Before it the hart is done with memory, and with what it said to the CLINT, which a release alone does not order. The hart
+ * that is called next may sleep.
  */
     .macro  unlock
     fence
