@@ -2,6 +2,8 @@
 """The digest that the monitor measures for an enclave's file, computed from the file.
 
   examples/linux/digest.py ENCLAVE.elf
+  examples/linux/digest.py ENCLAVE.elf OUT.bin      it also writes the bytes of text and data, and prints how `pmpmon measure`, which
+                                                    is proved, is asked for the same digest
 
 It is SHA-256 over four 64-bit numbers, the lowest byte first: text pages, data pages, shared pages and the entry offset; then the
 bytes of text and data in whole pages (docs/FORMATS.md, "Calls of the monitor").
@@ -40,6 +42,9 @@ def main():
         image[address : address + size] = file[offset : offset + size]
     entry = struct.unpack_from("<Q", file, 24)[0]
     print(hashlib.sha256(struct.pack("<4Q", pages["text"], pages["data"], pages["shared"], entry) + image).hexdigest())
+    if len(sys.argv) > 2:
+        Path(sys.argv[2]).write_bytes(image)
+        print(f"pmpmon measure {sys.argv[2]} --text {pages['text']} --data {pages['data']} --shared {pages['shared']} --entry {entry}")
 
 
 if __name__ == "__main__":

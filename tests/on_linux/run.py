@@ -11,7 +11,8 @@ as there can be, and lives of enclaves under load. Each has to be right, with no
 `$ ` and `# ` in the section "An enclave in C on Linux" are typed, in a shell and at the prompt above the monitor, and what comes back
 has to be what is below them; `...` is any lines. Last, what wrong files, a board without a pool and another firmware are answered.
 
-PMPMON_MODULE=FILE.o is a module of the monitor that nobody proved, as in firmware/build. What is missing is said, and nothing tested.
+PMPMON_MODULE=FILE.o is a module of the monitor that nobody proved, as in firmware/build, and PMPMON_PROGRAM=FILE another program than
+the proved one. What is missing is said, and nothing tested.
 The last line that is printed is 'N passed, M failed'.
 """
 import concurrent.futures
@@ -29,6 +30,7 @@ from pathlib import Path
 
 TOP = Path(__file__).resolve().parents[2]
 HERE, LINUX = TOP / "tests/on_linux", TOP / "examples/linux"
+PROGRAM = Path(os.environ.get("PMPMON_PROGRAM", TOP / "crates/pmpmon/out/pmpmon"))
 SOURCE = Path("/usr/src/linux-source-6.1.tar.xz")
 CROSS, BARE = "riscv64-linux-gnu-gcc", "riscv64-unknown-elf-gcc"
 TOOLS = ["qemu-system-riscv64", CROSS, BARE, "make", "bc", "bison", "flex", "cpio", "xz"]
@@ -265,8 +267,8 @@ def wrong_files(place, out):
         "missing.elf": "missing.elf: No such file or directory",
         "/bad/text.elf": "no ELF for RV64",
         "/bad/short.elf": "no enclave: text, data or shared pages are missing",
-        "/bad/odd.elf": "its entry, 0x1, is odd or outside its text",
-        "/bad/far.elf": "its entry, 0x1000, is odd or outside its text",
+        "/bad/odd.elf": "its entry, 0x1, is odd or outside its text: link it with -Wl,-T,enclave.ld",
+        "/bad/far.elf": "its entry, 0x1000, is odd or outside its text: link it with -Wl,-T,enclave.ld",
         "/bad/large.elf": "1 pages of text and 1024 of data: an enclave has 1 to 1024 pages",
         "/bad/shared.elf": "257 shared pages: an enclave has 1 to 256",
         "/bad/moved.elf": "its parts are at other places than enclave.ld gives them",
@@ -292,8 +294,12 @@ def bad_input(place, out):
         report("a time of letters", prompt.answer("pmpmon-run -t soon hello.elf") == ["usage: pmpmon-run [-i FILE] [-t SECONDS] ENCLAVE.elf [WORD...]"])
     (place / "bare").mkdir()
     subprocess.run([TOP / "firmware/build", LINUX / "platform.toml", place / "bare"], check=True, stderr=subprocess.DEVNULL)
-    without(out, "no pool", "pmpmon: no pool of 8 MiB or more for enclaves", FIRMWARE=str(place / "bare/pmpmon-virt.elf"))
-    without(out, "above OpenSBI", "pmpmon: the firmware below this kernel is not the monitor", FIRMWARE="default")
+    without(out, "no pool", "pmpmon: no pool of 8 MiB or more for enclaves: build the firmware with POOL=", FIRMWARE=str(place / "bare/pmpmon-virt.elf"))
+    without(out, "above OpenSBI", "pmpmon: the firmware below this kernel is not the monitor: boot it with pmpmon-virt.elf", FIRMWARE="default")
+    shutil.copytree(out / "root", place / "no-driver")
+    (place / "no-driver/pmpmon.ko").unlink()
+    archive(place / "no-driver", place / "no-driver.gz")
+    without(out, "no driver", "init: no driver: /pmpmon.ko: No such file or directory", INITRAMFS=str(place / "no-driver.gz"))
 
 
 def without(out, name, want, **words):
@@ -301,7 +307,18 @@ def without(out, name, want, **words):
     with Prompt(out, HARTS="1", MEMORY="128", **words) as prompt:
         report(f"{name}: {want}", any(want in it for it in prompt.until_prompt()))
         got = prompt.answer("pmpmon-run hello.elf")
-        report(f"{name}: pmpmon-run says so", any("no /dev/pmpmon: the driver is not loaded" in it for it in got), repr(got))
+        report(f"{name}: pmpmon-run says so", any("no /dev/pmpmon: load the driver, pmpmon.ko" in it for it in got), repr(got))
+
+
+def digests(place, out):
+    """The digest of each enclave's file is the one that the proved program says, where it is built."""
+    if not PROGRAM.is_file():
+        print("left out: digests beside those of `pmpmon measure`, which is not built")
+        return
+    for file in sorted((out / "root/enclaves").glob("*.elf")):
+        said = subprocess.run([LINUX / "digest.py", file, place / "image.bin"], capture_output=True, text=True, check=True).stdout.splitlines()
+        done = subprocess.run([PROGRAM, *said[1].split()[1:]], capture_output=True, text=True)
+        report(f"pmpmon measure and digest.py say the same of {file.name}", done.stdout.splitlines()[:1] == [f"digest {said[0]}"], done.stderr)
 
 
 def missing():
@@ -322,6 +339,7 @@ def main():
             return 0 if any(", 0 failed" in it for it in boot(out, place, harts, megabytes, sys.argv[1], os.environ.get("FIRMWARE"), True)) else 1
         if len(sys.argv) == 1:
             machines(out, place)
+        digests(place, out)
         guide(place)
         bad_input(place, out)
     print(f"{passed} passed, {failed} failed")

@@ -625,7 +625,7 @@ static int __init begin(void)
 	int failed;
 
 	if (sbi_probe_extension(EXTENSION) <= 0) {
-		pr_err("pmpmon: the firmware below this kernel is not the monitor\n");
+		pr_err("pmpmon: the firmware below this kernel is not the monitor: boot it with pmpmon-virt.elf of firmware/build\n");
 		return -ENODEV;
 	}
 	failed = find_pool();

@@ -147,7 +147,7 @@ static bool is_layout(const char *path, const Elf64_Phdr parts[3], uint64_t entr
     if (shared == 0 || shared > MOST_SHARED)
         return complain("%s: %lu shared pages: an enclave has 1 to %u (PMPMON_SHARED_PAGES of enclave.ld)", path, shared, MOST_SHARED);
     if (entry % 2 || entry >= text * PAGE_BYTES)
-        return complain("%s: its entry, 0x%lx, is odd or outside its text", path, entry);
+        return complain("%s: its entry, 0x%lx, is odd or outside its text: link it with -Wl,-T,enclave.ld", path, entry);
     if (parts[0].p_vaddr != 0 || parts[1].p_vaddr != text * PAGE_BYTES || parts[2].p_vaddr != PMPMON_SHARED_AT)
         return complain("%s: its parts are at other places than enclave.ld gives them: link it with -Wl,-T,enclave.ld", path);
     return true;
@@ -187,7 +187,7 @@ static bool open_device(int *file)
     if (*file >= 0)
         return true;
     if (errno == ENOENT)
-        return complain("no /dev/pmpmon: the driver is not loaded, or found no monitor or no pool (the kernel's log says which)");
+        return complain("no /dev/pmpmon: load the driver, pmpmon.ko. Where it is not taken, the kernel's log says what it lacks");
     return complain("/dev/pmpmon: %s", strerror(errno));
 }
 

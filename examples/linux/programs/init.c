@@ -41,7 +41,7 @@ static void load_driver(void)
 {
     int file = open("/pmpmon.ko", O_RDONLY | O_CLOEXEC);
     if (file < 0 || syscall(SYS_finit_module, file, "", 0))
-        printf("init: pmpmon.ko: %s\n", strerror(errno));
+        printf("init: no driver: /pmpmon.ko: %s\n", strerror(errno));
     if (file >= 0)
         close(file);
 }
