@@ -59,7 +59,8 @@ one_or_none None bit is none = cc
 one_or_none (Some other) bit is none = cc
 
 -- what a listing leaves that means nothing means no view
-none_refused : (listing : Listing) (line : List ℕ) → IsRefusal listing line → (unknown_bit listing.mseccfg ≢ None) ⊎ ((view : View) → ¬ RegistersMean listing.registers view)
+none_refused : (listing : Listing) (line : List ℕ) → IsRefusal listing line
+    → (unknown_bit listing.mseccfg ≢ None) ⊎ ((view : View) → ¬ RegistersMean listing.registers view)
 none_refused listing line (reserved none found is) =
     inr (λ view m. all_defined listing.registers m.extents m.are_extents found.place is.inside found.value is.value.has)
 none_refused listing line (unmodelled bit is) = inl (λ none. one_or_none (unknown_bit listing.mseccfg) bit is none)

@@ -1,5 +1,6 @@
 -- What registers say is what their extents say, where no lock binds the mode, and what the list says that they hold.
-use Rattle.std.proofs.Common.{◌≡◌, ◌≢◌, ℕ, ◌+◌, ◌<◌, ◌/◌, ◌%◌, ◌^◌, ◌↔◌, List, [], ◌∷◌, length, Bool, true, false, cond, nat_le, ◌==◌, ◌||◌, Result, refl, sym, ap, ◌∙◌}
+use Rattle.std.proofs.Common.{◌≡◌, ◌≢◌, ℕ, ◌+◌, ◌<◌, ◌/◌, ◌%◌, ◌^◌, ◌↔◌, List, [], ◌∷◌, length, Bool, true, false, cond, nat_le}
+use Rattle.std.proofs.Common.{◌==◌, ◌||◌, Result, refl, sym, ap, ◌∙◌}
 use Rattle.std.proofs.Common.{arith}
 use Rattle.std.proofs.lemmas.Bool.{leb-true, le-leb, eqb-true, false_from_ne_true, and_from, and_parts, both_ways}
 use Rattle.pmp_encoding.specs.declared.extent.Extent.{Extent}
@@ -120,7 +121,8 @@ everything Store = refl
 unlocked_perm : (s : Security) (cfg : ℕ) (kind : Kind) → s ≡ security_of 0 → ¬ (cfg / 2 ^ 7 % 2 ≡ 1) → holds (machine_perm s cfg) kind ≡ true
 unlocked_perm s cfg kind off free =
     ap (λ t. holds (machine_perm t cfg) kind) off
-    ∙ ap (λ t. holds (cond t (perm_for (cfg % 8)) ReadWriteExecute) kind) (false_from_ne_true (cfg / 2 ^ 7 % 2 == 1) (λ is. free (eqb-true (cfg / 2 ^ 7 % 2) 1 is)))
+    ∙ ap (λ t. holds (cond t (perm_for (cfg % 8)) ReadWriteExecute) kind)
+    (false_from_ne_true (cfg / 2 ^ 7 % 2 == 1) (λ is. free (eqb-true (cfg / 2 ^ 7 % 2) 1 is)))
     ∙ everything kind
 
 list_plain : (registers : Registers) (entries : List Entry) → MeansList (pairs_of registers) entries → (a : Access) (mode : Mode) → a.mode ≡ mode

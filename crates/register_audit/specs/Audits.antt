@@ -26,7 +26,8 @@ pub data IsSaid (view : View) (fewest : ℕ) (all : Bool) (registers : Registers
 pub data IsAnswer (view : View) (fewest : ℕ) (all : Bool) (listing : Listing) : List ℕ → Bool
     → Type 0 where
   judged :
-      unknown_bit listing.mseccfg ≡ None → (verdict : Verdict) → IsVerdict view listing.registers verdict
+      unknown_bit listing.mseccfg ≡ None
+      → (verdict : Verdict) → IsVerdict view listing.registers verdict
       → (text : List ℕ) → IsSaid view fewest all listing.registers verdict text
       → IsAnswer view fewest all listing text (is_meant verdict)
   unmodelled : (bit : ℕ) → unknown_bit listing.mseccfg ≡ Some bit

@@ -31,7 +31,8 @@ pub data IsMapOfExtents (extents : List Extent) : List ℕ → Bool → Type 0 w
 -- they mean nothing
 pub data IsMapOf (listing : Listing) : List ℕ → Bool → Type 0 where
   told :
-      unknown_bit listing.mseccfg ≡ None → (extents : List Extent) → AreExtents listing.registers extents
+      unknown_bit listing.mseccfg ≡ None
+      → (extents : List Extent) → AreExtents listing.registers extents
       → (text : List ℕ) (is_map : Bool) → IsMapOfExtents extents text is_map
       → IsMapOf listing text is_map
   refused : (line : List ℕ) → IsRefusal listing line → IsMapOf listing line false

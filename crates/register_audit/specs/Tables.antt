@@ -14,7 +14,8 @@ use Rattle.map_table.specs.Tables.{IsExtentTable}
 -- their extents, or the line that says why they mean nothing
 pub data IsShown (listing : Listing) : List ℕ → Bool → Type 0 where
   shown :
-      unknown_bit listing.mseccfg ≡ None → (extents : List Extent) → AreExtents listing.registers extents
+      unknown_bit listing.mseccfg ≡ None
+      → (extents : List Extent) → AreExtents listing.registers extents
       → (text : List ℕ) → IsExtentTable extents (count_on listing.registers.cfgs) text
       → IsShown listing text true
   refused : (line : List ℕ) → IsRefusal listing line → IsShown listing line false

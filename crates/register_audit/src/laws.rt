@@ -17,8 +17,9 @@ ghost use Rattle.pmp_match.specs.Smepmp.{security_of};
 ghost use Rattle.register_audit.specs.Decision.{RegistersAllow};
 ghost use Rattle.register_audit.specs.Judgement.{RegistersJudge};
 
-/// Registers that hold a list of NA4 and NAPOT entries judge each access as the list does, where the hart's address registers reach it:
-/// those of supervisor and user mode whatever `mseccfg` is, and those of machine mode where it is zero. Such a list has no locked entry.
+/// Registers that hold a list of NA4 and NAPOT entries judge each access as the list does, where the hart's address registers
+/// reach it: of supervisor and user mode whatever `mseccfg` is, and of machine mode where MML and MMWP are 0. Such a list has no
+/// locked entry.
 pub fn list_law()
     ensures { (registers : Registers) (entries : List Entry)
         → MeansList (pairs_of registers) entries → AreReached registers.xlen entries

@@ -88,10 +88,10 @@ fn answer_of(
     })
 }
 
-/// Reads a listing of registers of that width and writes, in one line, whether they mean the map, and where they do not first, or with `all`
-/// in a line for each stretch that differs; and after it comments on what is passed over. `fewest` is
-/// how many entries are enough for the map. Where a line is not understood or memory is refused, nothing is written; where the device failed, or took none of some bytes, a
-/// beginning of the text was written, not all of it.
+/// Reads a listing of registers of that width and writes, in one line, whether they mean the map, and where they do not first,
+/// or with `all` in a line for each stretch that differs; and after it comments on what is passed over. `fewest` is how many
+/// entries are enough for the map. Where a line is not understood or memory is refused, nothing is written; where the device
+/// failed, or took none of some bytes, a beginning of the text was written, not all of it.
 pub fn audit<W: Sink>(
     alloc: Global,
     map: &PermissionMap,

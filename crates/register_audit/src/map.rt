@@ -95,10 +95,10 @@ fn with_comment(alloc: Global, listing: &Listing) -> Result<Said, NoMapReason>
     Ok(all)
 }
 
-/// Reads a listing of registers of that width, and writes the map that they mean, as the lines of a map file; or one line that says why no map
-/// of whole pages is what supervisor and user mode may do under them. After it come comments on
-/// what is passed over. The answer is whether there is a map. Where a line is not understood, there are too many ranges or memory is
-/// refused, nothing is written; where the device failed, or took none of some bytes, a beginning of the text was written.
+/// Reads a listing of registers of that width, and writes the map that they mean, as the lines of a map file; or one line that
+/// says why no map of whole pages is what supervisor and user mode may do under them. After it come comments on what is passed
+/// over. The answer is whether there is a map. Where a line is not understood, there are too many ranges or memory is refused,
+/// nothing is written; where the device failed, or took none of some bytes, a beginning of the text was written.
 pub fn print_map_of<W: Sink>(
     alloc: Global,
     xlen: Xlen,

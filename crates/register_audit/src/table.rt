@@ -49,9 +49,8 @@ fn with_comment(alloc: Global, listing: &Listing) -> Result<Shown, Memory>
     Ok(all)
 }
 
-/// Reads a listing of registers of that width, and writes the table of what they give to supervisor and user mode, or the line that says why
-/// they mean nothing; and after it comments on what is passed over. The answer is whether they mean
-/// something. Where a line is not understood or memory is refused, nothing is written; where the device failed, or took none of
+/// Reads a listing of registers of that width, and writes the table of what they give to supervisor and user mode, or the line
+/// that says why they mean nothing; and after it comments on what is passed over. The answer is whether they mean something. Where a line is not understood or memory is refused, nothing is written; where the device failed, or took none of
 /// some bytes, a beginning of the text was written, not all of it.
 pub fn print_registers<W: Sink>(
     alloc: Global,
