@@ -1,0 +1,4 @@
+mod FirstZero
+mod Parts
+mod OneTree
+mod Reserved

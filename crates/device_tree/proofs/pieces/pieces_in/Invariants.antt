@@ -1,0 +1,14 @@
+use Rattle.std.proofs.Common.{◌≡◌, ◌≤◌, List, ◌++◌, length}
+use Rattle.device_tree.specs.Pieces.{Part, SpellsParts, parts_of}
+use Rattle.device_tree.proofs.pieces.pieces_in.Given as goal
+
+abbrev pub invariant-pieces : goal.invariant-pieces
+invariant-pieces l = record {
+  inside : length l.rest ≤ length l.block;
+  whole : (later : List Part) → SpellsParts l.strings l.rest later → SpellsParts l.strings l.block (parts_of l.pieces.items ++ later);
+  left : (parts : List Part) → SpellsParts l.strings l.block parts → (later : List Part)
+      × (parts ≡ parts_of l.pieces.items ++ later) × SpellsParts l.strings l.rest later;
+}
+
+abbrev pub decreases-pieces : goal.decreases-pieces
+decreases-pieces l = length l.rest

@@ -1,0 +1,4 @@
+pub mod Words
+pub mod Pieces
+pub mod Nodes
+pub mod Trees

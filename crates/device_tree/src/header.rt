@@ -1,0 +1,136 @@
+//! The header, and the blocks that it names.
+
+ghost use Rattle.std.specs.Prelude.{◌≡◌, ℕ, ◌+◌, ◌<◌, ◌≤◌, ◌^◌, ◌↔◌, IfOk, IsTrue, MatchOption, OnErr, OnOk, drop, length};
+ghost use Rattle.device_tree.specs.Words.{word_at};
+ghost use Rattle.device_tree.specs.Trees.{AreBlocks, IsBlock, IsHeader, front_of, reservations_of, strings_of, structure_of};
+
+use crate::fault::{TreeFault, TreeReason};
+use crate::words::after;
+use byteorder::{BigEndian, ByteOrder};
+
+/// The first four bytes of a flattened device tree.
+const MAGIC: usize = 0xd00d_feed;
+
+/// The version that is read here.
+const VERSION: usize = 17;
+
+/// How many bytes the header has.
+const HEADER: usize = 40;
+
+/// The number of four bytes at a place.
+fn word_at(bytes: &[u8], place: usize) -> usize
+    requires { place + 4 ≤ length bytes.now }
+    ensures value { result ≡ word_at bytes.now place }
+    ensures fits { result < 2 ^ 32 }
+{
+    BigEndian::read_u32(after(bytes, place)) as usize
+}
+
+/// Whether a block is in the tree, behind its header.
+fn is_block(bytes: &[u8], place: usize, size: usize) -> bool
+    requires place { place < 2 ^ 32 }
+    requires size { size < 2 ^ 32 }
+    ensures { IsTrue result ↔ IsBlock bytes.now place size }
+{
+    place >= HEADER && place + size <= bytes.len()
+}
+
+/// As many of the bytes as their header says, or all where it says more; none where they have no header.
+pub(crate) fn front_of(bytes: &[u8]) -> Option<&[u8]>
+    ensures { MatchOption result (length bytes.now < 40)
+        (λ front. (front.now ≡ front_of bytes.now) × (40 ≤ length bytes.now)) }
+{
+    if bytes.len() < HEADER {
+        return None;
+    }
+    let size = word_at(bytes, 4);
+    if size > bytes.len() {
+        return Some(bytes);
+    }
+    let (front, _) = bytes.split_at(size);
+    Some(front)
+}
+
+/// Where the header says no right block, the fault.
+fn check_blocks(bytes: &[u8]) -> Result<(), TreeFault>
+    requires { 40 ≤ length bytes.now }
+    ensures ok { OnOk result (AreBlocks bytes.now) }
+    ensures refused { OnErr result (AreBlocks bytes.now → ⊥) }
+{
+    let structure = word_at(bytes, 8);
+    if structure % 4 != 0 || !is_block(bytes, structure, word_at(bytes, 36)) {
+        return Err(TreeFault {
+            reason: TreeReason::BadStructureBlock,
+            offset: 8,
+        });
+    }
+    if !is_block(bytes, word_at(bytes, 12), word_at(bytes, 32)) {
+        return Err(TreeFault {
+            reason: TreeReason::BadStringsBlock,
+            offset: 12,
+        });
+    }
+    let reservations = word_at(bytes, 16);
+    if reservations % 8 != 0 || !is_block(bytes, reservations, 0) {
+        return Err(TreeFault {
+            reason: TreeReason::BadReservationBlock,
+            offset: 16,
+        });
+    }
+    Ok(())
+}
+
+/// Where the bytes begin with no header of a tree that is read here, the fault.
+pub(crate) fn check_header(bytes: &[u8]) -> Result<(), TreeFault>
+    ensures ok { OnOk result (IsHeader bytes.now) }
+    ensures refused { OnErr result (IsHeader bytes.now → ⊥) }
+{
+    let (reason, offset) = if bytes.len() < HEADER {
+        (TreeReason::ShortHeader, 0)
+    } else if word_at(bytes, 0) != MAGIC {
+        (TreeReason::BadMagic, 0)
+    } else if word_at(bytes, 4) != bytes.len() {
+        (TreeReason::BadSize, 4)
+    } else if word_at(bytes, 20) < VERSION {
+        (TreeReason::OldVersion, 20)
+    } else if word_at(bytes, 24) > VERSION {
+        (TreeReason::NewVersion, 24)
+    } else {
+        return check_blocks(bytes);
+    };
+    Err(TreeFault { reason, offset })
+}
+
+/// The structure block.
+pub(crate) fn structure_of(bytes: &[u8]) -> &[u8]
+    requires { IsHeader bytes.now }
+    ensures { result.now ≡ structure_of bytes.now }
+{
+    let (block, _) = after(bytes, word_at(bytes, 8)).split_at(word_at(bytes, 36));
+    block
+}
+
+/// Where the structure block begins.
+pub(crate) fn structure_offset(bytes: &[u8]) -> usize
+    requires { IsHeader bytes.now }
+    ensures { result ≡ word_at bytes.now 8 }
+{
+    word_at(bytes, 8)
+}
+
+/// The strings block.
+pub(crate) fn strings_of(bytes: &[u8]) -> &[u8]
+    requires { IsHeader bytes.now }
+    ensures { result.now ≡ strings_of bytes.now }
+{
+    let (block, _) = after(bytes, word_at(bytes, 12)).split_at(word_at(bytes, 32));
+    block
+}
+
+/// The memory reservation block, and what follows it.
+pub(crate) fn reservations_of(bytes: &[u8]) -> &[u8]
+    requires { IsHeader bytes.now }
+    ensures { result.now ≡ reservations_of bytes.now }
+{
+    after(bytes, word_at(bytes, 16))
+}

@@ -1,0 +1,176 @@
+//! The structure block: its pieces one by one.
+
+ghost use Rattle.std.specs.Prelude.{◌≡◌, ◌+◌, ◌<◌, ◌≤◌, ◌^◌, ◌≢◌, ℕ, List, IfOk, IfErr, MatchResult, length, drop};
+ghost use Rattle.device_tree.specs.declared.pieces.Token.{Token};
+ghost use Rattle.device_tree.specs.Words.{BeginsWith, BeginsWithText, Leaves, padded};
+ghost use Rattle.device_tree.specs.Pieces.{IsStep, NoPart, Part, SpellsPart, SpellsParts, part_of, parts_of, token_number};
+
+use crate::fault::{TreeFault, TreeReason};
+use crate::words::{after, behind, padded, text_in};
+use byteorder::{BigEndian, ByteOrder};
+use std::alloc::Global;
+
+/// The four bytes that a piece begins with.
+#[derive(Clone, Copy)]
+pub(crate) enum Token {
+    BeginNode,
+    EndNode,
+    Property,
+    Nop,
+    End,
+}
+
+/// A piece of the structure block.
+#[derive(Clone, Copy)]
+pub enum Piece<'a> {
+    /// A node begins, of this name and unit address.
+    Begins(&'a [u8]),
+    /// The node that began last has a property: its name and its value.
+    Has(&'a [u8], &'a [u8]),
+    /// The node that began last and has not ended ends.
+    Ends,
+}
+
+/// The token in front.
+fn token_in(bytes: &[u8]) -> Result<Token, TreeReason>
+    ensures { MatchResult result (λ token. BeginsWith bytes.now (token_number token))
+        (λ _. (token : Token) → BeginsWith bytes.now (token_number token) → ⊥) }
+{
+    if bytes.len() < 4 {
+        return Err(TreeReason::NoToken);
+    }
+    match BigEndian::read_u32(bytes) {
+        1 => Ok(Token::BeginNode),
+        2 => Ok(Token::EndNode),
+        3 => Ok(Token::Property),
+        4 => Ok(Token::Nop),
+        9 => Ok(Token::End),
+        _ => Err(TreeReason::UnknownToken),
+    }
+}
+
+/// The node that begins here, and the rest.
+fn node_in<'a>(strings: &[u8], bytes: &'a [u8]) -> Result<(Piece<'a>, &'a [u8]), TreeReason>
+    requires { BeginsWith bytes.now 1 }
+    ensures { MatchResult result (λ x. SpellsPart strings.now bytes.now (part_of x.0) x.1.now)
+        (λ _. NoPart strings.now bytes.now) }
+{
+    let Some(name) = text_in(after(bytes, 4)) else {
+        return Err(TreeReason::UnendedName);
+    };
+    let Some(rest) = behind(bytes, 4 + padded(name.len() + 1)) else {
+        return Err(TreeReason::PastBlock);
+    };
+    Ok((Piece::Begins(name), rest))
+}
+
+/// The property that is here, and the rest.
+fn property_in<'a>(strings: &'a [u8], bytes: &'a [u8]) -> Result<(Piece<'a>, &'a [u8]), TreeReason>
+    requires { BeginsWith bytes.now 3 }
+    ensures { MatchResult result (λ x. SpellsPart strings.now bytes.now (part_of x.0) x.1.now)
+        (λ _. NoPart strings.now bytes.now) }
+{
+    if bytes.len() < 12 {
+        return Err(TreeReason::PastBlock);
+    }
+    let len = BigEndian::read_u32(after(bytes, 4)) as usize;
+    let place = BigEndian::read_u32(after(bytes, 8)) as usize;
+    let Some(names) = behind(strings, place) else {
+        return Err(TreeReason::NoPropertyName);
+    };
+    let Some(name) = text_in(names) else {
+        return Err(TreeReason::NoPropertyName);
+    };
+    let Some(rest) = behind(bytes, 12 + padded(len)) else {
+        return Err(TreeReason::PastBlock);
+    };
+    let (value, _) = after(bytes, 12).split_at(len);
+    Ok((Piece::Has(name, value), rest))
+}
+
+/// What comes next in the block.
+enum Step<'a> {
+    Stop,
+    Skip(&'a [u8]),
+    Take(Piece<'a>, &'a [u8]),
+}
+
+/// The part that a token begins, and the rest.
+fn part_in<'a>(strings: &'a [u8], bytes: &'a [u8], token: Token) -> Result<Step<'a>, TreeReason>
+    requires { BeginsWith bytes.now (token_number token) }
+    ensures { MatchResult result (IsStep strings.now bytes.now)
+        (λ _. (parts : List Part) → SpellsParts strings.now bytes.now parts → ⊥) }
+{
+    match token {
+        Token::BeginNode => {
+            let (piece, rest) = node_in(strings, bytes)?;
+            Ok(Step::Take(piece, rest))
+        }
+        Token::EndNode => Ok(Step::Take(Piece::Ends, after(bytes, 4))),
+        Token::Property => {
+            let (piece, rest) = property_in(strings, bytes)?;
+            Ok(Step::Take(piece, rest))
+        }
+        Token::Nop => Ok(Step::Skip(after(bytes, 4))),
+        Token::End => {
+            if bytes.len() > 4 {
+                return Err(TreeReason::BytesBehindEnd);
+            }
+            Ok(Step::Stop)
+        }
+    }
+}
+
+/// What comes next.
+#[tactic(auto, using(crate::proofs::Parts::no_token))]
+fn step_in<'a>(strings: &'a [u8], bytes: &'a [u8]) -> Result<Step<'a>, TreeReason>
+    ensures { MatchResult result (IsStep strings.now bytes.now)
+        (λ _. (parts : List Part) → SpellsParts strings.now bytes.now parts → ⊥) }
+{
+    match token_in(bytes) {
+        Ok(token) => part_in(strings, bytes, token),
+        Err(reason) => Err(reason),
+    }
+}
+
+/// A piece, and its place: the offset of its first byte in the tree.
+#[derive(Clone, Copy)]
+pub struct PlacedPiece<'a> {
+    pub offset: usize,
+    pub piece: Piece<'a>,
+}
+
+/// The pieces of a structure block that begins at that offset.
+pub(crate) fn pieces_in<'a>(
+    alloc: Global,
+    strings: &'a [u8],
+    block: &'a [u8],
+    start: usize,
+) -> Result<Vec<PlacedPiece<'a>>, TreeFault>
+    requires { start + length block.now < 2 ^ 64 }
+    ensures ok { IfOk result (λ pieces.
+        SpellsParts strings.now block.now (parts_of pieces.items)) }
+    ensures refused { IfErr result (λ fault. fault.reason ≢ TreeReason.Memory
+        → (parts : List Part) → SpellsParts strings.now block.now parts → ⊥) }
+{
+    let mut pieces = Vec::new(alloc);
+    let mut rest = block;
+    'pieces: loop {
+        let offset = start + (block.len() - rest.len());
+        match step_in(strings, rest) {
+            Err(reason) => return Err(TreeFault { reason, offset }),
+            Ok(Step::Stop) => break 'pieces,
+            Ok(Step::Skip(later)) => rest = later,
+            Ok(Step::Take(piece, later)) => {
+                let Ok(()) = pieces.push(PlacedPiece { offset, piece }) else {
+                    return Err(TreeFault {
+                        reason: TreeReason::Memory,
+                        offset,
+                    });
+                };
+                rest = later;
+            }
+        }
+    }
+    Ok(pieces)
+}
