@@ -1,5 +1,5 @@
 //! Worked rows of the machine and of what it is made of, as tests alone: calls, the table of enclaves, changes of world,
-//! measured bytes, and traces on booted machines with the report of each. And how the headline of the machine is used, as two
+//! measured bytes, calls of the Supervisor Binary Interface, and traces on booted machines with the report of each. And how the headline of the machine is used, as two
 //! functions.
 //!
 //! Of the table these are platforms, the life of an enclave, and sequences of calls with the entries that each view then
@@ -27,6 +27,8 @@ mod outgrown;
 mod refused_frames;
 #[cfg(test)]
 mod runs;
+#[cfg(test)]
+mod sbi_calls_made;
 #[cfg(test)]
 mod served;
 #[cfg(test)]

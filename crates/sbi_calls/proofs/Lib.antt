@@ -1,0 +1,4 @@
+mod BitLemmas
+mod HartLists
+mod StartLemmas
+mod Starts

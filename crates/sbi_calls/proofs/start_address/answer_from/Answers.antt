@@ -1,0 +1,26 @@
+use Rattle.std.proofs.Common.{◌≡◌, ◌∙◌, ap, Ok, Some, None}
+use Rattle.sbi_calls.specs.StartAddresses.{answer_of, pair_at}
+use Rattle.sbi_calls.proofs.StartLemmas.{passed_over, put_first, refused}
+use Rattle.sbi_calls.proofs.start_address.answer_from.Goals as goal
+
+pub returns-in-Ok-Some : goal.returns-in-Ok-Some
+returns-in-Ok-Some c = λ pairs before entries list.
+    let decoded : c.decode.result ≡ Ok (Some c.in-Ok-Some.entry) = cc in
+    let entry = rw c.cfg_of.ensures at c.decode.ensures.entry in
+    let off = rw c.cfg_of.ensures at c.decode.ensures.off in
+    c.answer_of.ensures ∙ ap (λ a. answer_of c.in-Ok-Some.entry a c.args.below) c.fetch_at.ensures
+    ∙ put_first c.decode.result (pair_at c.args.bank.now c.args.place) pairs c.args.address c.args.below entry off before c.in-Ok-Some.entry
+    decoded entries list
+
+pub returns-in-Ok-None : goal.returns-in-Ok-None
+returns-in-Ok-None c = λ pairs before entries list.
+    let decoded : c.decode.result ≡ Ok None = cc in
+    let entry = rw c.cfg_of.ensures at c.decode.ensures.entry in
+    let off = rw c.cfg_of.ensures at c.decode.ensures.off in
+    passed_over c.decode.result (pair_at c.args.bank.now c.args.place) pairs c.args.address c.args.below entry off before decoded entries list
+
+pub returns-in-Err : goal.returns-in-Err
+returns-in-Err c = λ pairs before entries list.
+    let entry = rw c.cfg_of.ensures at c.decode.ensures.entry in
+    let off = rw c.cfg_of.ensures at c.decode.ensures.off in
+    refused c.decode.result (pair_at c.args.bank.now c.args.place) pairs c.args.address c.args.below entry off before c.in-Err.field-0 c.in-Err.is entries list

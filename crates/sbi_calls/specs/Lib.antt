@@ -1,0 +1,14 @@
+pub mod Extensions
+pub mod Errors
+pub mod Base
+pub mod Owners
+pub mod Harts
+pub mod HartLists
+pub mod StartAddresses
+pub mod Remote
+pub mod Named
+pub mod Hsm
+pub mod Srst
+pub mod Dispatch
+pub mod Decisions
+pub mod Actions

@@ -1,0 +1,55 @@
+//! What a trap asks the firmware for: whose it is, and what a call of the host by the Supervisor Binary Interface is answered.
+//!
+//! The firmware asks for a [`Decision`] at each trap, and does what it says. It is by the cause, the world that trapped, the
+//! host's call, the states of the harts and the entries that the host has. Nothing here takes memory or reads a register.
+//!
+//! For the layer above: a call of an enclave stops no hart and reaches no function of SBI. An interrupt, a fence or a start
+//! names harts of the board alone. A hart is in one state of SBI's at a time, and [`decide`] leads from state to state as its
+//! chapter 9 has it.
+//!
+//! The interface is version 1.0 of the RISC-V Supervisor Binary Interface Specification; chapters are named by its numbers. The
+//! byte that goes to a console is a function of version 2.0 (chapter 12).
+//!
+//! ```text
+//! let decision = decide(world, cause, &call, &caller, &bank, &mut harts);
+//! ```
+#![tactic(auto)]
+
+mod action;
+mod bank_words;
+mod base;
+mod bits;
+mod caller;
+mod decision;
+mod dispatch;
+mod error;
+mod extension;
+mod hart_lists;
+mod harts;
+mod host_call;
+mod hsm;
+mod outcome;
+mod owner;
+mod remote;
+mod srst;
+mod start_address;
+mod trap_decision;
+
+pub use action::{Action, action_of};
+pub use bank_words::BankWords;
+pub use base::{base_outcome, stops_outcome};
+pub use caller::Caller;
+pub use decision::Decision;
+pub use dispatch::outcome_of;
+pub use error::SbiError;
+pub use extension::Extension;
+pub use hart_lists::hart_list;
+pub use harts::{HartState, Harts};
+pub use host_call::HostCall;
+pub use hsm::hsm_outcome;
+pub use outcome::Outcome;
+pub use owner::{TrapOwner, owner_of, world_of};
+pub use remote::{ipi_outcome, rfence_outcome};
+pub use srst::srst_outcome;
+pub use start_address::is_executable;
+pub use trap_decision::decide;
