@@ -106,11 +106,13 @@ pub fn audit<W: Sink>(
         (text : List ℕ) × IsAudit (view_of_runs map.now) xlen fewest all listing.now text means
         × TakesAll text (writing W.contents W.failures W.stalls out.old out.new)) }
     ensures means { result ≡ Ok true
-        → (leaves : Listing) × (listed xlen listing.now ≡ Some leaves) × (unknown_bit leaves.mseccfg ≡ None)
+        → (leaves : Listing) × (listed xlen listing.now ≡ Some leaves)
+        × (unknown_bit leaves.mseccfg ≡ None)
         × RegistersMean leaves.registers (view_of_runs map.now) }
     ensures differs { result ≡ Ok false
         → (leaves : Listing) × (listed xlen listing.now ≡ Some leaves)
-        × (unknown_bit leaves.mseccfg ≢ None ⊎ ¬ RegistersMean leaves.registers (view_of_runs map.now)) }
+        × (unknown_bit leaves.mseccfg ≢ None
+        ⊎ ¬ RegistersMean leaves.registers (view_of_runs map.now)) }
     ensures line { (n : ℕ) → result ≡ Err (ListingFault.Line n)
         → IsFirstUnknown xlen listing.now n × (out.new ≡ out.old) }
     ensures untouched { result ≡ Err ListingFault.Memory → out.new ≡ out.old }

@@ -110,13 +110,14 @@ pub fn print_map_of<W: Sink>(
         × IsMapFile xlen listing.now text is_map
         × TakesAll text (writing W.contents W.failures W.stalls out.old out.new)) }
     ensures means { result ≡ Ok true → (leaves : Listing)
-        × (listed xlen listing.now ≡ Some leaves) × (unknown_bit leaves.mseccfg ≡ None) × (runs : List Run)
-        × AreRuns runs × RegistersMean leaves.registers (view_of_runs runs)
+        × (listed xlen listing.now ≡ Some leaves) × (unknown_bit leaves.mseccfg ≡ None)
+        × (runs : List Run) × AreRuns runs × RegistersMean leaves.registers (view_of_runs runs)
         × TakesAll (map_text runs ++ notes_text leaves)
         (writing W.contents W.failures W.stalls out.old out.new) }
     ensures none { result ≡ Ok false → (leaves : Listing)
         × (listed xlen listing.now ≡ Some leaves)
-        × (unknown_bit leaves.mseccfg ≢ None ⊎ ((view : View) → ¬ RegistersMean leaves.registers view)) }
+        × (unknown_bit leaves.mseccfg ≢ None
+        ⊎ ((view : View) → ¬ RegistersMean leaves.registers view)) }
     ensures line { (n : ℕ) → result ≡ Err (MapOfFault.Listing (ListingFault.Line n))
         → IsFirstUnknown xlen listing.now n × (out.new ≡ out.old) }
     ensures many { result ≡ Err MapOfFault.TooManyRanges

@@ -21,7 +21,9 @@ pub set_by_more : (sets : Listing → List ℕ → Option Setting) (listing now 
 set_by_more sets listing now n k [] raw setting done at is =
     let same : listing ≡ now = same_Some listing now done in
     let here : n ≡ k = omega (arith, at) in
-    ap (λ l. option_and_then (λ s. Some (set_by listing n s)) (sets l raw)) same ∙ ap (λ o. option_and_then (λ s. Some (set_by listing n s)) o) is ∙ ap (λ r. Some (set_by r n setting)) same ∙ ap (λ m. Some (set_by now m setting)) here
+    ap (λ l. option_and_then (λ s. Some (set_by listing n s)) (sets l raw)) same
+    ∙ ap (λ o. option_and_then (λ s. Some (set_by listing n s)) o) is
+    ∙ ap (λ r. Some (set_by r n setting)) same ∙ ap (λ m. Some (set_by now m setting)) here
 set_by_more sets listing now n k (first ∷ before) raw setting done at is =
     follow (sets listing first) (λ s h. set_by_more sets (set_by listing n s) now (n + 1) k before raw setting h (omega (arith, at)) is) done
   where
