@@ -10,3 +10,4 @@ pub mod TraceLints
 pub mod Registers
 pub mod Takers
 pub mod TraceTexts
+pub mod KeyPlaces

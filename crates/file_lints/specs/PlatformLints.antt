@@ -6,6 +6,7 @@ use Rattle.toml.specs.Data.{Members}
 use Rattle.toml.specs.Parse.{parse_document}
 use Rattle.platforms.specs.Platform.{PlatformLayout}
 use Rattle.platform_file.specs.Document.{IsPlatformFile}
+use Rattle.file_lints.specs.KeyPlaces.{IsPlaceOf}
 use Rattle.file_lints.specs.Order.{IsFirstBreach}
 use Rattle.file_lints.specs.PlatformTexts.{breach_text}
 use Rattle.file_lints.specs.declared.breach.Breach.{Breach}
@@ -26,11 +27,19 @@ abbrev pub IsSyntaxText : List ℕ → List ℕ → Type 0
 IsSyntaxText text said = (start : ℕ) × (message : List ℕ) × (start ≤ length text)
     × (said ≡ position_text (position_after (take start text) 1 1) ++ message)
 
+-- what comes before what is said of a breach: where the text has what it is about, if it was found
+abbrev pub IsPosition : List ℕ → Breach → List ℕ → Type 0
+IsPosition text breach said =
+    (said ≡ codes ": ")
+    ⊎ ((at : ℕ) × IsPlaceOf text breach at
+    × (said ≡ position_text (position_after (take at text) 1 1)))
+
 -- what is said of a text that is no platform: it is no document, or its document breaks this first
 abbrev pub Says : List ℕ → Option Members → List ℕ → Type 0
 Says text None said = IsSyntaxText text said
-Says text (Some document) said = (breach : Breach) × IsFirstBreach document breach
-    × (said ≡ codes ": " ++ breach_text breach)
+Says text (Some document) said =
+    (breach : Breach) × IsFirstBreach document breach × (position : List ℕ)
+    × IsPosition text breach position × (said ≡ position ++ breach_text breach)
 
 -- the line for a text that is no platform
 abbrev pub IsFinding : List ℕ → List ℕ → List ℕ → Type 0

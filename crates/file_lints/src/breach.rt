@@ -45,7 +45,7 @@ impl Key {
 }
 
 /// A table of a platform file.
-#[derive(Clone, Copy)]
+#[derive(Clone, Copy, PartialEq, Eq)]
 pub enum TomlPath {
     /// The file's own.
     File,

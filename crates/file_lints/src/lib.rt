@@ -18,6 +18,7 @@ mod breach;
 mod event_finding;
 mod first_breach;
 mod forms;
+mod key_places;
 mod keywords;
 mod line_finding;
 mod overlap;

@@ -1,12 +1,12 @@
 //! The lint of a platform file.
 
-ghost use Rattle.std.specs.Prelude.{◌≡◌, ◌++◌, List, ℕ, Err, IfOk, IfSome, Ok, OnOk, None, true, false, codes};
+ghost use Rattle.std.specs.Prelude.{◌≡◌, ◌≤◌, ◌++◌, List, ℕ, Err, IfOk, IfSome, Ok, OnOk, None, Some, true, false, codes, length, take};
 ghost use Rattle.byte_streams.specs.Writings.{writing, Breaks, TakesAll};
 ghost use Rattle.toml.specs.Errors.{IsMemory, IsWithin, span_start};
 ghost use Rattle.toml.specs.View.{table_view};
 ghost use Rattle.platforms.specs.Platform.{PlatformLayout};
 ghost use Rattle.platform_file.specs.Document.{IsPlatformDocument, IsPlatformFile, IsPlatformText};
-ghost use Rattle.file_lints.specs.PlatformLints.{IsFinding, IsLintLine, IsSyntaxText, no_text_line, position_after};
+ghost use Rattle.file_lints.specs.PlatformLints.{IsFinding, IsLintLine, IsPosition, IsSyntaxText, no_text_line, position_after, position_text};
 ghost use Rattle.file_lints.specs.Order.{IsFirstBreach};
 ghost use Rattle.file_lints.specs.PlatformTexts.{breach_text};
 ghost use Rattle.file_lints.specs.declared.breach.Breach.{Breach};
@@ -14,6 +14,7 @@ ghost use Rattle.lint_texts.specs.declared.lint_fault.LintFault as LintFault;
 
 use crate::breach::Breach;
 use crate::first_breach::form_breach;
+use crate::key_places::place_of;
 use crate::rules::rule_breach;
 use crate::texts::push_breach;
 use byte_streams::{Sink, write_whole};
@@ -68,6 +69,20 @@ fn start_of(error: &Error) -> usize
     }
 }
 
+/// Appends the line and the column after that many bytes of a text, as `:3:1: `.
+fn push_position(line: &mut Vec<u8>, text: &str, at: usize) -> Result<(), AllocError>
+    requires { at ≤ length text.now }
+    ensures { OnOk result (line.new.items
+        ≡ line.old.items ++ position_text (position_after (take at text.now) 1 1)) }
+{
+    let (row, column) = position_after(&text.as_bytes()[..at]);
+    push(line, ":")?;
+    push_number(line, row)?;
+    push(line, ":")?;
+    push_number(line, column)?;
+    push(line, ": ")
+}
+
 /// Appends where a text stops being a document, and why, in the words of the library that reads it.
 fn push_syntax(line: &mut Vec<u8>, text: &str, error: &Error) -> Result<(), AllocError>
     requires within { IsWithin text.now error.now }
@@ -75,24 +90,36 @@ fn push_syntax(line: &mut Vec<u8>, text: &str, error: &Error) -> Result<(), Allo
     ensures { OnOk result ((syntax : List ℕ)
         × IsSyntaxText text.now syntax × (line.new.items ≡ line.old.items ++ syntax)) }
 {
-    let (row, column) = position_after(&text.as_bytes()[..start_of(error)]);
-    push(line, ":")?;
-    push_number(line, row)?;
-    push(line, ":")?;
-    push_number(line, column)?;
-    push(line, ": ")?;
+    push_position(line, text, start_of(error))?;
     push(line, error.message())
 }
 
-/// Appends what a document breaks first that is no platform.
-fn push_document(alloc: Global, line: &mut Vec<u8>, document: &Table) -> Result<(), AllocError>
+/// Appends where the text has what a breach is about, where that is found.
+fn push_place(line: &mut Vec<u8>, text: &str, breach: &Breach<'_>) -> Result<(), AllocError>
+    ensures { OnOk result ((position : List ℕ) × IsPosition text.now breach.now position
+        × (line.new.items ≡ line.old.items ++ position)) }
+{
+    match place_of(text, breach) {
+        Some(at) => push_position(line, text, at),
+        None => push(line, ": "),
+    }
+}
+
+/// Appends what the document of a text breaks first that is no platform, and where.
+fn push_document(
+    alloc: Global,
+    line: &mut Vec<u8>,
+    text: &str,
+    document: &Table,
+) -> Result<(), AllocError>
     requires { (platform : PlatformLayout)
         → IsPlatformDocument (table_view document.now) platform → ⊥ }
     ensures { OnOk result ((breach : Breach) × IsFirstBreach (table_view document.now) breach
-        × (line.new.items ≡ line.old.items ++ (codes ": " ++ breach_text breach))) }
+        × (position : List ℕ) × IsPosition text.now breach position
+        × (line.new.items ≡ line.old.items ++ (position ++ breach_text breach))) }
 {
     let breach = breach_of(alloc, document)?;
-    push(line, ": ")?;
+    push_place(line, text, &breach)?;
     push_breach(line, breach)
 }
 
@@ -104,7 +131,7 @@ fn finding(alloc: Global, name: &str, text: &str) -> Result<Vec<u8>, AllocError>
     let mut line = Vec::new(alloc);
     push(&mut line, name)?;
     match toml::table_from_str(alloc, text) {
-        Ok(document) => push_document(alloc, &mut line, &document)?,
+        Ok(document) => push_document(alloc, &mut line, text, &document)?,
         Err(error) => {
             if error.is_memory() {
                 return Err(AllocError);
