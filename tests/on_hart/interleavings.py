@@ -294,14 +294,16 @@ def searched(*lacks, has=("park", "fences", "sleep")):
     return runs, old, len(found) - len(comes), most, len(found)
 
 
-def interleavings(told):
+def interleavings():
+    """What was tried, whether it is right, and why not: the sources beside the model, the model, and models that lack something."""
     for name, patterns in LINES.items():
         text = re.sub(r" *#.*", "", (TOP / name).read_text()) if name.endswith(".S") else (TOP / name).read_text()
         lacking = [it for it in patterns if not re.search(it, text)]
-        told(f"{name} has the steps of the model of its lock", not lacking, " ".join(lacking)[:300])
+        yield f"{name} has the steps of the model of its lock", not lacking, " ".join(lacking)[:300]
     for has in (("park", "fences"), ("park", "sleep"), ("fences", "sleep")):
         *found, count = searched(has=has)
-        told(f"with {' and '.join(has)} none runs while it is stopped or without its fence, none waits for ever, one goes in before another at most once: {count} states", found == [0, 0, 0, 1], str(found))
+        what = "none runs while it is stopped or without its fence, none waits for ever, one goes in before another at most once"
+        yield f"two harts with {' and '.join(has)}, {count} states: {what}", found == [0, 0, 0, 1], "" if found == [0, 0, 0, 1] else str(found)
     for lack, has, what, index in (
         ("fence after the CLINT", (), "an interrupt is lost", 2),
         ("fence before it wakes", ("sleep",), "a hart that sleeps is not woken", 2),
@@ -312,8 +314,14 @@ def interleavings(told):
     ):
         *found, count = searched(lack, has=has)
         wrong = [i for i, it in enumerate(found) if it > (i == 3)]
-        told(f"without {lack} {what} ({found[index]} of {count} states)", wrong == [index], str(found))
+        yield f"without {lack} {what} ({found[index]} of {count} states)", wrong == [index], "" if wrong == [index] else str(found)
+
+
+def all_interleavings():
+    """The same at once, for a process of its own."""
+    return list(interleavings())
 
 
 if __name__ == "__main__":
-    interleavings(lambda what, right, why="": print("ok" if right else "FAILED", what, why))
+    for what, right, why in interleavings():
+        print("ok" if right else "FAILED", what, why)

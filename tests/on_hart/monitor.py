@@ -7,10 +7,10 @@ import shutil
 import subprocess
 import sys
 import tempfile
-from concurrent.futures import ThreadPoolExecutor
+from concurrent.futures import ProcessPoolExecutor, ThreadPoolExecutor
 from pathlib import Path
 
-from interleavings import interleavings
+from interleavings import all_interleavings
 from lives import Life
 from resets import resets, symbol
 from trees import trees
@@ -404,13 +404,15 @@ def sbi(image, folder, told):
 def monitor(program, told):
     on_hart = on_hart_module()
     on_hart.built()
-    with tempfile.TemporaryDirectory() as place:
+    with tempfile.TemporaryDirectory() as place, ProcessPoolExecutor(1) as beside:
         folder = Path(place)
+        orders = beside.submit(all_interleavings)
         header_is_read(told)
-        interleavings(told)
         examples(on_hart, program, told)
         trees(folder, told)
         worlds(folder, told)
         lives(on_hart, program, folder, told)
         refused_memory(on_hart, folder, told)
         most_taken(on_hart, folder, told)
+        for it in orders.result():
+            told(*it)
