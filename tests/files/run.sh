@@ -275,7 +275,7 @@ full() {
 printf '0x80000000 0x1000 rwx\n0x80000000 0x1000 rwx\n' >idle
 head -c 20 cert >"cut"
 echo 'pmpcfg0 0' >zero
-echo 'mseccfg 1' >smepmp
+echo 'mseccfg 8' >smepmp
 full plan map
 full plan map full.cert
 cmp -s full.cert cert

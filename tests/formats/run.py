@@ -23,7 +23,7 @@ from pathlib import Path
 
 TOP = Path(__file__).resolve().parents[2]
 ASSEMBLERS = ("riscv64-unknown-elf-gcc", "riscv64-linux-gnu-gcc")
-HOLDS = ("the hart is RV64", "machine mode", "L = 0", "mseccfg is 0", "each hart", "whole pages", "sfence.vma")
+HOLDS = ("the hart is RV64", "machine mode", "L = 0", "each hart", "whole pages", "sfence.vma")
 TELLS = """#include <inttypes.h>
 #include <stdio.h>
 #include "registers.h"

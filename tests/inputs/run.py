@@ -199,8 +199,8 @@ COMMANDS = [
      "refused 10 WrongLeaf\n", "", 1),
     ("a reserved value in registers", {"map": b"0 4096 r\n", "regs": b"pmpcfg0 0x1a\n"}, "audit map regs",
      "pair 0 0x1a 0x0000000000000000: W without R\n", "", 1),
-    ("Smepmp", {"map": b"0 4096 r\n", "regs": b"mseccfg 0x1\n"}, "audit map regs",
-     "mseccfg 0x0000000000000001: no verdict, Smepmp is not modelled\n", "", 1),
+    ("Smepmp", {"map": b"0 4096 r\n", "regs": b"mseccfg 0x8\n"}, "audit map regs",
+     "mseccfg 0x0000000000000008: no verdict, bit 3 is not known\n", "", 1),
     ("registers as gdb shows them", {"map": b"0 0x100000000000000 rwx\n", "regs": b"pmpaddr0       0xffffffffffffffff\t-1\npmpcfg0        0x1f\t31\n"},
      "audit map regs", "means the map: 1 entry where 1 is enough\n", "", 0),
 ]

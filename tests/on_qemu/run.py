@@ -20,6 +20,8 @@ It wants qemu-system-riscv64, qemu-system-riscv32 and riscv64-unknown-elf-gcc; o
 
   apt-get install --no-install-recommends qemu-system-misc gcc-riscv64-unknown-elf
 
+Registers of a hart with Smepmp are tried under each `mseccfg` (smepmp.py), in machine mode too.
+
 Where one of them is missing it says so, and what wants it is not tested. The last line that is printed is 'N passed, M failed'.
 """
 import json
@@ -29,6 +31,9 @@ import subprocess
 import sys
 import tempfile
 from pathlib import Path
+
+sys.path.insert(0, str(Path(__file__).resolve().parent))
+import smepmp
 
 TOP = Path(__file__).resolve().parents[2]
 HERE = Path(__file__).resolve().parent
@@ -274,6 +279,9 @@ def main():
     passed = failed = 0
     for HART in (RV64, RV32):
         well, ill = tested_here(program)
+        passed, failed = passed + well, failed + ill
+    if shutil.which(RV64.qemu) and shutil.which(GCC):
+        well, ill = smepmp.tested(program, GCC, RV64)
         passed, failed = passed + well, failed + ill
     print(f"{passed} passed, {failed} failed")
     return 1 if failed else 0

@@ -51,7 +51,7 @@ FILES = {
     "faults.txt": "0x80000000 0x400 rwx\n# nothing\n0 0x1000 wx\nlong, and no line of a map\n",
     "huge.txt": "\0" * 1_100_000,
     "seventeen.txt": "".join(f"{i * 3 * 4096} 4096 rwx\n" for i in range(17)),
-    "smepmp.txt": "mseccfg 1\n",
+    "smepmp.txt": "mseccfg 8\n",
     "far.txt": "0x400000000 0x1000 rwx\n",
     "boot.log": "Domain0 Region00 : 0x0000000080000000-0x000000008003ffff ()\r\n"
     "Domain0 Region01 : 0x0000000000000000-0xffffffffffffffff (R,W,X)\r\n",

@@ -13,11 +13,6 @@ use Rattle.pmp_match.proofs.Matched.{one_extent}
 use Rattle.pmp_match.specs.Kinds.{holds}
 use Rattle.register_audit.specs.Decision.{LetsThrough, Misses, RegistersAllow, default_perm, matched, unmatched}
 
-pub machine_from_test : (m : Mode) → is_machine m ≡ true → m ≡ Machine
-machine_from_test Machine h = refl
-machine_from_test Supervisor h = cc
-machine_from_test User h = cc
-
 -- ---- the extents by their places
 
 extent_from : (registers : Registers) (first : ℕ) (xs : List Extent) → AreExtentsFrom registers first xs → (i : ℕ) (d : Extent) → i < length xs

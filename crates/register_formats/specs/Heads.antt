@@ -18,7 +18,7 @@ head_width Rv64 = codes " *  - the hart is RV64: its configuration words have 64
 abbrev pub head_rules : List ℕ
 head_rules =
     codes " *  - machine mode writes them, on each hart;\n"
-    ++ codes " *  - no entry is locked (L = 0), and mseccfg is 0 where the hart has it;\n"
+    ++ codes " *  - no entry is locked (L = 0);\n"
     ++ codes " *  - the hart protects whole pages of 4096 bytes: its grain is no larger;\n"
 
 -- where the list does not begin at entry 0

@@ -30,7 +30,7 @@ pub(crate) fn head_rules<'a>() -> &'a [u8]
     ensures { result.now ≡ head_rules }
 {
     b" *  - machine mode writes them, on each hart;
- *  - no entry is locked (L = 0), and mseccfg is 0 where the hart has it;
+ *  - no entry is locked (L = 0);
  *  - the hart protects whole pages of 4096 bytes: its grain is no larger;
 "
 }
