@@ -69,9 +69,11 @@ void control_read(struct control_words *words);
 void control_write(const struct control_words *words);
 void control_to_handler(struct world *world);
 
-/* harts.c, with the states of a hart (SBI, chapter 9). */
-enum hart_state { STARTED = 0, STOPPED = 1, START_PENDING = 2 };
-extern volatile enum hart_state hart_state[MOST_HARTS];
+/* harts.c, with the states of the harts, hart h in bit h: one that is in neither word is stopped. They change with the lock. */
+struct harts {
+    uint64_t count, started, pending;
+};
+extern struct harts harts;
 static inline unsigned this_hart(void)
 {
     uint64_t hart;
@@ -115,13 +117,9 @@ void host_timer_begin(int has_stimecmp);
 void host_timer_at(uint64_t time);
 void host_timer_came(void);
 
-/* sbi.c: answers a call of the host that is not the monitor's, if it knows it: with the monitor's lock, or if it needs none. */
-int board_call(struct world *world);
-int board_call_alone(struct world *world);
-extern uint64_t stop_cause[MOST_HARTS], stop_value[MOST_HARTS];
-
 /* uart.c, memory.c. What ends the board there leaves memory as it is. */
 void put(const char *text);
+void put_char(char c);
 void put_hex(uint64_t number);
 void put_number(int64_t number);
 _Noreturn void power_off(uint64_t status);
@@ -162,10 +160,5 @@ void find_board(uint64_t tree);
 #define TIMER_OF_SUPERVISOR (1ul << 5)
 #define EXTERNAL_OF_SUPERVISOR (1ul << 9)
 
-/* Causes of traps (Privileged Architecture, mcause). */
-#define INTERRUPT (1ul << 63)
-#define CAUSE_CALL_OF_USER 8
-#define CAUSE_CALL_OF_SUPERVISOR 9
-#define CAUSE_SOFTWARE (INTERRUPT | 3)
-#define CAUSE_TIMER (INTERRUPT | 7)
+#define INTERRUPT (1ul << 63) /* of a cause */
 #endif

@@ -16,7 +16,7 @@ static volatile uint32_t *const software_interrupt = (volatile uint32_t *)0x2000
 #define LEAVE_RUNNING 0 /* 1: a test sees a hart that does not come */
 #endif
 
-volatile enum hart_state hart_state[MOST_HARTS] = {STARTED, STOPPED, STOPPED, STOPPED};
+struct harts harts = {.started = 1};
 
 unsigned hart_count(void)
 {
@@ -60,7 +60,7 @@ int take_requests(void)
     __asm__ volatile("fence" ::: "memory"); /* a later wish of another hart comes after this */
     make_fences(self);
     what = __atomic_fetch_and(&requests[self], FENCES, __ATOMIC_SEQ_CST);
-    if (what & INTERRUPT_OF_HOST && hart_state[self] == STARTED)
+    if (what & INTERRUPT_OF_HOST && harts.started >> self & 1)
         SET(mip, SOFTWARE_OF_SUPERVISOR);
     return (what & STOP) != 0;
 }

@@ -1,13 +1,10 @@
 /*
- * Which trap is whose business. The monitor has every call of its extension, every call of an enclave, and whatever stops an
- * enclave. The board has the host's other calls, its timer and the stop of a hart. What changes nothing that another hart reads
- * but by its requests is served by the hart alone.
+ * A trap, and who has it: the proved core decides, and here it is done. What changes nothing that another hart reads but by its
+ * requests is served by the hart alone, and the rest with the monitor's lock, under which it is decided anew.
  */
-#include "board.h"
-#include "pmpmon_calls.h"
+#include "decisions.h"
 
-#define CREATE 0
-#define DESTROY 1
+struct caller callers[MOST_HARTS];
 
 /* Where the host begins on hart 0, as OpenSBI's fw_jump has it: a0 is the hart, a1 the device tree. Others wait for its call. */
 #define HOST_ENTRY 0x80200000ul
@@ -20,65 +17,52 @@ static void begin(unsigned hart)
     if (has_begun[hart])
         return;
     has_begun[hart] = 1;
+    callers[hart] = (struct caller){hart, READ(mvendorid), READ(marchid), READ(mimpid), 0, 0};
     control_at_start();
     check_entries();
+}
+
+static int is_started(unsigned hart)
+{
+    return harts.started >> hart & 1;
 }
 
 /* This hart runs its world, or waits to be started. The hart that traps next comes back, and does what it was asked for. */
 static void leave_monitor(void)
 {
-    if (hart_state[this_hart()] == STOPPED) {
-        park();
-    } else {
+    if (is_started(this_hart())) {
         load_changes();
         run_world(&worlds[this_hart()]);
+    } else {
+        park();
     }
     begin(this_hart());
-    if (hart_state[this_hart()] != START_PENDING)
-        return;
-    take_requests(); /* no interrupt is left from before it starts */
-    hart_state[this_hart()] = STARTED;
+    if (!is_started(this_hart()))
+        take_requests(); /* no interrupt is left from before it starts */
 }
 
-/* A call of an enclave, or of the host's supervisor mode: a program of the host calls its own kernel. */
-static int is_call(const struct world *world, unsigned hart)
-{
-    return world->cause == (world_number[hart] ? CAUSE_CALL_OF_USER : CAUSE_CALL_OF_SUPERVISOR);
-}
-
-/* A call that may change the host's view is served while no other hart runs a world. An enclave's is refused, and stops none. */
-static uint64_t call_of_monitor(const struct world *world, unsigned hart)
-{
-    int is_owning = world->x[16] == CREATE || world->x[16] == DESTROY;
-    if (!world_number[hart] && world->x[17] == PMPMON_EXTENSION && is_owning)
-        stop_harts();
-    return TAG_CALL;
-}
-
-/* A timer that comes to an enclave stops it too. */
-int serve_alone(void)
+static struct world *decide(struct harts *states, struct action *action)
 {
     unsigned hart = this_hart();
     struct world *world = &worlds[hart];
-    if (world->cause == CAUSE_SOFTWARE)
-        return !take_requests();
-    if (world->cause == CAUSE_TIMER)
-        host_timer_came();
-    if (world_number[hart])
-        return 0;
-    if (is_call(world, hart))
-        return board_call_alone(world);
-    if (world->cause != CAUSE_TIMER)
-        control_to_handler(world);
-    return 1;
+    pmpmon_decide(world_number[hart], world->cause, world->x + 10, &callers[hart], &banks[hart], states, action);
+    return world;
 }
 
-/* Whether a trap that the hart does not serve alone is not the monitor's either, and what it asked for is done. */
-static int is_of_board(struct world *world, unsigned hart)
+/* Another hart may start or stop one meanwhile, so the states are a copy, and what changes them is decided anew with the lock. */
+int serve_alone(void)
 {
-    if (world->cause == CAUSE_SOFTWARE)
-        return 1;
-    return !world_number[hart] && board_call(world);
+    struct harts seen = harts;
+    struct action action;
+    struct world *world = decide(&seen, &action);
+    if (action.kind == GO_ON)
+        return !take_requests();
+    if (action.kind == ENCLAVE_TICK)
+        host_timer_came();
+    if (action.kind >= START_HART)
+        return 0;
+    act(world, &action);
+    return 1;
 }
 
 /* The stack has grown into its last 8 KiB. What lies below it is the monitor's memory. */
@@ -91,19 +75,23 @@ static void check_stack(void)
 
 uint64_t next_trap(void)
 {
+    struct action action;
     struct world *world;
-    unsigned hart;
     check_stack();
-    do {
+    for (;;) {
         leave_monitor();
-        hart = this_hart();
-        world = &worlds[hart];
-    } while (is_of_board(world, hart));
-    if (world_number[hart]) {
-        stop_cause[hart] = world->cause;
-        stop_value[hart] = world->value;
+        world = decide(&harts, &action);
+        if (action.kind >= MONITOR)
+            break;
+        act_with_lock(world, &action);
     }
-    return is_call(world, hart) ? call_of_monitor(world, hart) : TAG_STOP;
+    if (action.kind == MONITOR_ALONE)
+        stop_harts();
+    if (action.kind < ENCLAVE_CALL)
+        return TAG_CALL;
+    callers[this_hart()].stop_cause = world->cause;
+    callers[this_hart()].stop_value = world->value;
+    return action.kind == ENCLAVE_CALL ? TAG_CALL : TAG_STOP;
 }
 
 void answered(const struct answer_frame *answer)
@@ -135,4 +123,5 @@ void boot(uint64_t hart, uint64_t tree)
     device_tree = tree;
     forget_private();
     find_board(tree);
+    harts.count = hart_count();
 }

@@ -4,7 +4,7 @@
 static volatile uint8_t *const serial = (volatile uint8_t *)0x10000000;
 static volatile uint32_t *const finisher = (volatile uint32_t *)0x100000;
 
-static void put_char(char c)
+void put_char(char c)
 {
     while (!(serial[5] & 0x20))
         ;

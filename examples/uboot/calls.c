@@ -11,6 +11,7 @@
 #include "pmpmon_calls.h"
 
 #define MOST_NUMBERS 6
+#define CAUSE_CALL_OF_USER 8 /* Privileged Architecture, mcause */
 
 long load_at(uint64_t at, uint64_t *value);
 

@@ -24,6 +24,11 @@ struct trace {
 #define PLATFORM_AT 0x80060000ul
 #define TRACE_AT 0x80061000ul
 
+/* Causes of traps (Privileged Architecture, mcause). */
+#define CAUSE_CALL_OF_USER 8
+#define CAUSE_CALL_OF_SUPERVISOR 9
+#define CAUSE_TIMER (INTERRUPT | 7)
+
 /* worlds.c: does an access on this hart in its world, and says the cause of its fault, or -1 and what was loaded; makes the
    world execute an ecall; has it interrupted by the timer. */
 int64_t do_access(const struct event *event, uint64_t *loaded);

@@ -7,6 +7,8 @@
 #include "board.h"
 #include "pmpmon_calls.h"
 
+#define CAUSE_CALL_OF_USER 8
+
 #ifndef RUNS
 #define RUNS 50
 #endif

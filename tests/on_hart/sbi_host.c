@@ -96,8 +96,12 @@ static const struct {
     {"SRST: type f0000000", SRST, 0, {0xf0000000, 0}},
     {"SRST: reason 2", SRST, 0, {0, 2}},
     {"SRST: reason e0000000", SRST, 0, {0, 0xe0000000}},
-    /* Extensions that there are not; version 1.0 has no console but the legacy one, which may be left out (chapter 5). */
+    /* Version 2.0, chapter 12: of the debug console a byte is written, the lowest of a0. */
+    {"DBCN: a byte", DBCN, 2, {0x100 + '>'}},
     {"DBCN: write", DBCN, 0, {16, 0x80000000, 0}},
+    {"DBCN: read", DBCN, 1, {16, 0x80000000, 0}},
+    {"DBCN: function 3", DBCN, 3, {0}},
+    /* Extensions that there are not; the legacy ones may be left out (chapter 5). */
     {"legacy: a character", 1, 0, {65}},
     {"legacy: an interrupt", 4, 0, {0x80000000}},
     {"PMU: counters", PMU, 0, {0}},

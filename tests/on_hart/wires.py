@@ -66,7 +66,8 @@ class Wired:
                 answer = b""
                 while b"#" not in answer:
                     answer += wire.recv(4096)
-                wire.sendall(b"+")
+                if packet != "D":  # after it the board may have ended
+                    wire.sendall(b"+")
 
     def until(self, text, seconds=60):
         """Whether a text is said in time."""

@@ -2,3 +2,4 @@ mod BitLemmas
 mod HartLists
 mod StartLemmas
 mod Starts
+mod Alone

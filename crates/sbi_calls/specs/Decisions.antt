@@ -33,6 +33,11 @@ decision_of owners.EnclaveCall call caller harts executable = EnclaveCall
 decision_of EnclaveTimer call caller harts executable = EnclaveTick
 decision_of owners.EnclaveStop call caller harts executable = EnclaveStop
 
+-- the decision is what a call of the host comes to
+abbrev pub IsOfHost : Decision → Type 0
+IsOfHost (Host outcome) = Unit {0}
+IsOfHost _ = ⊥
+
 -- each hart that a decision names is on the board, and one that it starts is stopped
 abbrev pub DecidesBoard : Harts → Decision → Type 0
 DecidesBoard harts (Host outcome) = NamesBoard harts outcome
