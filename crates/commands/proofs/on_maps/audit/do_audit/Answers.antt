@@ -56,7 +56,7 @@ returns-in-Ok g c =
 pub returns : goal.returns
 returns g c =
     let made = is_audited c.in_ok-map.ensures.made c.in_ok-listing.ensures.whole c.in_ok-fewest.ensures.fewest in
-    rw c.listing_trouble.ensures (by_fault _ c.args.registers.entry c.in-Err.fault
+    rw c.listing_trouble.ensures (by_fault _ c.args.registers c.in-Err.fault
     (λ n is.
     let unknown = rw c.as_slice.ensures.value at c.in-Err.ensures.line n (ap (λ f. Err f) is) in
     not_understood _ _ _ n made unknown.0 unknown.1)

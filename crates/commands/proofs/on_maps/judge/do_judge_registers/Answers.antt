@@ -1,4 +1,4 @@
-use Rattle.std.proofs.Common.{Err, ap, refl, ⊥_elim}
+use Rattle.std.proofs.Common.{Err, ap, refl}
 use Rattle.std.proofs.lemmas.Result.{err_from_is_err_and}
 use Rattle.commands.specs.Judge as judges
 use Rattle.commands.proofs.ListingTroubles.{by_fault}
@@ -23,13 +23,13 @@ returns-in-Ok g c =
 pub returns-in-Ok-Refused : goal.returns-in-Ok-Refused
 returns-in-Ok-Refused g c =
     let refused = rw (c.as_slice.ensures.value, c.in-Ok-Refused.field-0-is) at c.in-Ok-Refused.ensures.ruled in
-    let broken = rw c.as_slice-in-Ok-Refused.ensures.value at c.in-Err.ensures in
+    let broken = rw c.as_slice-in-Ok-Refused.ensures.value at c.in-Err-write_whole.ensures in
     judges.JudgesByRegisters.no_output _ _ c.in_ok-listing.ensures.whole refused refl broken
 
 pub returns : goal.returns
-returns g c = rw c.listing_trouble.ensures (by_fault _ c.args.registers.entry c.in-Err.fault
+returns g c = rw c.listing_trouble.ensures (by_fault _ c.args.registers c.in-Err.fault
     (λ n is.
     let unknown = rw c.as_slice.ensures.value at c.in-Err.ensures.line n (ap (λ f. Err f) is) in
     judges.JudgesByRegisters.not_understood _ n c.in_ok-listing.ensures.whole unknown refl refl)
     (λ is. judges.JudgesByRegisters.no_memory _ c.in_ok-listing.ensures.whole refl refl)
-    (λ is. ⊥_elim (c.in-Err.ensures.unwritten (ap (λ f. Err f) is))))
+    (λ is. absurd (c.in-Err.ensures.unwritten (ap (λ f. Err f) is))))

@@ -23,7 +23,7 @@ returns-in-Err-TooManyRanges g c =
 pub returns : goal.returns
 returns g c =
     let of_listing = ap (λ f. Err f) c.in-Err-Listing.field-0-is in
-    rw c.listing_trouble.ensures (by_fault _ c.args.registers.entry c.in-Err-Listing.fault
+    rw c.listing_trouble.ensures (by_fault _ c.args.registers c.in-Err-Listing.fault
     (λ n is.
     let unknown = rw c.as_slice.ensures.value at c.in-Err-Listing.ensures.line n (of_listing ∙ ap (λ f. Err (Listing f)) is) in
     maps.Maps.not_understood _ n c.in_ok-listing.ensures.whole unknown.0 unknown.1)

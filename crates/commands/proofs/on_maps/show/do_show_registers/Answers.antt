@@ -15,7 +15,7 @@ returns-in-Ok g c =
     rw c.answer_status.ensures (shows.ShowsRegisters.told _ w.0 c.in-Ok.meant c.in_ok-listing.ensures.whole w.1 w.2)
 
 pub returns : goal.returns
-returns g c = rw c.listing_trouble.ensures (by_fault _ c.args.registers.entry c.in-Err.fault
+returns g c = rw c.listing_trouble.ensures (by_fault _ c.args.registers c.in-Err.fault
     (λ n is.
     let unknown = rw c.as_slice.ensures.value at c.in-Err.ensures.line n (ap (λ f. Err f) is) in
     shows.ShowsRegisters.not_understood _ n c.in_ok-listing.ensures.whole unknown.0 unknown.1)
