@@ -1,5 +1,6 @@
--- A fault of a listing leads to its trouble.
-use Rattle.std.specs.Prelude.{◌≡◌, ℕ, List, Result, Err, refl}
+-- A fault of a listing and its trouble.
+use Rattle.std.specs.Prelude.{◌≡◌, ◌⊎◌, ℕ, List}
+use Rattle.std.proofs.Common.{inl, inr, refl}
 use Rattle.std.specs.Borrow.{Bor}
 use Rattle.command_inputs.specs.declared.trouble.Trouble.{Trouble}
 use Rattle.command_inputs.specs.declared.trouble.Trouble.TheVariants as troubles
@@ -7,12 +8,12 @@ use Rattle.register_audit.specs.declared.fault.ListingFault.{ListingFault}
 use Rattle.register_audit.specs.declared.fault.ListingFault.TheVariants as faults
 use Rattle.commands.specs.ListingTroubles.{listing_trouble}
 
--- what holds of the trouble of each fault holds of that of any
+-- which fault it is, with its trouble
 pub by_fault :
-    (Ends : Result ℕ Trouble → Type 0) (file : Bor (List ℕ)) (fault : ListingFault)
-    → ((n : ℕ) → fault ≡ faults.Line n → Ends (Err (troubles.NotUnderstood file n)))
-    → (fault ≡ faults.Memory → Ends (Err troubles.Memory)) → (fault ≡ faults.Device → Ends (Err troubles.Output))
-    → Ends (Err (listing_trouble file fault))
-by_fault Ends file (faults.Line n) line memory device = line n refl
-by_fault Ends file faults.Memory line memory device = memory refl
-by_fault Ends file faults.Device line memory device = device refl
+    (file : Bor (List ℕ)) (fault : ListingFault)
+    → ((n : ℕ) × (fault ≡ faults.Line n) × (listing_trouble file fault ≡ troubles.NotUnderstood file n))
+    ⊎ (((fault ≡ faults.Memory) × (listing_trouble file fault ≡ troubles.Memory))
+    ⊎ ((fault ≡ faults.Device) × (listing_trouble file fault ≡ troubles.Output)))
+by_fault file (faults.Line n) = inl (n, refl, refl)
+by_fault file faults.Memory = inr (inl (refl, refl))
+by_fault file faults.Device = inr (inr (refl, refl))

@@ -1,4 +1,4 @@
-use Rattle.std.proofs.Common.{◌≡◌, ◌^◌, ℕ, List, Err, ap, inl, inr, length, refl}
+use Rattle.std.proofs.Common.{◌≡◌, ◌∙◌, ◌^◌, ℕ, List, Err, ap, inl, inr, length, refl}
 use Rattle.std.proofs.lemmas.Result.{err_from_is_err_and}
 use Rattle.pmp_encoding.specs.declared.xlen.Xlen.{Xlen}
 use Rattle.pmp_encoding.specs.Widths.{AreReached}
@@ -56,12 +56,15 @@ returns-in-Ok g c =
 pub returns : goal.returns
 returns g c =
     let made = is_audited c.in_ok-map.ensures.made c.in_ok-listing.ensures.whole c.in_ok-fewest.ensures.fewest in
-    rw c.listing_trouble.ensures (by_fault _ c.args.registers c.in-Err.fault
-    (λ n is.
-    let unknown = rw c.as_slice.ensures.value at c.in-Err.ensures.line n (ap (λ f. Err f) is) in
-    not_understood _ _ _ n made unknown.0 unknown.1)
-    (λ is. audits.Audits.no_memory _ _ c.in_ok-map.ensures.made c.in_ok-listing.ensures.whole
-    (c.in-Err.ensures.untouched (ap (λ f. Err f) is)))
-    (λ is.
-    let w = rw c.as_slice.ensures.value at c.in-Err.ensures.broken (ap (λ f. Err f) is) in
-    audits.Audits.no_output _ _ w.0 _ w.1 made w.2 w.3))
+    let trouble = c.listing_trouble.ensures in
+    elim (by_fault c.args.registers c.in-Err.fault) [
+      | inl line ↦
+          let unknown = rw c.as_slice.ensures.value at c.in-Err.ensures.line line.0 (ap (λ f. Err f) line.1) in
+          rw (trouble ∙ line.2) (not_understood _ _ _ line.0 made unknown.0 unknown.1)
+      | inr (inl memory) ↦
+          rw (trouble ∙ memory.1) (audits.Audits.no_memory _ _ c.in_ok-map.ensures.made c.in_ok-listing.ensures.whole
+          (c.in-Err.ensures.untouched (ap (λ f. Err f) memory.0)))
+      | inr (inr device) ↦
+          let w = rw c.as_slice.ensures.value at c.in-Err.ensures.broken (ap (λ f. Err f) device.0) in
+          rw (trouble ∙ device.1) (audits.Audits.no_output _ _ w.0 _ w.1 made w.2 w.3)
+    ]

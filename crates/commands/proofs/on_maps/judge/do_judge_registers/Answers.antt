@@ -1,4 +1,4 @@
-use Rattle.std.proofs.Common.{Err, ap, refl}
+use Rattle.std.proofs.Common.{Err, ◌∙◌, ap, inl, inr, refl}
 use Rattle.std.proofs.lemmas.Result.{err_from_is_err_and}
 use Rattle.commands.specs.Judge as judges
 use Rattle.commands.proofs.ListingTroubles.{by_fault}
@@ -27,9 +27,12 @@ returns-in-Ok-Refused g c =
     judges.JudgesByRegisters.no_output _ _ c.in_ok-listing.ensures.whole refused refl broken
 
 pub returns : goal.returns
-returns g c = rw c.listing_trouble.ensures (by_fault _ c.args.registers c.in-Err.fault
-    (λ n is.
-    let unknown = rw c.as_slice.ensures.value at c.in-Err.ensures.line n (ap (λ f. Err f) is) in
-    judges.JudgesByRegisters.not_understood _ n c.in_ok-listing.ensures.whole unknown refl refl)
-    (λ is. judges.JudgesByRegisters.no_memory _ c.in_ok-listing.ensures.whole refl refl)
-    (λ is. absurd (c.in-Err.ensures.unwritten (ap (λ f. Err f) is))))
+returns g c =
+    let trouble = c.listing_trouble.ensures in
+    elim (by_fault c.args.registers c.in-Err.fault) [
+      | inl line ↦
+          let unknown = rw c.as_slice.ensures.value at c.in-Err.ensures.line line.0 (ap (λ f. Err f) line.1) in
+          rw (trouble ∙ line.2) (judges.JudgesByRegisters.not_understood _ line.0 c.in_ok-listing.ensures.whole unknown refl refl)
+      | inr (inl memory) ↦ rw (trouble ∙ memory.1) (judges.JudgesByRegisters.no_memory _ c.in_ok-listing.ensures.whole refl refl)
+      | inr (inr device) ↦ absurd (c.in-Err.ensures.unwritten (ap (λ f. Err f) device.0))
+    ]

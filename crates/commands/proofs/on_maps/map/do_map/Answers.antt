@@ -1,4 +1,4 @@
-use Rattle.std.proofs.Common.{Err, ◌∙◌, ap, refl}
+use Rattle.std.proofs.Common.{Err, ◌∙◌, ap, inl, inr, refl}
 use Rattle.std.proofs.lemmas.Result.{err_from_is_err_and}
 use Rattle.commands.specs.Map as maps
 use Rattle.register_audit.specs.declared.fault.MapOfFault.TheVariants.{Listing}
@@ -23,11 +23,15 @@ returns-in-Err-TooManyRanges g c =
 pub returns : goal.returns
 returns g c =
     let of_listing = ap (λ f. Err f) c.in-Err-Listing.field-0-is in
-    rw c.listing_trouble.ensures (by_fault _ c.args.registers c.in-Err-Listing.fault
-    (λ n is.
-    let unknown = rw c.as_slice.ensures.value at c.in-Err-Listing.ensures.line n (of_listing ∙ ap (λ f. Err (Listing f)) is) in
-    maps.Maps.not_understood _ n c.in_ok-listing.ensures.whole unknown.0 unknown.1)
-    (λ is. maps.Maps.no_memory _ c.in_ok-listing.ensures.whole (c.in-Err-Listing.ensures.untouched (of_listing ∙ ap (λ f. Err (Listing f)) is)))
-    (λ is.
-    let w = rw c.as_slice.ensures.value at c.in-Err-Listing.ensures.broken (of_listing ∙ ap (λ f. Err (Listing f)) is) in
-    maps.Maps.no_output _ w.0 w.1 c.in_ok-listing.ensures.whole w.2 w.3))
+    let trouble = c.listing_trouble.ensures in
+    elim (by_fault c.args.registers c.in-Err-Listing.fault) [
+      | inl line ↦
+          let unknown = rw c.as_slice.ensures.value at c.in-Err-Listing.ensures.line line.0 (of_listing ∙ ap (λ f. Err (Listing f)) line.1) in
+          rw (trouble ∙ line.2) (maps.Maps.not_understood _ line.0 c.in_ok-listing.ensures.whole unknown.0 unknown.1)
+      | inr (inl memory) ↦
+          rw (trouble ∙ memory.1) (maps.Maps.no_memory _ c.in_ok-listing.ensures.whole
+          (c.in-Err-Listing.ensures.untouched (of_listing ∙ ap (λ f. Err (Listing f)) memory.0)))
+      | inr (inr device) ↦
+          let w = rw c.as_slice.ensures.value at c.in-Err-Listing.ensures.broken (of_listing ∙ ap (λ f. Err (Listing f)) device.0) in
+          rw (trouble ∙ device.1) (maps.Maps.no_output _ w.0 w.1 c.in_ok-listing.ensures.whole w.2 w.3)
+    ]
