@@ -359,9 +359,9 @@ def races(folder, told):
     right = len(counts) == 4 and "odd" not in said and min(counts.values()) > counts[255] // 4
     told("an enclave that calls for ever takes no other hart's time", right, " ".join(f"{it}: {n}" for it, n in counts.items()) if right else said)
     said = booted(FIRMWARE / "out/pmpmon-virt.elf", host(folder / "pause.elf", "harts.S", "two_hosts.S", "pause.c"), 1, *kind(16), "-icount", "shift=0")
-    match = re.fullmatch(r"error 0\ncreate (\d+)\ndestroy (\d+)\n", said)
-    right = match and int(match.group(1)) < 16 * 350000 and int(match.group(2)) < 200000
-    told("instructions of a creation of 16 pages, and of its destruction", right, " ".join(match.groups()) if match else said)
+    match = re.fullmatch(r"error 0\ncreate (\d+)\ndestroy (\d+)\nbase (\d+)\n", said)
+    right = match and int(match.group(1)) < 16 * 350000 and int(match.group(2)) < 200000 and int(match.group(3)) <= 350
+    told("instructions of a creation of 16 pages, of its destruction, and of a call of SBI", right, " ".join(match.groups()) if match else said)
 
 
 def hostile(folder, told):

@@ -1,5 +1,11 @@
-/* How long a creation and a destruction of KIND pages take, in ticks of the time: with -icount of QEMU a tick is 100 instructions. */
+/*
+ * How many instructions a creation and a destruction of KIND pages take, and a call of SBI's base: with -icount of QEMU a tick of the
+ * time is 100.
+ */
 #include "harts.h"
+
+#define SBI_BASE 0x10ul
+#define CALLS 1000
 
 void host_main(void)
 {
@@ -14,5 +20,9 @@ void host_main(void)
     say("error", (uint64_t)made.error);
     say("create", 100 * made_in);
     say("destroy", 100 * (time() - before));
+    before = time();
+    for (unsigned i = 0; i < CALLS; i++)
+        pmpmon_call(SBI_BASE, 0, 0, 0, 0, 0, 0, 0);
+    say("base", 100 * (time() - before) / CALLS);
     off();
 }
