@@ -64,8 +64,8 @@ class Wired:
             for packet in ("?", "Qqemu.PhyMemMode:1", f"M{address:x},{len(data):x}:{data.hex()}", "D"):
                 wire.sendall(b"$%s#%02x" % (packet.encode(), sum(packet.encode()) % 256))
                 answer = b""
-                while b"#" not in answer:
-                    answer += wire.recv(4096)
+                while b"#" not in answer and (some := wire.recv(4096)):
+                    answer += some
                 if packet != "D":  # after it the board may have ended
                     wire.sendall(b"+")
 
