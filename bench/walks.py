@@ -10,7 +10,6 @@ crates have a function that was called, how many functions of crates were called
 The program is what `rt try` lowers, built without optimisation, so no call is gone. `valgrind` follows the calls. A call that
 leads through the kit's libraries, as to a closure or by a trait, counts as one of the crate that made it.
 """
-import os
 import re
 import shutil
 import subprocess
