@@ -10,8 +10,9 @@
 #                       the files that are named
 #   pmpmon-virt.elf     the monitor, with 16 MiB for enclaves (POOL=BASE,SIZE for others); FIRMWARE=no leaves it out
 #
-# The kernel takes some minutes, and 2 GB. It is built once, in the folder PMPMON_KERNELS (~/.cache/pmpmon/kernels), below the
-# checksum of its source and configuration. KERNEL_CONFIG=FILE has more options for it (lockdep.config); JOBS=4 builds it faster.
+# The kernel takes two and a half minutes on four cores, and 2 GB. It is built once, in the folder PMPMON_KERNELS
+# (~/.cache/pmpmon/kernels), below the checksum of its source and configuration. KERNEL_CONFIG=FILE has more options for it
+# (lockdep.config); JOBS=4 builds it faster.
 #
 #   apt-get install --no-install-recommends linux-source-6.1 gcc-riscv64-linux-gnu libc6-dev-riscv64-cross \
 #       gcc-riscv64-unknown-elf qemu-system-misc make bc bison flex cpio xz-utils
