@@ -86,7 +86,8 @@ fn note_nodes<'a>(
 
 /// The ranges of memory and devices that the tree of these pieces says, in its order.
 ///
-/// Refused at the first node whose cells are no numbers from 0 to 4, or whose `reg` or `ranges` counts and has no rows.
+/// Refused at the first node whose cells are no numbers from 0 to 4, whose `reg` counts and has no rows, or whose `ranges` has
+/// none though addresses there have at most two cells.
 /// Memory can be refused for each range and each row.
 pub fn ranges_of<'a>(
     alloc: Global,
