@@ -1,4 +1,4 @@
 mod FirstZero
 mod Parts
-mod OneTree
+pub mod OneTree
 mod Reserved

@@ -1,0 +1,3 @@
+mod OneByOne
+mod Live
+mod OneNode

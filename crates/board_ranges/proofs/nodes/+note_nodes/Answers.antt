@@ -1,0 +1,52 @@
+use Rattle.std.proofs.Common.{arith}
+use Rattle.device_tree.specs.Pieces.{parts_of}
+use Rattle.board_ranges.specs.Windows.{path_of}
+use Rattle.board_ranges.specs.Meaning.{said_of}
+use Rattle.board_ranges.proofs.OneNode.{finish, next, start}
+use Rattle.board_ranges.proofs.nodes.+note_nodes.Goals as goal
+
+pub nodes-init : goal.nodes-init
+nodes-init t c = record {
+  len = omega (arith);
+  whole = start c.args.place c.args.bus.0.now (path_of c.args.bus.1.now) (parts_of c.args.pieces.now) (said_of c.args.found.now.items);
+}
+
+pub nodes-preserved-in-Ok-note_nodes : goal.nodes-preserved-in-Ok-note_nodes
+nodes-preserved-in-Ok-note_nodes t c =
+    let head = c.in-Some.head in
+    let parts = c.in-Some.ensures.parts in
+    let own = c.in-Ok.ensures in
+    let inner = c.in-Ok-inner_of.ensures in
+    let cells = c.in-Ok-inner_of.inner.cells in
+    record {
+      len = omega (arith, c.nodes.invariant.len, c.in-Some.ensures.shorter, c.in-Ok-note_nodes.ensures.len, c.after_end-rest.ensures.len);
+      whole = next c.args.place c.args.bus.0.now (path_of c.args.bus.1.now) (parts_of c.args.pieces.now) (parts_of c.nodes.rest.now)
+          (said_of c.args.found.now.items) (said_of c.nodes.found.items) c.nodes.invariant.whole
+          head.name.now parts.0 (parts_of head.inner.now) (parts_of head.properties.now) parts.1 parts.2 parts.3
+          own.0 (said_of c.note_head.new.found.items) own.1 own.2
+          cells inner.0 c.in-Ok-inner_of.inner.place (path_of c.in-Ok-inner_of.inner.way) inner.1 inner.2 inner.3 inner.4
+          (parts_of c.in-Ok-note_nodes.behind.now) (said_of c.note_nodes.new.found.items) c.in-Ok-note_nodes.ensures.ok
+          (parts_of c.after_end-rest.result.now) c.after_end-rest.ensures.parts;
+    }
+
+pub nodes-preserved : goal.nodes-preserved
+nodes-preserved t c =
+    let head = c.in-Some.head in
+    let parts = c.in-Some.ensures.parts in
+    let own = c.in-Ok.ensures in
+    let inner = c.in-Ok-inner_of.ensures in
+    let cells = c.in-Ok-inner_of.inner.cells in
+    record {
+      len = omega (arith, c.nodes.invariant.len, c.in-Some.ensures.shorter, c.in-Ok-note_nodes.ensures.len, c.after_end-rest.ensures.len);
+      whole = next c.args.place c.args.bus.0.now (path_of c.args.bus.1.now) (parts_of c.args.pieces.now) (parts_of c.nodes.rest.now)
+          (said_of c.args.found.now.items) (said_of c.nodes.found.items) c.nodes.invariant.whole
+          head.name.now parts.0 (parts_of head.inner.now) (parts_of head.properties.now) parts.1 parts.2 parts.3
+          own.0 (said_of c.note_head.new.found.items) own.1 own.2
+          cells inner.0 c.in-Ok-inner_of.inner.place (path_of c.in-Ok-inner_of.inner.way) inner.1 inner.2 inner.3 inner.4
+          (parts_of c.in-Ok-note_nodes.behind.now) (said_of c.note_nodes.new.found.items) c.in-Ok-note_nodes.ensures.ok
+          (parts_of c.after_end-rest.result.now) c.after_end-rest.ensures.parts;
+    }
+
+pub returns-clause-ok : goal.returns-clause-ok
+returns-clause-ok t c = finish c.args.place c.args.bus.0.now (path_of c.args.bus.1.now) (parts_of c.args.pieces.now) (parts_of c.nodes.rest.now)
+    (said_of c.args.found.now.items) (said_of c.nodes.found.items) c.nodes.invariant.whole c.in_default.ensures.parts

@@ -1,0 +1,45 @@
+use Rattle.std.proofs.Common.{◌≡◌, ◌+◌, ◌*◌, ◌≤◌, ◌<◌, ◌∙◌, ap, sym, subst, ℕ, List, [], ◌∷◌, ◌++◌, append-nil, drop, length, length-drop, arith}
+use Rattle.std.proofs.lemmas.List.{drop_all}
+use Rattle.board_ranges.specs.declared.ways.Window.{Window}
+use Rattle.board_ranges.specs.Cells.{number_of}
+use Rattle.board_ranges.specs.Windows.{AreWindows, as_list, behind_way, carried, path_of, window_len}
+use Rattle.std.proofs.lemmas.List.Elements.{filter_map-append}
+use Rattle.board_ranges.proofs.OneByOne.{and_window, one_window}
+use Rattle.board_ranges.proofs.ways.windows_of.Goals as goal
+
+pub windows-preserved : goal.windows-preserved
+windows-preserved c =
+    let cells = c.args.cells.now in
+    let outer = c.args.outer in
+    let bytes = c.args.ranges.now in
+    let at = c.windows.at in
+    let w = c.in-Some.window in
+    let before = c.windows.invariant.whole in
+    let here = c.after.ensures in
+    let long : window_len cells outer ≤ length (drop at bytes) = omega (arith, c.if-ranges-at.false, length-drop at bytes) in
+    let some : 0 < window_len cells outer = omega (arith, c.if-len-eq0.false) in
+    let child : w.child ≡ number_of cells.address (drop at bytes) = c.in-Some.ensures.child ∙ ap (λ (x : List ℕ). number_of cells.address x) here in
+    let parent : w.parent ≡ number_of outer (drop (4 * cells.address) (drop at bytes)) =
+    c.in-Some.ensures.parent ∙ ap (λ (x : List ℕ). number_of outer (drop (4 * cells.address) x)) here in
+    let size : w.size ≡ number_of cells.size (drop (4 * (cells.address + outer)) (drop at bytes)) =
+    c.in-Some.ensures.size ∙ ap (λ (x : List ℕ). number_of cells.size (drop (4 * (cells.address + outer)) x)) here in
+    record {
+      within = omega (arith, long, length-drop at bytes);
+      whole = (
+        before.0 ++ w ∷ [],
+        and_window cells outer bytes at before.0 w some long child parent size before.1,
+        c.in-Ok.ensures ∙ ap (λ (x : List Window). x ++ as_list c.carried.result) before.2
+            ∙ ap (λ (x : List Window). behind_way (path_of c.args.way.now) before.0 ++ x)
+            (ap as_list c.carried.ensures ∙ sym (one_window (path_of c.args.way.now) w))
+            ∙ sym (filter_map-append (carried (path_of c.args.way.now)) before.0 (w ∷ [])),
+      );
+    }
+
+pub returns : goal.returns
+returns c =
+    let before = c.windows.invariant.whole in
+    let none = drop_all c.windows.at c.args.ranges.now (omega (arith, c.windows-test.false)) in (
+      before.0,
+      subst (λ (x : List Window). AreWindows c.args.cells.now c.args.outer c.args.ranges.now x) (append-nil before.0) (before.1 [] none),
+      before.2,
+    )

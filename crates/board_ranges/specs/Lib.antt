@@ -1,0 +1,4 @@
+pub mod Cells
+pub mod Windows
+pub mod Properties
+pub mod Meaning

@@ -1,0 +1,55 @@
+//! What the properties of a node say to its children.
+
+ghost use Rattle.std.specs.Prelude.{◌≡◌, ◌≤◌, Option, IfOk, codes};
+ghost use Rattle.device_tree.specs.Pieces.{parts_of};
+ghost use Rattle.board_ranges.specs.Windows.{Path, path_of};
+ghost use Rattle.board_ranges.specs.Properties.{value_in};
+ghost use Rattle.board_ranges.specs.Meaning.{AreCells, IsInnerWay, inner_place, path_or};
+
+use crate::cells::Cells;
+use crate::fault::BoardReason;
+use crate::kinds::Place;
+use crate::node::{inner_way, place_by};
+use crate::properties::{is_okay, value_of};
+use crate::registers::cells_of;
+use crate::ways::Way;
+use device_tree::PlacedPiece;
+use std::alloc::Global;
+
+/// What the children of a node have from it: cells, a place, and how their addresses come to the root.
+#[derive(Drop)]
+pub(crate) struct Inner {
+    pub(crate) cells: Cells,
+    pub(crate) place: Place,
+    pub(crate) way: Way,
+}
+
+/// What the children of a node of that name have from it. On its bus an address has that many cells.
+pub(crate) fn inner_of<'a>(
+    alloc: Global,
+    name: &[u8],
+    properties: &'a [PlacedPiece<'a>],
+    place: Place,
+    bus: (&Cells, &Way),
+) -> Result<Inner, BoardReason>
+    ensures { IfOk result (λ inner. (found : Option Path)
+        × AreCells (parts_of properties.now) inner.cells
+        × IsInnerWay (value_in (codes "ranges") (parts_of properties.now)) inner.cells
+        bus.entry.0.now.address (path_of bus.entry.1.now) found
+        × (inner.place ≡ inner_place place name.now (parts_of properties.now) found)
+        × (path_of inner.way ≡ path_or found)) }
+{
+    let Some(cells) = cells_of(properties) else {
+        return Err(BoardReason::BadCells);
+    };
+    let ranges = value_of(properties, b"ranges".as_slice());
+    let (outer, way) = bus;
+    let found = match inner_way(alloc, ranges, &cells, outer.address, way) {
+        Ok(found) => found,
+        Err(fault) => return Err(BoardReason::BadRows(fault)),
+    };
+    let is_reserved = name == b"reserved-memory".as_slice();
+    let place = place_by(place, is_reserved, is_okay(properties), found.is_some());
+    let way = found.unwrap_or(Way::Same);
+    Ok(Inner { cells, place, way })
+}
