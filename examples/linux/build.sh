@@ -37,7 +37,7 @@ fi
 
 # The kernel, in a folder that gets its name when it is whole.
 kernels=${PMPMON_KERNELS:-${XDG_CACHE_HOME:-$HOME/.cache}/pmpmon/kernels}
-options=("$here/kernel.config" ${KERNEL_CONFIG:+"$KERNEL_CONFIG"})
+options=("$here/kernel.config" ${KERNEL_CONFIG:+"$(realpath "$KERNEL_CONFIG")"})
 name=$({ sha256sum <"$archive"; cat "${options[@]}"; "${CROSS_COMPILE}gcc" -dumpfullversion; } | sha256sum | cut -c1-16)
 kernel=$kernels/$name
 if [ ! -d "$kernel" ]; then
