@@ -1,12 +1,8 @@
 /* Loads registers and `mseccfg`, then does accesses in each mode, machine mode too, and tells each outcome on the serial line:
    `pmpaddr0 0xVALUE`, then `N ok` or `N fault CAUSE`. All accesses are in a window of memory that is filled with `ecall`
    before: a fetch that is allowed traps there by itself, and a store writes what is there. */
-#include <stdint.h>
+#include "hart.h"
 
-typedef unsigned long word;
-typedef long sword;
-
-enum kind { LOAD, STORE, FETCH };
 enum mode { USER, SUPERVISOR, MACHINE = 3 };
 
 struct access {
@@ -18,48 +14,7 @@ struct access {
 
 #include "smepmp.h"
 
-struct outcome {
-    sword cause;
-    word value;
-};
-
-struct outcome attempt(sword kind, word address, word value, word mode_bits);
-
-#define NONE (-1)
-#define AS_IF (1ul << 17)
 #define ECALL 0x0000007300000073ul
-
-static volatile uint8_t *const serial = (volatile uint8_t *)0x10000000;
-static volatile uint32_t *const finisher = (volatile uint32_t *)0x100000;
-
-static void put(const char *text)
-{
-    for (; *text; text++) {
-        while (!(serial[5] & 0x20))
-            ;
-        serial[0] = *text;
-    }
-}
-
-static void put_digits(word n, unsigned base, int digits)
-{
-    char text[24];
-    char *at = text + 23;
-    *at = 0;
-    do {
-        *--at = "0123456789abcdef"[n % base];
-        n /= base;
-    } while (n || text + 23 - at < digits);
-    put(at);
-}
-
-static void put_register(const char *name, word value)
-{
-    put(name);
-    put(" 0x");
-    put_digits(value, 16, 16);
-    put("\n");
-}
 
 static sword outcome_of(const struct access *a)
 {
@@ -89,10 +44,10 @@ void run(void)
     put_registers();
     for (word i = 0; i < sizeof accesses / sizeof *accesses; i++) {
         sword outcome = outcome_of(&accesses[i]);
-        put_digits(i + 1, 10, 1);
+        put_number(i + 1);
         put(outcome == NONE ? " ok" : " fault ");
         if (outcome != NONE)
-            put_digits(outcome, 10, 1);
+            put_number((word)outcome);
         put("\n");
     }
     *finisher = 0x5555;
