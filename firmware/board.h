@@ -6,6 +6,7 @@
 #include <stdint.h>
 
 #define MOST_HARTS 4
+#define MOST_ENCLAVES 64
 
 /* A world as trap.S enters and leaves it: its registers (x[0]'s place is free), where and in which mode it goes on, and
    what the last trap told. mode has the bits of mstatus that mret takes. */
@@ -68,6 +69,14 @@ void control_at_start(void);
 void control_read(struct control_words *words);
 void control_write(const struct control_words *words);
 void control_to_handler(struct world *world);
+
+/* floats.c, on the hart that calls: a trap came from the world that runs, with this status word; another world goes on; and the
+   hart begins. An enclave that is new begins with zeros. */
+#define FLOATS_DIRTY (3ul << 13) /* FS of mstatus */
+void floats_came(unsigned hart, uint64_t status);
+void floats_change(unsigned hart, uint64_t world);
+void floats_at_start(unsigned hart);
+void floats_begin(uint64_t enclave);
 
 /* harts.c, with the states of the harts, hart h in bit h: one that is in neither word is stopped. They change with the lock. */
 struct harts {
@@ -144,16 +153,18 @@ void find_board(uint64_t tree);
 #define SET(csr, bits) __asm__ volatile("csrs " #csr ", %0" ::"r"((uint64_t)(bits)) : "memory")
 #define CLEAR(csr, bits) __asm__ volatile("csrc " #csr ", %0" ::"r"((uint64_t)(bits)) : "memory")
 
-/* Whether the hart has a register: reading one that it has not is an illegal instruction, which goes on after it. */
-#define IS_THERE(csr) IS_THERE_(csr)
-#define IS_THERE_(csr)                                                                                                 \
+/* Whether the hart does an instruction, which may change t1: one that it has not is illegal, and the monitor goes on after it. */
+#define DOES(instruction)                                                                                              \
     ({                                                                                                                 \
-        uint8_t is_there_;                                                                                             \
-        __asm__ volatile("la t0, 1f\n csrrw t0, mtvec, t0\n li %0, 0\n csrr t1, " #csr                                 \
+        uint8_t does_it_;                                                                                              \
+        __asm__ volatile("la t0, 1f\n csrrw t0, mtvec, t0\n li %0, 0\n " instruction                                   \
                          "\n li %0, 1\n .balign 4\n1: csrw mtvec, t0"                                                  \
-                         : "=&r"(is_there_)::"t0", "t1", "memory");                                                    \
-        is_there_;                                                                                                     \
+                         : "=&r"(does_it_)::"t0", "t1", "memory");                                                     \
+        does_it_;                                                                                                      \
     })
+/* Whether it has a register. */
+#define IS_THERE(csr) IS_THERE_(csr)
+#define IS_THERE_(csr) DOES("csrr t1, " #csr)
 
 /* Bits of mip and mie. */
 #define SOFTWARE_OF_SUPERVISOR (1ul << 1)

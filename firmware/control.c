@@ -137,6 +137,7 @@ void control_to_handler(struct world *world)
 void control_at_start(void)
 {
     find_registers(this_hart());
+    floats_at_start(this_hart());
     WRITE(mstatus, at_start.status);
     control_write(&at_start);
     WRITE(mcounteren, COUNTERS);

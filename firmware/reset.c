@@ -10,7 +10,7 @@ struct private_range {
     uint64_t first, count, check;
 };
 /* The enclaves that there can be, and the one that is being made. */
-#define MOST_PRIVATE 65
+#define MOST_PRIVATE (MOST_ENCLAVES + 1)
 #define CHECK(range) ((range).first ^ (range).count << 32 ^ 0x70726976617465ul)
 extern volatile struct private_range private_ranges[MOST_PRIVATE]; /* firmware.ld */
 static volatile struct private_range *asked;

@@ -12,6 +12,8 @@ _Static_assert(MOST_HARTS == 4, "a hart begins with entries and fences");
 
 static enum { PLATFORM, TRAP, PAGES } next = PLATFORM;
 static uint64_t next_page, pages_left;
+/* Whether the pages of a creation were asked for: where it is not refused, its answer's value is the enclave. */
+static uint8_t is_creation;
 
 static int is_ram(uint64_t page)
 {
@@ -46,6 +48,7 @@ static int64_t read_trap(void *to)
     memcpy(frame->x, worlds[hart].x + 1, sizeof frame->x);
     frame->control_tag = TAG_CONTROL;
     control_read(&frame->control);
+    floats_came(hart, frame->control.status);
     if (!is_aligned(to))
         memcpy(to, frame, sizeof *frame);
     return sizeof *frame;
@@ -116,10 +119,16 @@ static int64_t written_answer(const struct answer_frame *answer)
     struct world *world = &worlds[hart];
     make_zero(answer->zero_first, answer->zero_count);
     private_answered(answer->status, answer->zero_first, answer->zero_count);
+    if (is_creation && !answer->status)
+        floats_begin(answer->value);
+    is_creation = 0;
     for (unsigned other = 0; other < hart_count(); other++)
         if (other == hart || (answer->wake >> other & 1))
             keep_bank(other, answer);
-    is_stale[hart] |= world_number[hart] != answer->world;
+    if (world_number[hart] != answer->world) {
+        floats_change((unsigned)hart, answer->world);
+        is_stale[hart] = 1;
+    }
     world->pc = answer->pc;
     memcpy(world->x + 1, answer->x, sizeof answer->x);
     control_write(&answer->control);
@@ -133,6 +142,7 @@ static int64_t written_measure(const struct measure_frame *asked)
     next = PAGES;
     next_page = asked->first;
     pages_left = asked->count;
+    is_creation = 1;
     private_asked(asked->first, asked->count);
     return sizeof *asked;
 }

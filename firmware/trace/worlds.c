@@ -12,11 +12,10 @@
 #define ADDRESS 31
 #define CAUSE_BREAKPOINT 3
 #define SUPERVISOR (1ul << 11)
-#define MOST_ENCLAVES 65
 
 static struct {
     uint64_t base, pages;
-} enclaves[MOST_ENCLAVES];
+} enclaves[MOST_ENCLAVES + 1];
 
 void enclave_made(uint64_t id, uint64_t base, uint64_t pages)
 {
@@ -46,7 +45,7 @@ static int is_in_range(uint64_t address, uint64_t base, uint64_t size)
 
 static int is_owned(uint64_t address)
 {
-    for (unsigned id = 1; id < MOST_ENCLAVES; id++)
+    for (unsigned id = 1; id <= MOST_ENCLAVES; id++)
         if (is_in_range(address, enclaves[id].base, enclaves[id].pages * PAGE))
             return 1;
     return is_in_range(address, platform->monitor_base, platform->monitor_size);

@@ -224,12 +224,34 @@ def worlds(folder, told):
     told("two harts enter two enclaves, and each host has its own words", said == "both harts were in an enclave: 1\nwrong 0\n", said)
     sbi(folder / "with/pmpmon-virt.elf", folder, told)
     payloads = [host(folder / f"reset-{it}.elf", "harts.S", "reset_enclave.S", "reset.c", flags=(f"-DHARTS={it}",)) for it in (1, 2)]
+    floats(folder, told)
     devices(folder, told)
     storm(folder, told)
     ends(folder, told)
     races(folder, told)
     resets((FIRMWARE / "out/pmpmon-virt.elf", folder / "with/pmpmon-virt.elf"), payloads, told)
     hostile(folder, told)
+
+
+# What a host finds that computes in floating point beside two enclaves.
+FLOATS = "enclaves were on both harts 1\nstopped more than 200 times 1\nenclaves came to others 0\nhosts came to others 0\nwrong 0\n"
+# A build for a try leaves out a set of the host, one of an enclave, or the zeros of an enclave that is made: 24 lives and two hosts.
+LEFT_OUT = {1: ("the host's set", "enclaves came to others 0\nhosts came to others 2\n"), 2: ("an enclave's set", "enclaves came to others 24\n"), 3: ("the zeros of a new enclave", "enclaves came to others 22\n")}
+
+
+def floats(folder, told):
+    """A host and two enclaves compute in floating point on two harts, under a timer; with doubles and with singles, and where nothing is."""
+    payloads = {it: host(folder / f"floats-{it}.elf", "harts.S", "floats.S", "floats.c", flags=(f"-DFMT={it}", f"-DFMT_ARCH={'f' if it == 's' else 'd'}")) for it in "ds"}
+    for name, more in (("d", ()), ("s", ("-cpu", "rv64,d=off"))):
+        said = booted(folder / "with/pmpmon-virt.elf", payloads[name], 2, *more)
+        told(f"host and enclaves compute in {'doubles' if name == 'd' else 'singles'} as each does alone", said == FLOATS, said if said != FLOATS else "")
+    for name, more in (("no floating point", "f=off,d=off"), ("floats in its integer registers", "f=off,d=off,zfinx=on")):
+        said = booted(FIRMWARE / "out/pmpmon-virt.elf", FIRMWARE / "out/host.elf", 1, "-cpu", f"rv64,{more}")
+        told(f"a host in C on a hart with {name}", said == HOST, said if said != HOST else "")
+    for left, (name, want) in LEFT_OUT.items():
+        built(folder / "two.toml", folder / f"floats-{left}", f"-DLEAVE_FLOATS={left}")
+        said = booted(folder / f"floats-{left}/pmpmon-virt.elf", payloads["d"], 2)
+        told(f"without {name} others come out", want in said, said if want not in said else "")
 
 
 def boards(folder, told):

@@ -1,7 +1,7 @@
 /*
  * What a program above /dev/pmpmon can do, and cannot. It ends with 0 where all was right.
  *
- *   enclaves faults          what an enclave may not: memory of others, floating point, the time
+ *   enclaves faults          what an enclave may not: memory of others, the time; and that it computes in floating point
  *   enclaves wrong           calls with wrong words, in a wrong order, and by a user that is not root
  *   enclaves times           time limits and signals
  *   enclaves user            a user that is not root makes and runs one, where the driver's parameter `mode` lets it
@@ -121,6 +121,32 @@ static void fault(const char *name, enum tried what, uint64_t address, uint64_t 
     free(it.bytes);
 }
 
+/* Two enclaves and this program add in turn, and each enclave is stopped within its sum again and again. */
+static void floats(const struct image *it)
+{
+    struct loaded made[2];
+    struct pmpmon_run_args r[2];
+    bool is_over[2] = {false, false};
+    uint64_t stops = 0, added = 0, bits;
+    double own = 0;
+    for (unsigned i = 0; i < 2; i++)
+        want(tried(it, &made[i], FLOATS, 1000000, 3 + i), "an enclave that adds");
+    while (!is_over[0] || !is_over[1])
+        for (unsigned i = 0; i < 2; i++)
+            if (!is_over[i]) {
+                is_over[i] = !run_for(made[i].file, &r[i], 1000000) || errno != ETIME;
+                stops += !is_over[i];
+                own += 1 / (double)(5 + added++);
+            }
+    for (unsigned i = 0; i < 2; i++) {
+        want(r[i].error == 0 && r[i].value == sum(1000000, 3 + i), "an enclave computes in floating point");
+        end(&made[i]);
+    }
+    memcpy(&bits, &own, sizeof bits);
+    want(stops && bits == sum(added, 5), "and so does its host");
+    printf("two enclaves add in floating point: stopped %lu times\n", stops);
+}
+
 static int faults(void)
 {
     struct image it = tried_image();
@@ -134,12 +160,12 @@ static int faults(void)
     fault("an enclave reads the serial port", READ, 0x10000000, 5);
     fault("an enclave reads the CLINT", READ, 0x200bff8, 5);
     fault("an enclave reads another", READ, other.made.base, 5);
-    fault("an enclave adds floats", FLOATS, 0, 2);
     fault("an enclave reads the time", TIME, 0, 2);
     /* What it may. */
     ((volatile uint64_t *)other.buffer)[1] = other.made.base;
     want(!run_for(other.file, &r, 0) && r.error == 0 && r.value, "an enclave reads its own text");
     end(&other);
+    floats(&it);
     return wrong;
 }
 

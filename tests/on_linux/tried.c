@@ -23,8 +23,7 @@ uint64_t enclave_main(uint64_t id, volatile struct pmpmon_page *page)
         ((void (*)(void))at)();
         return 0;
     case FLOATS:
-        __asm__ volatile(".word 0xd222f553"); /* fcvt.d.l fa0, t0 */
-        return 0;
+        return sum(at, more);
     case TIME:
         __asm__ volatile("rdtime %0" : "=r"(value));
         return value;

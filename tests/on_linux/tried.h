@@ -8,7 +8,7 @@ enum tried {
     READ,    /* loads the word at an address, and exits with it */
     WRITE,   /* stores zero there */
     JUMP,    /* goes on there */
-    FLOATS,  /* adds two numbers of floating point */
+    FLOATS,  /* `sum` below of so many numbers from a first one, and exits with its bits */
     TIME,    /* reads the time */
     FOREVER, /* never stops by itself */
     STOPS,   /* does nothing but stop */
@@ -25,6 +25,18 @@ static inline uint64_t work(volatile uint64_t *words, uint64_t rounds, uint64_t 
         state += word;
     }
     return state;
+}
+
+/* Adds the inverses of so many numbers, and answers the bits of what comes of it. */
+static inline uint64_t sum(uint64_t count, uint64_t first)
+{
+    union {
+        double number;
+        uint64_t bits;
+    } it = {0};
+    for (; count; count--, first++)
+        it.number += 1 / (double)first;
+    return it.bits;
 }
 
 #endif

@@ -13,7 +13,6 @@ use Rattle.pmp_match.specs.declared.access.Mode.TheVariants.{Machine}
 use Rattle.pmp_match.specs.declared.cause.Cause.{Cause}
 use Rattle.pmp_match.specs.Accesses.{Reaches}
 use Rattle.pmp_match.specs.Judgement.{Judges}
-use Rattle.pmp_match.specs.Kinds.{holds}
 use Rattle.pmp_match.specs.Meaning.{Means}
 use Rattle.pmp_match.proofs.Judged.{judgement_law_proof}
 use Rattle.enclave_table.specs.Enclaves.{Live}
@@ -32,7 +31,7 @@ use Rattle.hart_sim.specs.States.{MachineState, awoken}
 use Rattle.hart_sim.specs.Steps.{Accesses, Step, TakesEffect, verdict}
 use Rattle.trap_server.specs.Firmware.{HasFewest}
 use Rattle.board.specs.Board.{Board, DoesAccess, memory_after, put_by}
-use Rattle.board.specs.Headline.{IsMonitorByte, IsOwnStore, KeepsAccess}
+use Rattle.board.specs.Headline.{IsMonitorByte, IsOwnStore, KeepsAccess, floats_of}
 use Rattle.board.proofs.Judged.{judged}
 
 -- what a list says that means a view, the view says
@@ -179,4 +178,5 @@ access_kept law old hart a value said new right fewest x =
             | inr stores ↦ inr (own_store old hart a value said (reply_of said s a) id byte is stores)
           ];
       monitor = λ byte own. ap (λ (b : Board). b.memory byte) x.state ∙ closed_stays said old.memory a value byte (closed byte own);
+      floats = λ who. ap (λ b. floats_of b who) x.state;
     }

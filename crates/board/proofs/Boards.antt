@@ -11,10 +11,13 @@ use Rattle.trap_server.specs.Firmware.{FirmwareHeadline, HasFewest, is_loaded}
 use Rattle.trap_server.specs.Runs.{ServesTraps, first_words, next_trap, no_trap}
 use Rattle.trap_server.specs.declared.words.ControlWords.{ControlWords}
 use Rattle.monitor_core.specs.States.{MonitorState, opening_monitor}
-use Rattle.board.specs.Board.{Board, BoardEvent, BoardRun, DoesAccess, DoesTrap, HappensOn, access, trapped, booted, booted_board, happened}
+use Rattle.board.specs.Board.{Board, BoardEvent, BoardRun, DoesAccess, DoesCompute, DoesTrap, Floats, HappensOn, access, computed, trapped}
+use Rattle.board.specs.Board.{booted, booted_board, happened}
 use Rattle.board.specs.Headline.{AreMeasured, BoardHeadline, EachKeeps, IsServed, read_on, written_on}
 use Rattle.board.proofs.Fresh.{measured_access, measured_trap}
 use Rattle.board.proofs.Accessed.{StepsPromise, access_kept}
+use Rattle.board.proofs.Floats.{computed_kept, runs_there}
+use Rattle.board.proofs.FloatsKept.{floats_kept}
 use Rattle.board.proofs.Trapped.{trap_kept}
 
 -- what the firmware's theorem says
@@ -42,6 +45,7 @@ module _ (law : FirmwareHolds) (steps : StepsPromise) (layout : PlatformLayout) 
         platform = f.platform;
         worlds = f.worlds;
         awake = f.awake;
+        floats = λ hart low. sym (runs_there board hart f.worlds (subst (λ l. hart < l.harts) (sym f.platform) low));
         banks = λ hart low. subst (λ bytes. HasFewest bytes layout.limit (current_view board.monitor.table (board.monitor.worlds hart)))
             (sym (served.loads hart)) (f.banks hart low);
         measured = measured;
@@ -52,6 +56,12 @@ module _ (law : FirmwareHolds) (steps : StepsPromise) (layout : PlatformLayout) 
   still_served : (read written : List ℕ) (old : Board) (hart : ℕ) (a : Access) (value : ℕ) (said : Result (Unit {0}) Cause) (new : Board)
       → IsServed layout opened read written old → DoesAccess old hart a value said new → IsServed layout opened read written new
   still_served read written old hart a value said new before x = subst (IsServed layout opened read written) (sym x.state)
+      (record { served = before.served; loads = before.loads })
+
+  -- nor is a computation
+  computed_served : (read written : List ℕ) (old : Board) (hart : ℕ) (floats : Floats) (new : Board) → IsServed layout opened read written old
+      → DoesCompute old hart floats new → IsServed layout opened read written new
+  computed_served read written old hart floats new before x = subst (IsServed layout opened read written) (sym x.state)
       (record { served = before.served; loads = before.loads })
 
   -- a trap more
@@ -74,14 +84,21 @@ module _ (law : FirmwareHolds) (steps : StepsPromise) (layout : PlatformLayout) 
       headline (events ++ access hart a value said ∷ []) new (happened run (access hart a value said) x)
       (still_served (read_on run) (written_on run) old hart a value said new before.served x)
       (measured_access old hart a said new before.worlds x.known (ap (λ (b : Board). b.monitor) x.state) kept before.measured) (before.each, kept)
+  by_event events old new run (computed hart floats) x before =
+      headline (events ++ computed hart floats ∷ []) new (happened run (computed hart floats) x)
+      (computed_served (read_on run) (written_on run) old hart floats new before.served x)
+      (subst AreMeasured (sym x.state) before.measured) (before.each, computed_kept old hart floats new before.worlds x)
   by_event events old new run (trapped trap frame read question answered) x before =
       let next = next_served (read_on run) (written_on run) old trap frame read question answered new before.served x in
-      let k = (firmware (read_on run ++ (frame ++ read)) (written_on run ++ (question ++ answered)) new next).each.1 in
+      let f = firmware (read_on run ++ (frame ++ read)) (written_on run ++ (question ++ answered)) new next in
+      let k = f.each.1 in
       let kept = trap_kept old trap frame read question answered new before.table x k in
+      let floats = floats_kept old trap frame read question answered new (ap (λ l. l.harts) (f.platform ∙ sym before.platform)) before.table f.table
+      before.worlds f.worlds x k in
       headline (events ++ trapped trap frame read question answered ∷ []) new (happened run (trapped trap frame read question answered) x) next
-      (measured_trap old trap frame read question answered new before.table x kept before.measured) (before.each, kept)
+      (measured_trap old trap frame read question answered new before.table x kept before.measured) (before.each, (kept, floats))
 
   pub board_kept : (events : List BoardEvent) (board : Board) (run : BoardRun layout opened events board) → BoardHeadline layout opened events board run
-  board_kept _ _ (booted memory) = headline [] (booted_board layout opened memory) (booted memory) (record { served = no_trap; loads = λ hart. refl })
-      (λ id e live fresh. absurd (none_live layout id e live)) tt
+  board_kept _ _ (booted memory floats kept) = headline [] (booted_board layout opened memory floats kept) (booted memory floats kept)
+      (record { served = no_trap; loads = λ hart. refl }) (λ id e live fresh. absurd (none_live layout id e live)) tt
   board_kept _ _ (happened {events = events} {old = old} {new = new} run event happens) = by_event events old new run event happens (board_kept events old run)

@@ -40,8 +40,8 @@ use Rattle.board.specs.Headline.{AreMeasured, KeepsAccess, KeepsMemory}
 use Rattle.board.proofs.Made.{Absent}
 
 -- where one place of a table is written, an enclave stands there, or where it stood
-placed : (table new : EnclaveTable) (k id : ℕ) (slot : Option Enclave) (e : Enclave) → new ≡ with_enclave table k slot → 1 ≤ k → k - 1 < length table.enclaves
-    → Live new id e → ((id ≡ k) × (slot ≡ Some e)) ⊎ Live table id e
+pub placed : (table new : EnclaveTable) (k id : ℕ) (slot : Option Enclave) (e : Enclave) → new ≡ with_enclave table k slot → 1 ≤ k
+    → k - 1 < length table.enclaves → Live new id e → ((id ≡ k) × (slot ≡ Some e)) ⊎ Live table id e
 placed table new k id slot e is above inside live = both (id == k)
     (λ yes.
     let same : id ≡ k = eqb-true id k yes in

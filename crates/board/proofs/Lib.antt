@@ -1,8 +1,12 @@
 mod Named
+mod Runners
+mod Floats
 mod Made
 mod Accessed
 mod Trapped
 mod Fresh
+mod New
+mod FloatsKept
 mod Boards
 mod FrameWords
 mod PageFrames

@@ -28,7 +28,7 @@ abbrev pub IsMade : Option Create → (Create → List ℕ) → MonitorState →
 IsMade asked digests s hart e = Measures asked s.table (s.worlds hart) e.parts × (e.digest ≡ digests e.parts)
 
 -- where the table stays none is new
-same_table : (table new : EnclaveTable) (id : ℕ) (e : Enclave) → new ≡ table → Absent table id → Live new id e → ⊥
+pub same_table : (table new : EnclaveTable) (id : ℕ) (e : Enclave) → new ≡ table → Absent table id → Live new id e → ⊥
 same_table table new id e same none live = let z : None ≡ Some e = sym none ∙ ap (λ t. enclave_at t.enclaves id) (sym same) ∙ live in cc
 
 -- nor where what changes is the place of one that was there

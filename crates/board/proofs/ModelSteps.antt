@@ -1,5 +1,5 @@
 -- Each step of the model on a board that is as its state.
-use Rattle.std.proofs.Common.{◌≡◌, ◌≢◌, ◌∙◌, inl, inr, ℕ, ◌+◌, ◌<◌, ◌≤◌, ◌^◌, ◌==◌, Bool, true, false, if◌then◌else◌, List, [], ◌∷◌, ◌++◌}
+use Rattle.std.proofs.Common.{◌≡◌, ◌≢◌, ◌∙◌, inl, inr, ℕ, ◌+◌, ◌<◌, ◌≤◌, ◌^◌, ◌==◌, Bool, false, if◌then◌else◌, List, [], ◌∷◌, ◌++◌}
 use Rattle.std.proofs.Common.{length, Option, Some, None, IfSome, Result, Ok, Err, append-nil, refl, ap, sym, subst, arith}
 use Rattle.std.proofs.lemmas.Bool.{both_ways, eq-eqb, eqb-true}
 use Rattle.pmp_encoding.specs.Limits.{limit_number}
@@ -17,7 +17,7 @@ use Rattle.pmp_match.specs.declared.cause.Cause.{Cause}
 use Rattle.platforms.specs.Platform.{PlatformLayout}
 use Rattle.sbi_decode.specs.Calls.{call_of}
 use Rattle.sbi_decode.specs.Registers.{RegisterFile}
-use Rattle.sbi_decode.specs.Runners.{Runner, HostOf, EnclaveOf, runner_of}
+use Rattle.sbi_decode.specs.Runners.{Runner, runner_of}
 use Rattle.sbi_decode.specs.declared.world.World.{World}
 use Rattle.sbi_decode.specs.declared.world.World.TheVariants.{Host, Enclave as InEnclave}
 use Rattle.enclave_table.specs.Fewest.{FitsIn}
@@ -48,12 +48,14 @@ use Rattle.trap_server.specs.Answered.{AreAwake, no_answer}
 use Rattle.trap_server.specs.Firmware.{HasFewest, loaded_pairs}
 use Rattle.trap_server.specs.declared.trap.TrapEvent.TheVariants as traps
 use Rattle.trap_server.proofs.Waking.{marks_in_host}
-use Rattle.board.specs.Board.{BoardEvent, BoardRun, DoesAccess, access, happened, memory_after, put_by, trapped}
+use Rattle.board.specs.Board.{BoardEvent, BoardRun, DoesAccess, access, happened, memory_after, no_floats, put_by, trapped}
 use Rattle.board.specs.Model.{IsOneTrap, IsSeen, SaysReply}
 use Rattle.board.proofs.Asked.{asks, frames_of_memory, measures_known}
 use Rattle.board.proofs.Follows.{Follows, IsElsewhere, call_follows, digest_by, irq_follows}
 use Rattle.board.proofs.Judged.{judged}
 use Rattle.board.proofs.Rooms.{AllFit, call_fits, current_fits, irq_fits}
+use Rattle.board.proofs.Runners.{same_is}
+use Rattle.board.proofs.Runners.{alone as alone_on}
 use Rattle.board.proofs.TrapFrames.{trap_frame, trap_on}
 use Rattle.board.proofs.TrapsOn.{OnBoard, TrapLeaves, Waits, board_of, clears, monitor_of, trap_seen}
 
@@ -109,6 +111,8 @@ module _ (layout : PlatformLayout) (opened : List ℕ) (seen : List BoardEvent) 
         hosts = on.hosts;
         memory = that.bytes;
         loaded = on.loaded;
+        floats = λ hart. no_floats;
+        kept = λ who. no_floats;
       } in
       record {
         registers = on.registers;
@@ -185,19 +189,7 @@ module _ (layout : PlatformLayout) (opened : List ℕ) (seen : List BoardEvent) 
 
   -- who runs on the hart runs on no other
   alone : IsElsewhere s.table.layout.harts s.worlds hart (runner_of hart (s.worlds hart))
-  alone other low differ is = by_worlds (s.worlds hart) (s.worlds other) refl refl is
-    where
-      number : Runner → ℕ
-      number (HostOf h) = h
-      number (EnclaveOf id) = id
-
-      by_worlds : (w v : World) → s.worlds hart ≡ w → s.worlds other ≡ v → runner_of hart w ≡ runner_of other v → ⊥
-      by_worlds Host Host here there is = differ (sym (ap number is))
-      by_worlds Host (InEnclave k) here there is = cc
-      by_worlds (InEnclave id) Host here there is = cc
-      by_worlds (InEnclave id) (InEnclave k) here there is =
-          let same : id ≡ k = ap number is in
-          differ (sym (good.worlds.alone hart other id known low here (there ∙ ap InEnclave (sym same))))
+  alone other low differ = alone_on (monitor_of s on.registers on.marked) hart other good.worlds known low differ
 
   -- the same registers of all that run on no other hart, once those of the hart were put there
   put_follows : (file : RegisterFile) → Follows s.table.layout.harts hart (with_running (core_of (awoken s hart)) hart file)
@@ -304,12 +296,6 @@ module _ (layout : PlatformLayout) (opened : List ℕ) (seen : List BoardEvent) 
           → IfSome cleared (λ range. range.first + range.count ≤ 2 ^ 44)
       in_space None d = tt
       in_space (Some range) d = d.inside
-
-  same_is : (a b : Runner) → is_same a b ≡ true → a ≡ b
-  same_is (HostOf h) (HostOf k) is = ap HostOf (eqb-true h k is)
-  same_is (HostOf h) (EnclaveOf k) is = let z : false ≡ true = is in absurd cc
-  same_is (EnclaveOf h) (HostOf k) is = let z : false ≡ true = is in absurd cc
-  same_is (EnclaveOf h) (EnclaveOf k) is = ap EnclaveOf (eqb-true h k is)
 
   -- the registers of who runs on the hart
   abbrev pub running : RegisterFile

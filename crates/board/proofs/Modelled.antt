@@ -20,7 +20,7 @@ use Rattle.hart_sim.specs.States.{MachineState, awoken, opening_state}
 use Rattle.hart_sim.specs.Steps.{Accesses, DoesEvent, IsEvent, Run, TakesEffect, step, still, verdict}
 use Rattle.trap_server.specs.Boot.{IsFirstAnswer}
 use Rattle.trap_server.specs.Runs.{first_words}
-use Rattle.board.specs.Board.{Board, BoardEvent, BoardRun, booted}
+use Rattle.board.specs.Board.{Board, BoardEvent, BoardRun, booted, no_floats}
 use Rattle.board.specs.Headline.{BoardHeadline}
 use Rattle.board.specs.Model.{AreSeen, RunsOnBoard}
 use Rattle.board.proofs.ModelSteps.{IsGood, Next, access_next, call_next, irq_next, reg_next, stop_next, trap_next}
@@ -91,7 +91,7 @@ module _ (law : BoardHolds) (layout : PlatformLayout) (opened : List ℕ) (rules
       marked = λ hart. false;
       hosts = first_words;
       loaded = λ hart. opened;
-      runs = booted (λ byte. 0);
+      runs = booted (λ byte. 0) (λ hart. no_floats) (λ who. no_floats);
       waits = λ who off. refl;
     };
     fits = record {

@@ -24,12 +24,12 @@ use Rattle.trap_server.specs.Words.{word_at}
 use Rattle.trap_server.specs.declared.trap.TrapEvent.{TrapEvent}
 use Rattle.trap_server.specs.declared.words.ControlWords.{ControlWords}
 use Rattle.trap_server.proofs.Served.{mark_at}
-use Rattle.board.specs.Board.{Board, BoardEvent, BoardRun, ReadsMemory, happened, trapped}
+use Rattle.board.specs.Board.{Board, BoardEvent, BoardRun, ReadsMemory, happened, no_floats, trapped}
 use Rattle.board.proofs.Named.{Says, named, says}
 use Rattle.board.proofs.TrapFrames.{frame_is, frame_size, trap_frame, trap_on}
 use Rattle.board.proofs.Trapped.{none_in}
 
--- a board that is as a state, with these registers of those that wait
+-- a board that is as a state, with these registers of those that wait. Nobody computes in floating point
 abbrev pub monitor_of : MachineState → (Runner → RegisterFile) → (ℕ → Bool) → MonitorState
 monitor_of s registers marked = record {
   table = s.table;
@@ -44,6 +44,8 @@ board_of s registers marked hosts loaded = record {
   hosts = hosts;
   memory = s.bytes;
   loaded = loaded;
+  floats = λ hart. no_floats;
+  kept = λ who. no_floats;
 }
 
 -- who runs on no hart
@@ -127,6 +129,14 @@ trap_seen layout opened seen kind old new hart file on known x =
               x.bytes byte ∙ sym (ap (λ first. zeroed old.bytes first (word_at answered 7) byte) words.0
               ∙ ap (λ count. zeroed old.bytes (pages_of x.cleared).first count byte) words.1);
           loads = λ h. refl;
+          floats = record {
+            goes_on = λ same. refl;
+            leaves = λ differ. refl;
+            enters = λ differ. refl;
+            made = λ other said. refl;
+            harts = λ other differ. refl;
+            others = λ other differ none. refl;
+          };
         });
         waits = x.waits;
       },

@@ -1,6 +1,6 @@
 -- A board: harts that load what the monitor answers, memory, and worlds that run between its traps.
-use Rattle.std.specs.Prelude.{◌≡◌, ◌≢◌, ℕ, ◌*◌, ◌<◌, if◌then◌else◌, List, [], ◌++◌, ◌∷◌, length}
-use Rattle.std.specs.Prelude.{Result, Ok, Err}
+use Rattle.std.specs.Prelude.{◌≡◌, ◌≢◌, ℕ, ◌*◌, ◌<◌, ◌==◌, if◌then◌else◌, List, [], ◌++◌, ◌∷◌}
+use Rattle.std.specs.Prelude.{length, Result, Ok, Err}
 use Rattle.pmp_encoding.specs.declared.region.Entry.{Entry}
 use Rattle.pmp_encoding.specs.Limits.{limit_number}
 use Rattle.pmp_encoding.specs.Lists.{MeansList}
@@ -12,7 +12,9 @@ use Rattle.pmp_match.specs.declared.cause.Cause.{Cause}
 use Rattle.pmp_match.specs.Judgement.{Judges}
 use Rattle.measurement.specs.Digests.{pages_from}
 use Rattle.platforms.specs.Platform.{PlatformLayout}
+use Rattle.sbi_decode.specs.Runners.{Runner, HostOf, EnclaveOf}
 use Rattle.monitor_core.specs.States.{MonitorState, opening_monitor}
+use Rattle.monitor_core.specs.Switches.{runner_on}
 use Rattle.hart_sim.specs.Memory.{bytes_at, stored, zeroed}
 use Rattle.trap_server.specs.declared.trap.Trap.{Trap}
 use Rattle.trap_server.specs.declared.words.ControlWords.{ControlWords}
@@ -23,13 +25,24 @@ use Rattle.trap_server.specs.Service.{ServesTrap}
 use Rattle.trap_server.specs.Traps.{IsTrapFrame}
 use Rattle.trap_server.specs.Words.{word_at}
 
+-- what is in registers of floating point: in f0 to f31 by their numbers, and in fcsr after them
+abbrev pub Floats : Type 0
+Floats = ℕ → ℕ
+
+-- zero in each
+abbrev pub no_floats : Floats
+no_floats n = 0
+
 -- the state of the monitor, the control words that its loop keeps, the byte at each address, and
--- for each hart the bytes of the answer whose entries it loaded last
+-- for each hart the bytes of the answer whose entries it loaded last. What each hart has in its
+-- registers of floating point, and what is kept there for each host and each enclave
 pub record Board : Type 0 where
   pub monitor : MonitorState
   pub hosts : ℕ → ControlWords
   pub memory : ℕ → ℕ
   pub loaded : ℕ → List ℕ
+  pub floats : ℕ → Floats
+  pub kept : Runner → Floats
 
 -- the PMP registers of a hart have this list
 abbrev pub HasEntries : Board → ℕ → List Entry → Type 0
@@ -37,10 +50,11 @@ HasEntries board hart entries = MeansList
     (loaded_pairs (board.loaded hart) 0 (limit_number board.monitor.table.layout.limit)) entries
 
 -- what happens on a board: an access, with the value that a store puts and what the entries say of
--- it; or a trap, with the bytes of its frame, those of its pages, the question for them and the
--- answer
+-- it; a computation that leaves this in a hart's registers of floating point; or a trap, with the
+-- bytes of its frame, those of its pages, the question for them and the answer
 pub data BoardEvent : Type 0 where
   access : (hart : ℕ) (a : Access) (value : ℕ) (said : Result (Unit {0}) Cause) → BoardEvent
+  computed : (hart : ℕ) (floats : Floats) → BoardEvent
   trapped : (trap : Trap) (frame read question answered : List ℕ) → BoardEvent
 
 -- memory after an access that is allowed: a store puts its bytes, and no other changes any
@@ -55,8 +69,8 @@ memory_after (Err cause) memory a value = memory
 memory_after (Ok done) memory a value = put_by a.kind memory a value
 
 -- a world below machine mode makes an access, of any kind, address and value, and the entries of
--- its hart say of it what they say. What the world does with its registers is anything: no board
--- knows of them until the next trap
+-- its hart say of it what they say. What the world does with its integer registers is anything: no
+-- board knows of them until the next trap
 pub record DoesAccess (old : Board) (hart : ℕ) (a : Access) (value : ℕ)
     (said : Result (Unit {0}) Cause) (new : Board) : Type 0 where
   pub known : hart < old.monitor.table.layout.harts
@@ -66,6 +80,34 @@ pub record DoesAccess (old : Board) (hart : ℕ) (a : Access) (value : ℕ)
   pub judged : Judges entries a said
   pub state : new ≡ record old { memory = memory_after said old.memory a value }
 
+-- the world of a hart puts anything into its registers of floating point
+pub record DoesCompute (old : Board) (hart : ℕ) (floats : Floats) (new : Board) : Type 0 where
+  pub known : hart < old.monitor.table.layout.harts
+  pub state : new ≡ record old { floats = λ h. if h == hart then floats else old.floats h }
+
+-- who goes on on a hart, by the number of the world in an answer: 0 is the host of that hart
+abbrev pub runner_by : ℕ → ℕ → Runner
+runner_by hart world = if world == 0 then HostOf hart else EnclaveOf world
+
+-- an answer says that this enclave was made: pages were asked for, the status is 0, and the value
+-- is its number
+abbrev pub SaysMade : List ℕ → List ℕ → Runner → Type 0
+SaysMade question answered who = (question ≢ []) × (word_at answered 3 ≡ 0)
+    × (who ≡ EnclaveOf (word_at answered 4))
+
+-- registers of floating point over a trap of who runs on a hart. Where the answer says in its
+-- word 2 that another goes on, what the hart has is kept for the one, and it gets what is kept for
+-- the other. For an enclave that was made zeros are kept. Nothing else is changed
+pub record ChangesFloats (old : Board) (hart : ℕ) (who next : Runner)
+    (question answered : List ℕ) (new : Board) : Type 0 where
+  pub goes_on : next ≡ who → new.floats hart ≡ old.floats hart
+  pub leaves : next ≢ who → new.kept who ≡ old.floats hart
+  pub enters : next ≢ who → new.floats hart ≡ old.kept next
+  pub made : (other : Runner) → SaysMade question answered other → new.kept other ≡ no_floats
+  pub harts : (other : ℕ) → other ≢ hart → new.floats other ≡ old.floats other
+  pub others : (other : Runner) → other ≢ who → (SaysMade question answered other → ⊥)
+      → new.kept other ≡ old.kept other
+
 -- the frames of pages that were read have the bytes of memory, whichever pages they are
 abbrev pub ReadsMemory : (ℕ → ℕ) → List ℕ → Type 0
 ReadsMemory memory read =
@@ -73,8 +115,9 @@ ReadsMemory memory read =
     → pages ≡ pages_from (λ page. bytes_at memory (page * 4096) 4096) first count
 
 -- a trap is served, and meanwhile no world runs. Its frame has any registers. The pages that were
--- read are memory's; those that the answer names, in its words 6 and 7, are made zero; and each
--- hart that it names or wakes loads its entries before any world goes on
+-- read are memory's; those that the answer names, in its words 6 and 7, are made zero; each hart
+-- that it names or wakes loads its entries before any world goes on; and registers of floating
+-- point change with the world of the hart that trapped
 pub record DoesTrap (old : Board) (trap : Trap) (frame read question answered : List ℕ)
     (new : Board) : Type 0 where
   pub size : length frame ≡ 352
@@ -85,27 +128,34 @@ pub record DoesTrap (old : Board) (trap : Trap) (frame read question answered : 
       ≡ zeroed old.memory (word_at answered 6) (word_at answered 7) byte
   pub loads : (hart : ℕ) → new.loaded hart
       ≡ (if is_loaded answered hart then answered else old.loaded hart)
+  pub floats : ChangesFloats old trap.hart (runner_on old.monitor trap.hart)
+      (runner_by trap.hart (word_at answered 2)) question answered new
 
 -- an event happens on a board
 abbrev pub HappensOn : BoardEvent → Board → Board → Type 0
 HappensOn (access hart a value said) old new = DoesAccess old hart a value said new
+HappensOn (computed hart floats) old new = DoesCompute old hart floats new
 HappensOn (trapped trap frame read question answered) old new =
     DoesTrap old trap frame read question answered new
 
--- a board after boot: the opening state, any memory, and on each hart the entries of the first
--- answer
-abbrev pub booted_board : PlatformLayout → List ℕ → (ℕ → ℕ) → Board
-booted_board layout opened memory = record {
+-- a board after boot: the opening state, any memory, on each hart the entries of the first answer,
+-- and anything in registers of floating point and kept of them
+abbrev pub booted_board : PlatformLayout → List ℕ → (ℕ → ℕ) → (ℕ → Floats) → (Runner → Floats)
+    → Board
+booted_board layout opened memory floats kept = record {
   monitor = opening_monitor layout;
   hosts = first_words;
   memory = memory;
   loaded = λ hart. opened;
+  floats = floats;
+  kept = kept;
 }
 
 -- events that happen one after another on a board, after boot
 pub data BoardRun (layout : PlatformLayout) (opened : List ℕ) : List BoardEvent → Board
     → Type 0 where
-  booted : (memory : ℕ → ℕ) → BoardRun layout opened [] (booted_board layout opened memory)
+  booted : (memory : ℕ → ℕ) (floats : ℕ → Floats) (kept : Runner → Floats)
+      → BoardRun layout opened [] (booted_board layout opened memory floats kept)
   happened : {events : List BoardEvent} {old new : Board} → BoardRun layout opened events old
       → (event : BoardEvent) → HappensOn event old new
       → BoardRun layout opened (events ++ event ∷ []) new

@@ -1,11 +1,13 @@
 -- What holds of a board after boot and any list of events.
 use Rattle.std.specs.Prelude.{◌≡◌, ◌≢◌, ◌⊎◌, ℕ, ◌/◌, ◌<◌, true, if◌then◌else◌, List, [], ◌++◌}
-use Rattle.std.specs.Prelude.{None, Result, Ok, Err, ⊤}
+use Rattle.std.specs.Prelude.{zero, suc, None, Result, Ok, Err, ⊤}
 use Rattle.pmp_match.specs.declared.access.Access.{Access}
 use Rattle.pmp_match.specs.Accesses.{Reaches}
 use Rattle.pmp_match.specs.declared.access.Kind.TheVariants.{Store}
 use Rattle.pmp_match.specs.declared.cause.Cause.{Cause}
 use Rattle.sbi_decode.specs.declared.world.World.TheVariants.{Enclave as InEnclave}
+use Rattle.sbi_decode.specs.Runners.{Runner, EnclaveOf, runner_of}
+use Rattle.sbi_decode.specs.declared.world.World.{World}
 use Rattle.measurement.specs.Requests.{is_private}
 use Rattle.platforms.specs.Platform.{PlatformLayout}
 use Rattle.platforms.specs.Ranges.{has_page}
@@ -14,16 +16,30 @@ use Rattle.enclave_table.specs.Tables.{IsTable}
 use Rattle.enclave_table.specs.Views.{current_view}
 use Rattle.enclave_table.specs.declared.enclave.Enclave.{Enclave}
 use Rattle.enclave_table.specs.declared.enclave.Stage.TheVariants.{Fresh}
+use Rattle.monitor_core.specs.Changes.{is_same}
 use Rattle.monitor_core.specs.States.{opening_monitor}
-use Rattle.monitor_core.specs.Switches.{IsGone}
+use Rattle.monitor_core.specs.Switches.{IsGone, runner_on}
 use Rattle.monitor_core.specs.Worlds.{ArePlaced}
 use Rattle.hart_sim.specs.Memory.{measured_in}
 use Rattle.hart_sim.specs.Steps.{verdict}
 use Rattle.trap_server.specs.Answered.{AreAwake}
 use Rattle.trap_server.specs.Firmware.{HasFewest, loaded_last}
 use Rattle.trap_server.specs.Runs.{ServesTraps, first_words}
-use Rattle.board.specs.Board.{Board, BoardEvent, BoardRun, access, trapped, booted}
-use Rattle.board.specs.Board.{happened}
+use Rattle.board.specs.Board.{Board, BoardEvent, BoardRun, access, computed, trapped, booted}
+use Rattle.board.specs.Board.{Floats, happened, no_floats}
+
+-- what a host or an enclave has in registers of floating point, by what is in each hart's and what
+-- is kept: of the harts below n that of the one on which it runs, and what is kept for it where it
+-- runs on none
+abbrev pub floats_below : ℕ → (ℕ → World) → (ℕ → Floats) → (Runner → Floats) → Runner → Floats
+floats_below zero worlds floats kept who = kept who
+floats_below (suc n) worlds floats kept who = if is_same who (runner_of n (worlds n)) then floats n
+    else floats_below n worlds floats kept who
+
+-- what it has on a board
+abbrev pub floats_of : Board → Runner → Floats
+floats_of board who = floats_below board.monitor.table.layout.harts board.monitor.worlds
+    board.floats board.kept who
 
 -- a byte of a page that is private to an enclave
 abbrev pub IsPrivateByte : Board → ℕ → Enclave → ℕ → Type 0
@@ -45,7 +61,7 @@ pub record IsOwnStore (board : Board) (hart : ℕ) (a : Access) (said : Result (
 -- what holds of each access: the entries of its hart say what the view of its world says. An access
 -- that reaches a page which is private to an enclave, by any other world, is a fault, and so is any
 -- that reaches a page of the monitor. A byte of such a private page stays, but for the enclave's
--- own stores, and a byte of the monitor's pages stays
+-- own stores, and a byte of the monitor's pages stays. Nobody's registers of floating point change
 pub record KeepsAccess (old : Board) (hart : ℕ) (a : Access) (said : Result (Unit {0}) Cause)
     (new : Board) : Type 0 where
   pub by_view : said ≡ verdict (current_view old.monitor.table (old.monitor.worlds hart)) a
@@ -56,11 +72,32 @@ pub record KeepsAccess (old : Board) (hart : ℕ) (a : Access) (said : Result (U
   pub private : (id byte : ℕ) (e : Enclave) → IsPrivateByte old id e byte
       → (new.memory byte ≡ old.memory byte) ⊎ IsOwnStore old hart a said id byte
   pub monitor : (byte : ℕ) → IsMonitorByte old byte → new.memory byte ≡ old.memory byte
+  pub floats : (who : Runner) → floats_of new who ≡ floats_of old who
 
--- what holds of each trap. A byte of a page that is private to an enclave before it and after it
--- stays, and so does a byte of the monitor's pages. Where an enclave is no more, each byte of its
--- private pages is zero, and every other byte stays; where none is gone, every byte stays. An
--- enclave that is new has the digest of its private pages as they are in memory at that moment
+-- what holds of each computation: it changes registers of floating point of the one who runs there,
+-- and of nobody else
+pub record KeepsOthers (old : Board) (hart : ℕ) (floats : Floats) (new : Board) : Type 0 where
+  pub own : floats_of new (runner_on old.monitor hart) ≡ floats
+  pub others : (who : Runner) → who ≢ runner_on old.monitor hart
+      → floats_of new who ≡ floats_of old who
+
+-- an enclave that was not there before, and is now
+abbrev pub IsNew : Board → Board → Runner → Type 0
+IsNew old new who = (id : ℕ) × (e : Enclave) × (who ≡ EnclaveOf id)
+    × (enclave_at old.monitor.table.enclaves id ≡ None) × Live new.monitor.table id e
+
+-- what holds of registers of floating point over each trap: a new enclave has zeros, and all
+-- others, hosts and enclaves, have what they had. So one that goes on has what it left, on
+-- whichever hart
+pub record KeepsFloats (old new : Board) : Type 0 where
+  pub begins : (who : Runner) → IsNew old new who → floats_of new who ≡ no_floats
+  pub stays : (who : Runner) → (IsNew old new who → ⊥) → floats_of new who ≡ floats_of old who
+
+-- what holds of memory over each trap. A byte of a page that is private to an enclave before it
+-- and after it stays, and so does a byte of the monitor's pages. Where an enclave is no more, each
+-- byte of its private pages is zero, and every other byte stays; where none is gone, every byte
+-- stays. An enclave that is new has the digest of its private pages as they are in memory at that
+-- moment
 pub record KeepsMemory (old new : Board) : Type 0 where
   pub private : (id byte : ℕ) (e f : Enclave) → IsPrivateByte old id e byte
       → IsPrivateByte new id f byte → new.memory byte ≡ old.memory byte
@@ -75,27 +112,31 @@ pub record KeepsMemory (old new : Board) : Type 0 where
 -- what holds of an event
 abbrev pub Keeps : BoardEvent → Board → Board → Type 0
 Keeps (access hart a value said) old new = KeepsAccess old hart a said new
+Keeps (computed hart floats) old new = KeepsOthers old hart floats new
 Keeps (trapped trap frame read question answered) old new = KeepsMemory old new
+    × KeepsFloats old new
 
 -- so it is for each event of a run
 abbrev pub EachKeeps : {layout : PlatformLayout} {opened : List ℕ} {events : List BoardEvent}
     {board : Board} → BoardRun layout opened events board → Type 0
-EachKeeps (booted memory) = ⊤
+EachKeeps (booted memory floats kept) = ⊤
 EachKeeps (happened {old = old} {new = new} run event happens) = EachKeeps run × Keeps event old new
 
 -- what was read in the traps of a run: their frames, and their pages
 abbrev pub read_on : {layout : PlatformLayout} {opened : List ℕ} {events : List BoardEvent}
     {board : Board} → BoardRun layout opened events board → List ℕ
-read_on (booted memory) = []
+read_on (booted memory floats kept) = []
 read_on (happened run (access hart a value said) does) = read_on run
+read_on (happened run (computed hart floats) does) = read_on run
 read_on (happened run (trapped trap frame read question answered) does) =
     read_on run ++ (frame ++ read)
 
 -- what was written in them: the questions for pages, and the answers
 abbrev pub written_on : {layout : PlatformLayout} {opened : List ℕ} {events : List BoardEvent}
     {board : Board} → BoardRun layout opened events board → List ℕ
-written_on (booted memory) = []
+written_on (booted memory floats kept) = []
 written_on (happened run (access hart a value said) does) = written_on run
+written_on (happened run (computed hart floats) does) = written_on run
 written_on (happened run (trapped trap frame read question answered) does) =
     written_on run ++ (question ++ answered)
 
@@ -116,8 +157,9 @@ AreMeasured board = (id : ℕ) (e : Enclave) → Live board.monitor.table id e �
 -- after any events: the traps among them are a run of the loop, by what was read and written. The
 -- table is sound, and the platform is the one that was booted. Each hart is in the host's world or
 -- in that of an enclave that is Running, and each of these runs on just one; none is to be woken.
--- The entries that each hart has loaded mean the view of its world, by the fewest that do. What was
--- measured of an enclave is what it will first run. And what each event kept
+-- The entries that each hart has loaded mean the view of its world, by the fewest that do, and in
+-- its registers of floating point it has what its world has. What was measured of an enclave is
+-- what it will first run. And what each event kept
 pub record BoardHeadline (layout : PlatformLayout) (opened : List ℕ) (events : List BoardEvent)
     (board : Board) (run : BoardRun layout opened events board) : Type 0 where
   pub served : IsServed layout opened (read_on run) (written_on run) board
@@ -128,5 +170,7 @@ pub record BoardHeadline (layout : PlatformLayout) (opened : List ℕ) (events :
   pub banks : (hart : ℕ) → hart < layout.harts
       → HasFewest (board.loaded hart) layout.limit
       (current_view board.monitor.table (board.monitor.worlds hart))
+  pub floats : (hart : ℕ) → hart < layout.harts
+      → board.floats hart ≡ floats_of board (runner_on board.monitor hart)
   pub measured : AreMeasured board
   pub each : EachKeeps run

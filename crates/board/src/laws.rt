@@ -15,7 +15,9 @@ use trap_server::firmware_law;
 /// do. Each access was allowed exactly as that view allows it. Private pages were read by nobody but their enclave,
 /// and their bytes changed by its own stores alone; nobody reached the monitor's pages. The private pages of an
 /// enclave that was destroyed were zero after that trap, and no other byte changed in any. An enclave that was
-/// created has the digest of its private pages as they were in memory, and as they are until it is entered.
+/// created has the digest of its private pages as they were in memory, and as they are until it is entered. Each host and
+/// each enclave finds in registers of floating point what it left there, on whichever hart it goes on, and an enclave
+/// that was created finds zeros.
 pub fn board_law()
     ensures { (layout : PlatformLayout) (opened : List ℕ) (events : List BoardEvent)
         (board : Board) (run : BoardRun layout opened events board)

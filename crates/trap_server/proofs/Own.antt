@@ -4,7 +4,7 @@ use Rattle.std.proofs.lemmas.Bool.{eq-eqb, eqb-true}
 use Rattle.sbi_decode.specs.declared.world.World.{World}
 use Rattle.sbi_decode.specs.declared.world.World.TheVariants.{Host, Enclave as InEnclave}
 use Rattle.trap_server.specs.declared.words.ControlWords.{ControlWords}
-use Rattle.trap_server.specs.Tables.{enclave_words, hosts_interrupts, monitors_interrupts, width_64}
+use Rattle.trap_server.specs.Tables.{enclave_words, hosts_interrupts, monitors_interrupts, with_floats}
 use Rattle.trap_server.specs.Given.{keeping}
 use Rattle.trap_server.specs.Laws.{GivesEachItsOwn}
 
@@ -24,7 +24,7 @@ there (InEnclave id) hosts hart other came differs = refl
 
 with_mie : ℕ → ControlWords
 with_mie n = record {
-  status = width_64;
+  status = with_floats;
   satp = 0;
   mie = bit_or monitors_interrupts n;
   scounteren = 0;

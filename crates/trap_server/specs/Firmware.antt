@@ -15,7 +15,7 @@ use Rattle.sbi_decode.specs.Calls.{call_of}
 use Rattle.sbi_decode.specs.Registers.{RegisterFile, with_x}
 use Rattle.sbi_decode.specs.Runners.{EnclaveOf}
 use Rattle.measurement.specs.declared.request.Create.{Create}
-use Rattle.platforms.specs.Platform.{IsLayout, PlatformLayout}
+use Rattle.platforms.specs.Platform.{PlatformLayout}
 use Rattle.enclave_table.specs.Refusals.{refusal_number}
 use Rattle.enclave_table.specs.Tables.{IsTable}
 use Rattle.enclave_table.specs.Views.{current_view}
@@ -32,7 +32,6 @@ use Rattle.trap_server.specs.declared.trap.TrapEvent.TheVariants as trap_events
 use Rattle.trap_server.specs.declared.trap.Trap.{Trap}
 use Rattle.trap_server.specs.declared.words.ControlWords.{ControlWords}
 use Rattle.trap_server.specs.Answered.{AreAwake, IsAnswer}
-use Rattle.trap_server.specs.Boot.{IsFirstAnswer}
 use Rattle.trap_server.specs.Given.{GivesWords}
 use Rattle.trap_server.specs.PageDigest.{ArePages, question_bytes}
 use Rattle.trap_server.specs.Runs.{ServesTraps, first_words, next_trap, no_trap}

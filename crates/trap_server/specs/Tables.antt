@@ -7,6 +7,11 @@ use Rattle.trap_server.specs.declared.words.ControlWords.{ControlWords}
 abbrev pub width_64 : ℕ
 width_64 = 0x200000000
 
+-- the same, and registers of floating point are open: FS, bits 14:13, is 1, which says Initial. The
+-- hart makes it 3, Dirty, once one of them changes. In a hart that has none of them it reads zero
+abbrev pub with_floats : ℕ
+with_floats = 0x200002000
+
 -- machine mode's software and timer interrupts, which are the monitor's (bits 3 and 7)
 abbrev pub monitors_interrupts : ℕ
 monitors_interrupts = 0x88
@@ -42,12 +47,12 @@ first_host_words = record {
   mode = supervisor_mode;
 }
 
--- an enclave runs in user mode of 64 bits with no table of pages, and every trap goes to machine
--- mode. The monitor's interrupts are enabled, and those of the host's that its host lets in; so
--- they stop it
+-- an enclave runs in user mode of 64 bits with no table of pages. It computes in floating point,
+-- and every trap goes to machine mode. The monitor's interrupts are enabled, and those of the
+-- host's that its host lets in; so they stop it
 abbrev pub enclave_words : ControlWords → ControlWords
 enclave_words host = record {
-  status = width_64;
+  status = with_floats;
   satp = 0;
   mie = bit_or monitors_interrupts (bit_and host.mie hosts_interrupts);
   scounteren = 0;

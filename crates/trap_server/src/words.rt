@@ -6,6 +6,9 @@ ghost use Rattle.trap_server.specs.Tables.{enclave_words, first_host_words};
 /// Of `mstatus`: registers of 64 bits in user mode (UXL), and all other fields zero.
 const WIDTH_64: u64 = 0x2_0000_0000;
 
+/// Of `mstatus`: the same, and registers of floating point that are open (FS is Initial, 1).
+const WITH_FLOATS: u64 = 0x2_0000_2000;
+
 /// The interrupts that are the monitor's: machine mode's software and timer interrupts.
 const MONITORS_INTERRUPTS: u64 = 0x88;
 
@@ -66,7 +69,7 @@ impl ControlWords {
         ensures { result ≡ enclave_words self.now }
     {
         ControlWords {
-            status: WIDTH_64,
+            status: WITH_FLOATS,
             satp: 0,
             mie: MONITORS_INTERRUPTS | (self.mie & HOSTS_INTERRUPTS),
             scounteren: 0,

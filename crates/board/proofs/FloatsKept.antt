@@ -1,0 +1,77 @@
+-- What each host and each enclave has in registers of floating point, over a trap.
+use Rattle.std.proofs.Common.{◌≡◌, ◌≢◌, ◌∙◌, ℕ, ◌%◌, ◌^◌, ◌<◌, if◌then◌else◌, List, ap, sym, subst, arith}
+use Rattle.std.proofs.lemmas.Bool.{ne_eqb}
+use Rattle.std.proofs.lemmas.Option.{same_Some}
+use Rattle.sbi_decode.specs.Runners.{Runner, HostOf, EnclaveOf, runner_of}
+use Rattle.sbi_decode.specs.declared.world.World.{World}
+use Rattle.sbi_decode.specs.declared.world.World.TheVariants.{Host, Enclave as InEnclave}
+use Rattle.enclave_table.specs.Enclaves.{EnclaveTable, Live}
+use Rattle.enclave_table.specs.Tables.{IsCurrent, IsTable}
+use Rattle.enclave_table.specs.declared.enclave.Enclave.{Enclave}
+use Rattle.enclave_table.specs.declared.enclave.Stage.TheVariants.{Fresh, Running}
+use Rattle.enclave_table.proofs.Places.{live_above, live_inside}
+use Rattle.monitor_core.specs.Answers.{world_number}
+use Rattle.monitor_core.specs.States.{MonitorState, running_registers}
+use Rattle.monitor_core.specs.Switches.{runner_on}
+use Rattle.monitor_core.specs.Worlds.{ArePlaced}
+use Rattle.trap_server.specs.Answered.{head_of}
+use Rattle.trap_server.specs.Firmware.{KeepsTrap}
+use Rattle.trap_server.specs.Words.{word_at}
+use Rattle.trap_server.specs.declared.trap.Trap.{Trap}
+use Rattle.board.specs.Board.{Board, ChangesFloats, DoesTrap, runner_by}
+use Rattle.board.specs.Headline.{KeepsFloats, floats_of}
+use Rattle.board.proofs.Floats.{made_zero, trap_stays}
+use Rattle.board.proofs.Named.{says}
+use Rattle.board.proofs.New.{new_said, said_new}
+
+-- the number of a world names who runs there
+named_by : (table : EnclaveTable) (world : World) (hart word : ℕ) → IsTable table → IsCurrent table world → word ≡ world_number world % 2 ^ 64
+    → runner_by hart word ≡ runner_of hart world
+named_by table Host hart word right current is = ap (runner_by hart) is
+named_by table (InEnclave id) hart word right current is =
+    let above = live_above table.enclaves id current.0 current.1 in
+    let inside = live_inside table.enclaves id current.0 current.1 in
+    let same : id % 2 ^ 64 ≡ id = omega (arith, inside, right.places) in
+    ap (runner_by hart) (is ∙ same) ∙ ap (λ b. if b then HostOf hart else EnclaveOf id) (ne_eqb id 0 (λ none. omega (arith, above, none)))
+
+-- one that is Fresh runs on no hart
+fresh_waits : (s : MonitorState) (id : ℕ) (e : Enclave) (hart : ℕ) → ArePlaced s → hart < s.table.layout.harts → Live s.table id e → e.state ≡ Fresh
+    → EnclaveOf id ≢ runner_on s hart
+fresh_waits s id e hart placed known live fresh is = by_world (s.worlds hart) (placed.current hart known) is
+  where
+    number : Runner → ℕ
+    number (HostOf h) = h
+    number (EnclaveOf n) = n
+
+    by_world : (world : World) → IsCurrent s.table world → EnclaveOf id ≡ runner_of hart world → ⊥
+    by_world Host current same = cc
+    by_world (InEnclave k) current same =
+        let one : current.0 ≡ e = same_Some current.0 e (sym current.1 ∙ subst (λ n. Live s.table n e) (ap number same) live) in
+        let z : Running ≡ Fresh = sym current.2 ∙ ap (λ (f : Enclave). f.state) one ∙ fresh in cc
+
+pub floats_kept :
+    (old : Board) (trap : Trap) (frame read question answered : List ℕ) (new : Board) → new.monitor.table.layout.harts ≡ old.monitor.table.layout.harts
+    → IsTable old.monitor.table → IsTable new.monitor.table → ArePlaced old.monitor → ArePlaced new.monitor
+    → DoesTrap old trap frame read question answered new → KeepsTrap old.monitor old.hosts trap read question answered new.monitor new.hosts
+    → KeepsFloats old new
+floats_kept old trap frame read question answered new same right sound placed places x k =
+    let hart = trap.hart in
+    let a = k.says in
+    let word : word_at answered 2 ≡ world_number (new.monitor.worlds hart) % 2 ^ 64 = ap (λ b. word_at b 2) a.2
+    ∙ (says (head_of new.monitor hart k.answer k.cleared k.woken) (running_registers new.monitor hart) a.0 k.given).world_is in
+    let known : hart < old.monitor.table.layout.harts = x.is_trap.known in
+    let next : runner_by hart (word_at answered 2) ≡ runner_on new.monitor hart = named_by new.monitor.table (new.monitor.worlds hart) hart
+    (word_at answered 2) sound (places.current hart (subst (λ n. hart < n) (sym same) known)) word in
+    let changes : ChangesFloats old hart (runner_on old.monitor hart) (runner_on new.monitor hart) question answered new =
+    subst (λ who. ChangesFloats old hart (runner_on old.monitor hart) who question answered new) next x.floats in
+    let given = x.served.given in
+    let step = x.served.step in
+    record {
+      begins = λ who is.
+          let said = new_said trap.event old.monitor trap given read question answered new.monitor right step is.0 is.1 is.3 is.4 in
+          ap (floats_of new) is.2
+          ∙ made_zero old new hart question answered known same placed places k.stays changes (EnclaveOf is.0) said.0
+          (λ h low. fresh_waits new.monitor is.0 is.1 h places low is.4 said.1);
+      stays = λ who none. trap_stays old new hart question answered known same placed places k.stays changes who
+          (λ said. none (said_new trap.event old.monitor trap given read question answered new.monitor right step who said));
+    }

@@ -1,0 +1,189 @@
+-- An answer says which enclave is new, and says it of no other.
+use Rattle.std.proofs.Common.{◌≡◌, ◌≢◌, ◌⊎◌, ◌∙◌, inl, inr, ℕ, pos, ◌-◌, ◌%◌, ◌^◌, ◌<◌, ◌≤◌, List, [], length, Option, Some, None, refl, ap, sym, subst, arith}
+use Rattle.std.proofs.lemmas.Option.{same_Some}
+use Rattle.pmp_encoding.specs.declared.pages.PageRange.{PageRange}
+use Rattle.measurement.specs.Requests.{parts_of}
+use Rattle.measurement.specs.declared.request.Create.{Create}
+use Rattle.sbi_decode.specs.Calls.{call_of}
+use Rattle.sbi_decode.specs.Registers.{RegisterFile}
+use Rattle.sbi_decode.specs.Runners.{Runner, EnclaveOf}
+use Rattle.sbi_decode.specs.declared.calls.Call.{Call}
+use Rattle.sbi_decode.specs.declared.calls.Call.TheVariants as calls
+use Rattle.enclave_table.specs.Create.{fresh}
+use Rattle.enclave_table.specs.Enclaves.{EnclaveTable, Live, enclave_at, with_enclave}
+use Rattle.enclave_table.specs.Refusals.{refusal_number}
+use Rattle.enclave_table.specs.Tables.{IsTable}
+use Rattle.enclave_table.specs.declared.enclave.Enclave.{Enclave}
+use Rattle.enclave_table.specs.declared.enclave.Stage.TheVariants.{Fresh}
+use Rattle.enclave_table.specs.declared.refusal.Refusal.{Refusal}
+use Rattle.enclave_table.specs.declared.refusal.Refusal.TheVariants as refusals
+use Rattle.enclave_table.proofs.Places.{set_same}
+use Rattle.monitor_core.specs.Answers.{below_zero, world_number}
+use Rattle.monitor_core.specs.Changes.{past_call, with_running}
+use Rattle.monitor_core.specs.Measured.{Measures, asked_in}
+use Rattle.monitor_core.specs.States.{MonitorState, running_registers}
+use Rattle.monitor_core.specs.Steps.{DoesCall}
+use Rattle.monitor_core.specs.declared.answer.Answer.{Answer}
+use Rattle.trap_server.specs.Answered.{head_of, marks_of, status_word}
+use Rattle.trap_server.specs.PageDigest.{question_of}
+use Rattle.trap_server.specs.Service.{ServesAs, ServesCall}
+use Rattle.trap_server.specs.Words.{word_at}
+use Rattle.trap_server.specs.declared.trap.TrapEvent.{TrapEvent}
+use Rattle.trap_server.specs.declared.trap.TrapEvent.TheVariants as traps
+use Rattle.trap_server.specs.declared.trap.Trap.{Trap}
+use Rattle.trap_server.specs.declared.words.ControlWords.{ControlWords}
+use Rattle.board.specs.Board.{SaysMade}
+use Rattle.board.proofs.Fresh.{placed}
+use Rattle.board.proofs.Made.{Absent, made_call, made_irq, same_table}
+use Rattle.board.proofs.Named.{Says, says}
+
+-- a creation that passes its checks is done, and answered with the number of the enclave
+pub record IsDone (s : MonitorState) (answer : Answer) (new : MonitorState) : Type 0 where
+  pub id : ℕ
+  pub made : Enclave
+  pub above : 1 ≤ id
+  pub below : id ≤ 64
+  pub free : Absent s.table id
+  pub told : answer ≡ record { status = pos 0; value = id }
+  pub table : new.table ≡ with_enclave s.table id (Some made)
+  pub fresh : made.state ≡ Fresh
+
+-- or it is refused
+pub record IsRefused (s : MonitorState) (answer : Answer) (new : MonitorState) : Type 0 where
+  pub refusal : Refusal
+  pub told : answer ≡ record { status = below_zero (refusal_number refusal); value = 0 }
+  pub table : new.table ≡ s.table
+
+ended :
+    (call : Option Call) (digests : Create → List ℕ) (s : MonitorState) (hart : ℕ) (answer : Answer) (zero : Option PageRange) (new : MonitorState)
+    (parts : Create) → Measures (asked_in call) s.table (s.worlds hart) parts → DoesCall call digests s hart answer zero new
+    → IsDone s answer new ⊎ IsRefused s answer new
+ended None digests s hart answer zero new parts m x = absurd m
+ended (Some (calls.Create base text_pages data_pages shared_base shared_count entry_offset)) digests s hart answer zero new parts m (inl x) =
+    let asked : Create = record {
+      base = base;
+      text_pages = text_pages;
+      data_pages = data_pages;
+      shared_base = shared_base;
+      shared_count = shared_count;
+      entry_offset = entry_offset;
+    } in
+    let free = x.2.next.free in
+    inl (record {
+      id = x.0;
+      made = fresh digests (parts_of asked);
+      above = free.0;
+      below = free.1;
+      free = free.2;
+      told = x.3.told;
+      table = ap (λ y. y.table) x.3.state ∙ x.2.added;
+      fresh = refl;
+    })
+ended (Some (calls.Create base text_pages data_pages shared_base shared_count entry_offset)) digests s hart answer zero new parts m (inr x) =
+    inr (record { refusal = x.0; told = x.2.told; table = ap (λ y. y.table) x.2.state })
+ended (Some (calls.Destroy k)) digests s hart answer zero new parts m x = absurd m
+ended (Some (calls.Run k)) digests s hart answer zero new parts m x = absurd m
+ended (Some calls.Stop) digests s hart answer zero new parts m x = absurd m
+ended (Some (calls.Resume k)) digests s hart answer zero new parts m x = absurd m
+ended (Some (calls.Exit value)) digests s hart answer zero new parts m x = absurd m
+ended (Some (calls.Measure k n)) digests s hart answer zero new parts m x = absurd m
+
+-- the word of a refusal is not zero
+refused_word : (refusal : Refusal) → status_word (below_zero (refusal_number refusal)) % 2 ^ 64 ≢ 0
+refused_word refusals.NotHost is = cc
+refused_word refusals.NotEnclave is = cc
+refused_word refusals.BadCount is = cc
+refused_word refusals.BadAddress is = cc
+refused_word refusals.BadEntry is = cc
+refused_word refusals.NotRam is = cc
+refused_word refusals.Overlap is = cc
+refused_word refusals.TableFull is = cc
+refused_word refusals.NoEntries is = cc
+refused_word refusals.NoMemory is = cc
+refused_word refusals.BadId is = cc
+refused_word refusals.BadState is = cc
+refused_word refusals.BadWord is = cc
+
+-- a number of an enclave is a word
+as_word : (id : ℕ) → id ≤ 64 → id % 2 ^ 64 ≡ id
+as_word id low = omega (arith, low)
+
+-- a question for pages is not empty
+some_question : (parts : Create) → question_of parts ≢ []
+some_question parts is = cc
+
+module _ (s : MonitorState) (trap : Trap) (given : ControlWords) (read question answered : List ℕ) (new : MonitorState) (right : IsTable s.table)
+    (x : ServesCall s trap given read question answered new) where
+  abbrev file : RegisterFile
+  file = past_call trap.registers
+
+  abbrev t : MonitorState
+  t = with_running s trap.hart file
+
+  -- the words of the answer
+  words : Says answered (world_number (new.worlds trap.hart)) (status_word x.answer.status) x.answer.value (length x.goes_on.0)
+  words = subst (λ bytes. Says bytes (world_number (new.worlds trap.hart)) (status_word x.answer.status) x.answer.value (length x.goes_on.0)) (sym x.goes_on.2)
+      (says (head_of new trap.hart x.answer x.cleared (marks_of x.mid)) (running_registers new trap.hart) x.goes_on.0 given)
+
+  by_parts : (parts : Create) → Measures (asked_in (call_of file)) s.table (s.worlds trap.hart) parts → IsDone t x.answer x.mid ⊎ IsRefused t x.answer x.mid
+  by_parts parts m = ended (call_of file) (λ all. x.digest) t trap.hart x.answer x.cleared x.mid parts m x.step
+
+  value_is : (d : IsDone t x.answer x.mid) → word_at answered 4 ≡ d.id
+  value_is d = words.value_is ∙ ap (λ (a : Answer). a.value % 2 ^ 64) d.told ∙ as_word d.id d.below
+
+  inside : (d : IsDone t x.answer x.mid) → d.id - 1 < length s.table.enclaves
+  inside d =
+      let above = d.above in
+      let below = d.below in
+      omega (arith, above, below, right.places)
+
+  call_said : (who : Runner) → SaysMade question answered who
+      → (id : ℕ) × (e : Enclave) × (who ≡ EnclaveOf id) × Absent s.table id × Live new.table id e
+  call_said who m = elim x.asks [
+    | inl none ↦ absurd (m.0 none.0)
+    | inr some ↦ elim (by_parts some.0 some.1) [
+      | inl d ↦
+          let live : Live x.mid.table d.id d.made = ap (λ (table : EnclaveTable). enclave_at table.enclaves d.id) d.table
+          ∙ set_same s.table.enclaves d.id (Some d.made) d.above (inside d) in
+          (d.id, d.made, m.2 ∙ ap EnclaveOf (value_is d), d.free, subst (λ (y : MonitorState). Live y.table d.id d.made) (sym x.woken) live)
+      | inr r ↦ absurd (refused_word r.refusal
+          (sym (words.status_is ∙ ap (λ (a : Answer). status_word a.status % 2 ^ 64) r.told) ∙ m.1))
+    ]
+  ]
+
+  call_new : (id : ℕ) (e : Enclave) → Absent s.table id → Live new.table id e → SaysMade question answered (EnclaveOf id) × (e.state ≡ Fresh)
+  call_new id e none live =
+      let now : Live x.mid.table id e = subst (λ (y : MonitorState). Live y.table id e) x.woken live in
+      let made = made_call (call_of file) (λ all. x.digest) t trap.hart x.answer x.cleared x.mid id e right none now x.step in
+      let asked : question ≢ [] = λ is. elim x.asks [
+        | inl nothing ↦ nothing.2 e.parts made.0
+        | inr some ↦ some_question some.0 (sym some.2 ∙ is)
+      ] in
+      elim (by_parts e.parts made.0) [
+        | inl d ↦ elim (placed s.table x.mid.table d.id id (Some d.made) e d.table d.above (inside d) now) [
+          | inl here ↦ (
+            (asked, words.status_is ∙ ap (λ (a : Answer). status_word a.status % 2 ^ 64) d.told, ap EnclaveOf (here.0 ∙ sym (value_is d))),
+            ap (λ (one : Enclave). one.state) (sym (same_Some d.made e here.1)) ∙ d.fresh,
+          )
+          | inr was ↦ absurd (let z : None ≡ Some e = sym none ∙ was in cc)
+        ]
+        | inr r ↦ absurd (same_table s.table x.mid.table id e r.table none now)
+      ]
+
+-- an answer that says it of one is the answer to its creation
+pub said_new :
+    (event : TrapEvent) (s : MonitorState) (trap : Trap) (given : ControlWords) (read question answered : List ℕ) (new : MonitorState) → IsTable s.table
+    → ServesAs event s trap given read question answered new → (who : Runner) → SaysMade question answered who
+    → (id : ℕ) × (e : Enclave) × (who ≡ EnclaveOf id) × Absent s.table id × Live new.table id e
+said_new traps.Call s trap given read question answered new right x who m = call_said s trap given read question answered new right x who m
+said_new traps.Stop s trap given read question answered new right x who m = absurd (m.0 x.nothing_asked)
+
+-- and the answer to its creation says it of one that is new, which is Fresh
+pub new_said :
+    (event : TrapEvent) (s : MonitorState) (trap : Trap) (given : ControlWords) (read question answered : List ℕ) (new : MonitorState) → IsTable s.table
+    → ServesAs event s trap given read question answered new → (id : ℕ) (e : Enclave) → Absent s.table id → Live new.table id e
+    → SaysMade question answered (EnclaveOf id) × (e.state ≡ Fresh)
+new_said traps.Call s trap given read question answered new right x id e none live = call_new s trap given read question answered new right x id e none live
+new_said traps.Stop s trap given read question answered new right x id e none live =
+    let now : Live x.mid.table id e = subst (λ (y : MonitorState). Live y.table id e) x.woken live in
+    absurd (made_irq (s.worlds trap.hart) (with_running s trap.hart trap.registers) trap.hart x.mid id e none now x.step)
