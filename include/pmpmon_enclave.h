@@ -17,6 +17,7 @@
  * Text and data are the enclave's alone and are in its digest. The shared pages are the host's too: whatever is in them may be
  * wrong, and may change between two reads. Copy before you look. It computes in floating point where
  * its hart does: its registers are its own, and zero at its first entry. Those of vectors are closed: -march=rv64gc -mabi=lp64d.
+ * It reads the time by rdtime where its host's programs do.
  */
 #ifndef PMPMON_ENCLAVE_H
 #define PMPMON_ENCLAVE_H

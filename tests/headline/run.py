@@ -39,7 +39,7 @@ THEOREMS = [("hart_sim/src/laws.rt", "headline_law"), ("trap_server/src/laws.rt"
 # The functions that look at a machine: what they answer is all that is to be known of `state_of`, `kept_of` and `bank_on`.
 OBSERVERS = [(MACHINE, name) for name in ("harts", "world", "registers", "registers_of", "marked", "byte", "is_written", "table", "bank")]
 # The most names and lines of each part, and of all that `boot`, `step` and `run` rest on. They may shrink; where one grows, look for what it says twice.
-MOST = {1: (82, 373), 2: (43, 256), 3: (43, 218), 4: (31, 189), 5: (67, 376), 6: (82, 452), 7: (24, 153), 8: (8, 68), "together": (240, 1254)}
+MOST = {1: (82, 373), 2: (43, 256), 3: (43, 218), 4: (31, 189), 5: (67, 376), 6: (84, 458), 7: (35, 219), 8: (8, 68), "together": (240, 1254)}
 # What those functions show, and no definition says: the state of a machine and of a monitor, the tables that they keep, a machine's banks.
 SHOWN = {"hart_sim": {"state_of", "kept_of", "bank_on"}, "monitor_core": {"state_by", "kept_by"}}
 # A part speaks of these, and says what follows from them: what they are is in a later part.
@@ -62,7 +62,8 @@ There are three theorems, over one monitor (`monitor_core`), which the model and
    and control words go on. The code owes it in the clauses `all` and `early` of `serve_traps`: the traps of `Ran` are such a list.
 3. **A board** (`board_law`, part 7). It is about memory and harts around that loop, and so about what worlds do between traps. What the
    code around the loop owes is a premise there, in one definition (`DoesTrap`): a hart judges by the registers in the last answer that
-   it loaded, the pages that an answer names are made zero, those that are read are memory's, and no world runs meanwhile.
+   it loaded, the pages that an answer names are made zero, those that are read are memory's, registers of floating point change with the
+   world of a hart, and no world runs meanwhile.
 
 The first and the third are of the same thing: each run of the model is a run of a board (`model_law`, part 8). Each access of the one
 is an access of the other, with what was said of it. Each call or interrupt is a trap with the same registers, whose answer says what

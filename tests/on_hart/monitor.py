@@ -233,6 +233,9 @@ def worlds(folder, told):
     hostile(folder, told)
 
 
+# What an enclave reads of the counters, where its host lets its own programs read them.
+CLOCK = "time, let in: it is now 1\ntime, let in with all: it is now 1\ntime, kept out: cause 2\ntime, kept out alone: cause 2\n"
+CLOCK += "cycles, let in: cause 2\ninstructions, let in: cause 2\n"
 # What a host finds that computes in floating point beside two enclaves.
 FLOATS = "enclaves were on both harts 1\nstopped more than 200 times 1\nenclaves came to others 0\nhosts came to others 0\nwrong 0\n"
 # A build for a try leaves out a set of the host, one of an enclave, or the zeros of an enclave that is made: 24 lives and two hosts.
@@ -301,6 +304,8 @@ def devices(folder, told):
         right = all(found.get(it) == cause for it, cause in want.items())
         told(f"a host on {name} platform reaches {', '.join(it for it, cause in want.items() if not cause)} alone", right, "" if right else said)
         told(f"a host on {name} platform reads no counter but the time", said.endswith(COUNTERS), "" if said.endswith(COUNTERS) else said)
+    said = booted(folder / "with/pmpmon-virt.elf", host(folder / "clock.elf", "harts.S", "clock_enclave.S", "clock.c"), 2)
+    told("an enclave reads the time where its host's programs do, and no other counter", said == CLOCK, said if said != CLOCK else "")
     if not shutil.which("dtc"):
         return
     tree = host_tree(folder / "with/pmpmon-virt.elf", folder / "reset-2.elf", 3)

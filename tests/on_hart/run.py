@@ -17,7 +17,7 @@ The monitor runs on it as firmware (monitor.py): the examples and random lives o
 lie, each line as PROGRAM has it, and every register of a world checked across each trap; a host in C; two harts that race, with
 the stop of the others and without it; two harts with other control registers each; one image on boards of
 other harts and memory; each function and error of the Supervisor Binary Interface; a host and enclaves that compute in floating
-point, and builds that leave out a part of it; a hostile host, one thing that is left behind, and then everything in fifty runs or HOSTILE_RUNS, and builds that
+point, and builds that leave out a part of it; the time in an enclave; a hostile host, one thing that is left behind, and then everything in fifty runs or HOSTILE_RUNS, and builds that
 leave out a cure; what is left of an enclave after each end of the board; devices, counters and the tree that a host gets; boards that
 do not fit; pages that other harts read or write while they become an enclave's, as a guest and through Sv39 too; four harts in a storm
 (STORM_SECONDS, or 2); every order of two harts at the monitor's lock; and each allocation refused in turn. Device trees get the monitor's range on Linux, under a sanitizer (trees.py;

@@ -1,7 +1,7 @@
 /*
  * What a program above /dev/pmpmon can do, and cannot. It ends with 0 where all was right.
  *
- *   enclaves faults          what an enclave may not: memory of others, the time; and that it computes in floating point
+ *   enclaves faults          what an enclave may not: memory of others; and that it computes in floating point and reads the time
  *   enclaves wrong           calls with wrong words, in a wrong order, and by a user that is not root
  *   enclaves times           time limits and signals
  *   enclaves user            a user that is not root makes and runs one, where the driver's parameter `mode` lets it
@@ -147,6 +147,20 @@ static void floats(const struct image *it)
     printf("two enclaves add in floating point: stopped %lu times\n", stops);
 }
 
+/* Linux lets its programs read the time, and so an enclave reads the same. */
+static void reads_time(const struct image *it)
+{
+    struct loaded made;
+    struct pmpmon_run_args r;
+    uint64_t before, after;
+    want(tried(it, &made, TIME, 0, 0), "an enclave that reads the time");
+    __asm__ volatile("rdtime %0" : "=r"(before));
+    want(!run_for(made.file, &r, 0) && r.error == 0, "it is not stopped");
+    __asm__ volatile("rdtime %0" : "=r"(after));
+    want(before <= r.value && r.value <= after, "it is the time");
+    end(&made);
+}
+
 static int faults(void)
 {
     struct image it = tried_image();
@@ -160,12 +174,12 @@ static int faults(void)
     fault("an enclave reads the serial port", READ, 0x10000000, 5);
     fault("an enclave reads the CLINT", READ, 0x200bff8, 5);
     fault("an enclave reads another", READ, other.made.base, 5);
-    fault("an enclave reads the time", TIME, 0, 2);
     /* What it may. */
     ((volatile uint64_t *)other.buffer)[1] = other.made.base;
     want(!run_for(other.file, &r, 0) && r.error == 0 && r.value, "an enclave reads its own text");
     end(&other);
     floats(&it);
+    reads_time(&it);
     return wrong;
 }
 

@@ -9,7 +9,7 @@ use Rattle.monitor_core.specs.Worlds.{ArePlaced}
 use Rattle.monitor_core.proofs.Cases.{both}
 use Rattle.monitor_core.proofs.Put.{same_not, same_self}
 use Rattle.board.specs.Board.{Board, ChangesFloats, DoesCompute, Floats, SaysMade, no_floats}
-use Rattle.board.specs.Headline.{KeepsOthers, floats_below, floats_of}
+use Rattle.board.specs.Headline.{KeepsOtherFloats, floats_below, floats_of}
 use Rattle.board.proofs.Runners.{alone, same_is}
 
 module _ (worlds : ℕ → World) (floats : ℕ → Floats) (kept : Runner → Floats) (who : Runner) where
@@ -59,7 +59,7 @@ runs_there board hart placed known = there board.monitor.worlds board.floats boa
 
 -- a computation
 pub computed_kept : (old : Board) (hart : ℕ) (floats : Floats) (new : Board) → ArePlaced old.monitor → DoesCompute old hart floats new
-    → KeepsOthers old hart floats new
+    → KeepsOtherFloats old hart floats new
 computed_kept old hart floats new placed x =
     let after : ℕ → Floats = λ h. if h == hart then floats else old.floats h in
     let worlds : ℕ → World = old.monitor.worlds in

@@ -76,7 +76,7 @@ pub record KeepsAccess (old : Board) (hart : ℕ) (a : Access) (said : Result (U
 
 -- what holds of each computation: it changes registers of floating point of the one who runs there,
 -- and of nobody else
-pub record KeepsOthers (old : Board) (hart : ℕ) (floats : Floats) (new : Board) : Type 0 where
+pub record KeepsOtherFloats (old : Board) (hart : ℕ) (floats : Floats) (new : Board) : Type 0 where
   pub own : floats_of new (runner_on old.monitor hart) ≡ floats
   pub others : (who : Runner) → who ≢ runner_on old.monitor hart
       → floats_of new who ≡ floats_of old who
@@ -112,7 +112,7 @@ pub record KeepsMemory (old new : Board) : Type 0 where
 -- what holds of an event
 abbrev pub Keeps : BoardEvent → Board → Board → Type 0
 Keeps (access hart a value said) old new = KeepsAccess old hart a said new
-Keeps (computed hart floats) old new = KeepsOthers old hart floats new
+Keeps (computed hart floats) old new = KeepsOtherFloats old hart floats new
 Keeps (trapped trap frame read question answered) old new = KeepsMemory old new
     × KeepsFloats old new
 

@@ -191,15 +191,15 @@ next_refused result count now hosts before mid after held middle holds beyond p 
 
 -- a trap that was not read
 pub read_stops :
-    (result : ServeFault) (fault : FrameFault) (count : ℕ) (now : MonitorState) (hosts : ℕ → ControlWords) (harts : ℕ)
+    (result : ServeFault) (fault : FrameFault) (count : ℕ) (now : MonitorState) (hosts : ℕ → ControlWords) (trap : Trap) (harts : ℕ)
     (before mid after held middle holds : Option (List ℕ)) → Progress count now hosts before mid held middle → harts ≡ now.table.layout.harts
-    → ReadsTrap (Err fault) harts mid after → EndsAs result fault middle holds → EndsEarly result before after held holds
-read_stops result frames.NotUnderstood count now hosts harts before mid after held middle holds p n reads ends =
+    → ReadsTrap (Err fault) trap harts mid after → EndsAs result fault middle holds → EndsEarly result before after held holds
+read_stops result frames.NotUnderstood count now hosts trap harts before mid after held middle holds p n reads ends =
     next_refused result count now hosts before mid after held middle holds reads.0 p reads.2 (inl (subst (λ k. IsNoTrap reads.0 k after) n reads.1)) ends
-read_stops result frames.Read count now hosts harts before mid after held middle holds p n reads ends =
+read_stops result frames.Read count now hosts trap harts before mid after held middle holds p n reads ends =
     ended result count now hosts before mid after held middle holds reads.0 [] p reads.2 ends.1
     (inl (subst (λ f. StopsBetween f count now reads.0 [] after) (sym ends.0) (reads.1, refl)))
-read_stops result frames.Write count now hosts harts before mid after held middle holds p n reads ends = absurd reads
+read_stops result frames.Write count now hosts trap harts before mid after held middle holds p n reads ends = absurd reads
 
 -- a trap that was read and not served
 pub trap_stops :

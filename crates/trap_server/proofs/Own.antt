@@ -4,7 +4,7 @@ use Rattle.std.proofs.lemmas.Bool.{eq-eqb, eqb-true}
 use Rattle.sbi_decode.specs.declared.world.World.{World}
 use Rattle.sbi_decode.specs.declared.world.World.TheVariants.{Host, Enclave as InEnclave}
 use Rattle.trap_server.specs.declared.words.ControlWords.{ControlWords}
-use Rattle.trap_server.specs.Tables.{enclave_words, hosts_interrupts, monitors_interrupts, with_floats}
+use Rattle.trap_server.specs.Tables.{enclave_words, hosts_interrupts, monitors_interrupts, time, with_floats}
 use Rattle.trap_server.specs.Given.{keeping}
 use Rattle.trap_server.specs.Laws.{GivesEachItsOwn}
 
@@ -22,12 +22,12 @@ there : (before : World) (hosts : ℕ → ControlWords) (hart other : ℕ) (came
 there Host hosts hart other came differs = there_by (other == hart) hosts hart other came refl differs
 there (InEnclave id) hosts hart other came differs = refl
 
-with_mie : ℕ → ControlWords
-with_mie n = record {
+with_these : ℕ → ℕ → ControlWords
+with_these mie scounteren = record {
   status = with_floats;
   satp = 0;
-  mie = bit_or monitors_interrupts n;
-  scounteren = 0;
+  mie = bit_or monitors_interrupts mie;
+  scounteren = scounteren;
   senvcfg = 0;
   hstatus = 0;
   medeleg = 0;
@@ -36,9 +36,11 @@ with_mie n = record {
       = 0;
 }
 
-sees_nothing : (host other : ControlWords) → bit_and host.mie hosts_interrupts ≡ bit_and other.mie hosts_interrupts → enclave_words host ≡ enclave_words other
-unfolding with_mie
-sees_nothing host other same = ap with_mie same
+sees_nothing : (host other : ControlWords) → bit_and host.mie hosts_interrupts ≡ bit_and other.mie hosts_interrupts
+    → bit_and host.scounteren time ≡ bit_and other.scounteren time → enclave_words host ≡ enclave_words other
+unfolding with_these
+sees_nothing host other mie scounteren = ap (λ n. with_these n (bit_and host.scounteren time)) mie
+    ∙ ap (with_these (bit_and other.mie hosts_interrupts)) scounteren
 
 pub each_its_own : GivesEachItsOwn
 each_its_own = record {

@@ -159,11 +159,12 @@ first_writes frames.NotUnderstood before after a p reads = (refl, refl)
 first_writes frames.Read before after a p reads = (refl, refl)
 first_writes frames.Write before after a p reads = absurd reads
 
-pub trap_writes : (fault : FrameFault) (harts : ℕ) (before after : Option (List ℕ)) (a b p q : ℕ) → ReadsTrap (Err fault) harts before after → (b ≡ a) × (q ≡ p)
+pub trap_writes : (fault : FrameFault) (trap : Trap) (harts : ℕ) (before after : Option (List ℕ)) (a b p q : ℕ)
+    → ReadsTrap (Err fault) trap harts before after → (b ≡ a) × (q ≡ p)
     → FrameWrite fault a b p q
-trap_writes frames.NotUnderstood harts before after a b p q reads well = well
-trap_writes frames.Read harts before after a b p q reads well = well
-trap_writes frames.Write harts before after a b p q reads well = absurd reads
+trap_writes frames.NotUnderstood trap harts before after a b p q reads well = well
+trap_writes frames.Read trap harts before after a b p q reads well = well
+trap_writes frames.Write trap harts before after a b p q reads well = absurd reads
 
 -- a fault after reads that were well
 pub frame_after : (fault : FrameFault) (a b d : ℕ) → b ≡ a → FrameRead fault b d → FrameRead fault a d

@@ -1,13 +1,11 @@
 -- A frame that is of no trap.
-use Rattle.std.proofs.Common.{◌≡◌, ℕ, List, Option, Some, None, sym, subst}
-use Rattle.std.specs.Prelude.{IfNone}
+use Rattle.std.proofs.Common.{◌≡◌, ℕ, List, sym, subst}
 use Rattle.trap_server.specs.declared.trap.TrapEvent.{TrapEvent}
 use Rattle.trap_server.specs.declared.trap.Trap.{Trap}
 use Rattle.trap_server.specs.Words.{word_at}
 use Rattle.trap_server.specs.Traps.{IsTagOf, IsTrapFrame}
 
 -- its first word is the tag of nothing that happened
-pub no_event : (result : Option Trap) (bytes : List ℕ) (harts tag : ℕ) → tag ≡ word_at bytes 0 → ((event : TrapEvent) → IsTagOf event tag → ⊥)
-    → IfNone result ((trap : Trap) → IsTrapFrame bytes harts trap → ⊥)
-no_event (Some found) bytes harts tag is none = tt
-no_event None bytes harts tag is none = λ trap frame. none trap.event (subst (IsTagOf trap.event) (sym is) frame.tag)
+pub no_event : (bytes : List ℕ) (harts tag : ℕ) → tag ≡ word_at bytes 0 → ((event : TrapEvent) → IsTagOf event tag → ⊥) → (trap : Trap)
+    → IsTrapFrame bytes harts trap → ⊥
+no_event bytes harts tag is none trap frame = none trap.event (subst (IsTagOf trap.event) (sym is) frame.tag)

@@ -3,7 +3,7 @@ use Rattle.std.specs.Prelude.{◌≡◌, ◌≢◌, ℕ, bit_and}
 use Rattle.sbi_decode.specs.declared.world.World.{World}
 use Rattle.sbi_decode.specs.declared.world.World.TheVariants.{Host, Enclave as InEnclave}
 use Rattle.trap_server.specs.declared.words.ControlWords.{ControlWords}
-use Rattle.trap_server.specs.Tables.{enclave_words, hosts_interrupts}
+use Rattle.trap_server.specs.Tables.{enclave_words, hosts_interrupts, time}
 use Rattle.trap_server.specs.Given.{GivesWords}
 
 -- each world has its own words: a host those that it came with, an enclave the table's
@@ -26,9 +26,11 @@ pub record GivesEachItsOwn : Type 0 where
       → ControlWords) (hart id next : ℕ) (came given : ControlWords)
       → GivesWords hosts hart (InEnclave id) (InEnclave next) came kept given
       → given ≡ enclave_words (hosts hart)
-  -- the table's words are the same under any two hosts that let in the same of their interrupts
+  -- the table's words are the same under any two hosts that let in the same of their interrupts,
+  -- and both let user mode read the time or do not
   pub enclave_sees_nothing : (host other : ControlWords)
       → bit_and host.mie hosts_interrupts ≡ bit_and other.mie hosts_interrupts
+      → bit_and host.scounteren time ≡ bit_and other.scounteren time
       → enclave_words host ≡ enclave_words other
   -- a trap changes no words of the host of another hart, and where an enclave traps no host's
   pub others_stay : (hosts kept : ℕ

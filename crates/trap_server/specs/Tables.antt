@@ -20,6 +20,10 @@ monitors_interrupts = 0x88
 abbrev pub hosts_interrupts : ℕ
 hosts_interrupts = 0x222
 
+-- of the counters that user mode reads the time (TM, bit 1)
+abbrev pub time : ℕ
+time = 2
+
 -- the exceptions that the host's own handler has: misaligned, faulty and illegal instructions,
 -- loads and stores (bits 0 to 2 and 4 to 7), breakpoints (3), calls of user mode (8), page faults
 -- (12, 13 and 15), and those of a guest (10, and 20 to 23). Machine mode keeps calls of supervisor
@@ -49,13 +53,14 @@ first_host_words = record {
 
 -- an enclave runs in user mode of 64 bits with no table of pages. It computes in floating point,
 -- and every trap goes to machine mode. The monitor's interrupts are enabled, and those of the
--- host's that its host lets in; so they stop it
+-- host's that its host lets in; so they stop it. It reads the time where its host lets user mode
+-- read it
 abbrev pub enclave_words : ControlWords → ControlWords
 enclave_words host = record {
   status = with_floats;
   satp = 0;
   mie = bit_or monitors_interrupts (bit_and host.mie hosts_interrupts);
-  scounteren = 0;
+  scounteren = bit_and host.scounteren time;
   senvcfg = 0;
   hstatus = 0;
   medeleg = 0;

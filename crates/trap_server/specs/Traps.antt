@@ -1,6 +1,6 @@
 -- The frame of a trap.
-use Rattle.std.specs.Prelude.{◌≡◌, ◌⊎◌, ℕ, ◌+◌, ◌/◌, ◌%◌, ◌^◌, ◌<◌, ◌≤◌, ◌==◌, Bool, false, List}
-use Rattle.std.specs.Prelude.{[], length, Option, Some, None, Result, Ok, Err}
+use Rattle.std.specs.Prelude.{◌≡◌, ◌⊎◌, ℕ, ◌+◌, ◌/◌, ◌%◌, ◌^◌, ◌<◌, ◌≤◌, ◌==◌, Bool, true, false}
+use Rattle.std.specs.Prelude.{List, [], length, Option, Result, Ok, Err}
 use Rattle.std.specs.Io.KnownBytes.{Consumes, IsAtEnd}
 use Rattle.byte_streams.specs.Streams.{WriteFails, one_failure_more}
 use Rattle.sbi_decode.specs.Registers.{RegisterFile, x_of}
@@ -56,16 +56,16 @@ IsNoTrap bytes harts after =
     ((length bytes ≡ 352) × ((trap : Trap) → IsTrapFrame bytes harts trap → ⊥))
     ⊎ ((0 < length bytes) × (length bytes < 352) × IsAtEnd after)
 
--- what the next read of a trap answers, by what it consumed
-abbrev pub ReadsTrap : Result (Option Trap) FrameFault → ℕ → Option (List ℕ) → Option (List ℕ)
+-- what the next read of a trap answers, by what it consumed: whether there was one, and which
+abbrev pub ReadsTrap : Result Bool FrameFault → Trap → ℕ → Option (List ℕ) → Option (List ℕ)
     → Type 0
-ReadsTrap (Ok (Some trap)) harts before after = (bytes : List ℕ) × (length bytes ≡ 352)
+ReadsTrap (Ok true) trap harts before after = (bytes : List ℕ) × (length bytes ≡ 352)
     × IsTrapFrame bytes harts trap × Consumes before after bytes
-ReadsTrap (Ok None) harts before after = Consumes before after [] × IsAtEnd after
-ReadsTrap (Err faults.NotUnderstood) harts before after = (bytes : List ℕ)
+ReadsTrap (Ok false) trap harts before after = Consumes before after [] × IsAtEnd after
+ReadsTrap (Err faults.NotUnderstood) trap harts before after = (bytes : List ℕ)
     × IsNoTrap bytes harts after × Consumes before after bytes
-ReadsTrap (Err faults.Read) harts before after = Breaks 352 before after
-ReadsTrap (Err faults.Write) harts before after = ⊥
+ReadsTrap (Err faults.Read) trap harts before after = Breaks 352 before after
+ReadsTrap (Err faults.Write) trap harts before after = ⊥
 
 -- a read failed where that is the answer, and otherwise none did
 abbrev pub CountsRead : {X : Type 0} → Result X FrameFault → ℕ → ℕ → Type 0

@@ -1,6 +1,6 @@
 //! The frame of a trap.
 
-ghost use Rattle.std.specs.Prelude.{◌≡◌, ℕ, ◌+◌, ◌≤◌, IfSome, IfNone, MatchOption, MatchResult};
+ghost use Rattle.std.specs.Prelude.{◌≡◌, ℕ, ◌+◌, ◌≤◌, true, false, IfSome, IfNone};
 ghost use Rattle.sbi_decode.specs.Registers.{RegisterFile, x_of};
 ghost use Rattle.trap_server.specs.declared.trap.Trap.{Trap as TrapOf};
 ghost use Rattle.trap_server.specs.Words.{word_at};
@@ -39,19 +39,31 @@ pub struct Trap {
     pub control: ControlWords,
 }
 
-/// The registers in a frame: the program counter, then x1 to x31.
-fn registers_in(bytes: &[u8; 352]) -> Registers
-    ensures { HasRegisters bytes.now result }
+impl Trap {
+    /// One to read the first into.
+    pub(crate) fn new() -> Trap {
+        Trap {
+            event: TrapEvent::Stop,
+            hart: 0,
+            registers: Registers::new(),
+            control: ControlWords::of_first_host(),
+        }
+    }
+}
+
+/// Puts the registers in a frame, the program counter and then x1 to x31, into those of a trap.
+#[inline(always)]
+fn registers_in(bytes: &[u8; 352], registers: &mut Registers)
+    ensures { HasRegisters bytes.now registers.new }
 {
-    let mut registers = Registers::new();
     registers.set_pc(word(bytes, 2));
     for n in 1..32 {
         registers.set(n, word(bytes, n + 2));
     }
-    registers
 }
 
 /// The control words in a frame, in their order.
+#[inline(always)]
 fn control_in(bytes: &[u8; 352]) -> ControlWords
     ensures { HasControl bytes.now result }
 {
@@ -87,34 +99,38 @@ fn event_in(tag: u64) -> Option<TrapEvent>
     }
 }
 
-/// The trap that a frame is of, on one of this many harts.
-fn trap_in(bytes: &[u8; 352], harts: u8) -> Option<Trap>
-    ensures trap { IfSome result (λ trap. IsTrapFrame bytes.now harts trap) }
-    ensures none { IfNone result ((trap : TrapOf) → IsTrapFrame bytes.now harts trap → ⊥) }
+/// Puts the trap that a frame is of, on one of this many harts, into one that is lent, and says whether it is one.
+#[inline(always)]
+fn trap_in(bytes: &[u8; 352], harts: u8, trap: &mut Trap) -> bool
+    ensures trap { result ≡ true → IsTrapFrame bytes.now harts trap.new }
+    ensures none { result ≡ false → (one : TrapOf) → IsTrapFrame bytes.now harts one → ⊥ }
 {
-    let event = event_in(word(bytes, 0))?;
+    let Some(event) = event_in(word(bytes, 0)) else {
+        return false;
+    };
     let hart = word(bytes, 1);
     if hart >= u64::from(harts) {
-        return None;
+        return false;
     }
     if word(bytes, 34) != TAG_CONTROL {
-        return None;
+        return false;
     }
     if is_machine(word(bytes, 43)) {
-        return None;
+        return false;
     }
-    Some(Trap {
-        event,
-        hart: hart as u8,
-        registers: registers_in(bytes),
-        control: control_in(bytes),
-    })
+    trap.event = event;
+    trap.hart = hart as u8;
+    registers_in(bytes, &mut trap.registers);
+    trap.control = control_in(bytes);
+    true
 }
 
-/// Reads the next trap, on one of this many harts; none at the end of the input.
+/// Reads the next trap, on one of this many harts, into one that is lent, so that nothing of it is copied. It says whether
+/// there was one: there is none at the end of the input.
 #[inline(never)]
-pub fn read_trap<R: Source>(source: &mut R, harts: u8) -> Result<Option<Trap>, FrameFault>
-    ensures trap { ReadsTrap result harts (R.remaining source.old) (R.remaining source.new) }
+pub fn read_trap<R: Source>(source: &mut R, harts: u8, trap: &mut Trap) -> Result<bool, FrameFault>
+    ensures trap { ReadsTrap result trap.new harts (R.remaining source.old)
+        (R.remaining source.new) }
     ensures failures { CountsRead result (R.failures source.old) (R.failures source.new) }
 {
     let mut frame = [0; TRAP_BYTES];
@@ -122,15 +138,15 @@ pub fn read_trap<R: Source>(source: &mut R, harts: u8) -> Result<Option<Trap>, F
         return Err(FrameFault::Read);
     };
     if n == 0 {
-        return Ok(None);
+        return Ok(false);
     }
     if n < TRAP_BYTES {
         return Err(FrameFault::NotUnderstood);
     }
-    match trap_in(&frame, harts) {
-        Some(trap) => Ok(Some(trap)),
-        None => Err(FrameFault::NotUnderstood),
+    if !trap_in(&frame, harts, trap) {
+        return Err(FrameFault::NotUnderstood);
     }
+    Ok(true)
 }
 
 ghost use Rattle.trap_server.specs.Traps.{IsTagOf, is_machine};

@@ -10,7 +10,7 @@ ghost use Rattle.trap_server.specs.Runs.{EndsEarly, Ran};
 
 use crate::fault::{ServeFault, end, refuse};
 use crate::service::{NOTHING, serve_trap, write_answer};
-use crate::{EndReason, HostWords, read_platform, read_trap};
+use crate::{EndReason, HostWords, Trap, read_platform, read_trap};
 use byte_streams::{Sink, Source};
 use monitor_core::Monitor;
 use platforms::{BootFault, Platform};
@@ -122,12 +122,15 @@ pub fn serve_traps<R: Source, W: Sink>(
         Ok(()) => {}
         Err(fault) => return Err(fault),
     }
+    let mut trap = Trap::new();
     for _count in 0..u64::MAX {
-        let trap = match read_trap(source, harts) {
-            Ok(Some(trap)) => trap,
-            Ok(None) => return Ok(()),
+        let is_there = match read_trap(source, harts, &mut trap) {
+            Ok(is_there) => is_there,
             Err(fault) => return Err(end(sink, fault)),
         };
+        if !is_there {
+            return Ok(());
+        }
         match serve_trap(&mut monitor, &mut hosts, &trap, source, sink) {
             Ok(()) => {}
             Err(fault) => return Err(fault),

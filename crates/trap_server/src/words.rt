@@ -15,6 +15,9 @@ const MONITORS_INTERRUPTS: u64 = 0x88;
 /// The interrupts that are the host's: supervisor mode's software, timer and external interrupts.
 const HOSTS_INTERRUPTS: u64 = 0x222;
 
+/// Of the counters that user mode reads the time (TM).
+const TIME: u64 = 2;
+
 /// The exceptions that go to the host's own handler: all but its own calls.
 const HOSTS_EXCEPTIONS: u64 = 0xf0_b5ff;
 
@@ -64,7 +67,7 @@ impl ControlWords {
     }
 
     /// With which an enclave runs on a hart whose host has these words: of them it has only which of the host's
-    /// interrupts are to reach machine mode.
+    /// interrupts are to reach machine mode, and whether user mode reads the time.
     pub fn of_enclave(&self) -> ControlWords
         ensures { result ≡ enclave_words self.now }
     {
@@ -72,7 +75,7 @@ impl ControlWords {
             status: WITH_FLOATS,
             satp: 0,
             mie: MONITORS_INTERRUPTS | (self.mie & HOSTS_INTERRUPTS),
-            scounteren: 0,
+            scounteren: self.scounteren & TIME,
             senvcfg: 0,
             hstatus: 0,
             medeleg: 0,

@@ -1,12 +1,20 @@
-use Rattle.std.proofs.Common.{arith}
+use Rattle.std.proofs.Common.{arith, inl}
 use Rattle.trap_server.proofs.Read.{whole}
 use Rattle.trap_server.proofs.trap.read_trap.Goals as goal
 
-pub returns-in-Some-clause-trap : goal.returns-in-Some-clause-trap
-returns-in-Some-clause-trap g c =
+pub returns-clause-trap : goal.returns-clause-trap
+returns-clause-trap g c =
     let size = c.in-Ok.ensures.bytes.0 in (
       c.read_whole.new.buffer,
       size,
-      c.in-Some.ensures.trap,
+      c.trap_in.ensures.trap c.if-not-trap_in.false,
+      whole c.in-Ok.n c.read_whole.new.buffer _ _ (omega (arith, size, c.if-n-lt-TRAP_BYTES.false)) c.in-Ok.ensures.bytes.1,
+    )
+
+pub returns-then-not-trap_in-clause-trap : goal.returns-then-not-trap_in-clause-trap
+returns-then-not-trap_in-clause-trap g c =
+    let size = c.in-Ok.ensures.bytes.0 in (
+      c.read_whole.new.buffer,
+      inl (size, c.trap_in.ensures.none c.if-not-trap_in.true),
       whole c.in-Ok.n c.read_whole.new.buffer _ _ (omega (arith, size, c.if-n-lt-TRAP_BYTES.false)) c.in-Ok.ensures.bytes.1,
     )

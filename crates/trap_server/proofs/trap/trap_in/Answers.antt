@@ -4,20 +4,20 @@ use Rattle.trap_server.specs.Traps.{IsTagOf, is_machine}
 use Rattle.trap_server.proofs.Traps.{no_event}
 use Rattle.trap_server.proofs.trap.trap_in.Goals as goal
 
-pub returns-in_err-event-clause-none : goal.returns-in_err-event-clause-none
-returns-in_err-event-clause-none c = no_event c.from_residual.result c.args.bytes.now c.args.harts c.word.result c.word.ensures c.in_err-event.ensures.none
+pub returns-in_default-clause-none : goal.returns-in_default-clause-none
+returns-in_default-clause-none c = λ is. no_event c.args.bytes.now c.args.harts c.word.result c.word.ensures c.in_default.ensures.none
 
 pub returns-then-is_machine-clause-none : goal.returns-then-is_machine-clause-none
-returns-then-is_machine-clause-none c = λ trap frame.
+returns-then-is_machine-clause-none c = λ is trap frame.
     true≢false (sym c.if-is_machine.true ∙ c.is_machine.ensures ∙ ap is_machine (c.word-3.ensures ∙ sym frame.control.mode) ∙ frame.below)
 
 pub returns-clause-trap : goal.returns-clause-trap
-returns-clause-trap c = record {
-  tag = subst (IsTagOf c.in_ok-event.event) c.word.ensures c.in_ok-event.ensures.some;
+returns-clause-trap c = λ is. record {
+  tag = subst (IsTagOf c.in-Some.event) c.word.ensures c.in-Some.ensures.some;
   hart = sym c.word-hart.ensures;
   known = omega (arith, c.if-hart-from.false, c.from.ensures);
   registers = c.registers_in.ensures;
   control_follows = sym c.word-2.ensures ∙ c.if-word-ne-TAG_CONTROL.false;
-  control = c.control_in.ensures;
-  below = ap is_machine (c.control_in.ensures.mode ∙ sym c.word-3.ensures) ∙ sym c.is_machine.ensures ∙ c.if-is_machine.false;
+  control = c.control_in-trap.ensures;
+  below = ap is_machine (c.control_in-trap.ensures.mode ∙ sym c.word-3.ensures) ∙ sym c.is_machine.ensures ∙ c.if-is_machine.false;
 }
