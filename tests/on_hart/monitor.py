@@ -177,7 +177,7 @@ def most_taken(on_hart, folder, told):
         for it in notes.splitlines():
             most[it.split()[1]] = max(most.get(it.split()[1], 0), int(it.split()[2]))
     numbers = f"stack {most['stack']}, heap {most['heap']} bytes; instructions {most['other']} of a switch, {most['owning']} of a creation"
-    told(f"the monitor's most: {numbers}", most["stack"] < 32768 and most["heap"] < 65536 and most["other"] < 5632)
+    told(f"the monitor's most: {numbers}", most["stack"] < 32768 and most["heap"] < 65536 and most["other"] < 4096)
     # (a hart of QEMU has sixteen entries, and loads the first sixteen of what a boot on 64 answers)
     trace.write_text("")
     on_hart.platform_of = lambda path: ({"harts": 4}, 128)
