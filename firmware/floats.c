@@ -72,8 +72,11 @@ void floats_begin(uint64_t enclave)
 }
 
 /* What a hart has is found by trying. Its host begins with zeros. */
+#define QUADS (1ul << 16) /* of misa: the upper half of each register would stay for the next world */
 void floats_at_start(unsigned hart)
 {
+    if (READ(misa) & QUADS)
+        end_because("a hart has floats of 128 bits: hart ", hart);
     SET(mstatus, FLOATS_DIRTY);
     if (!IS_THERE(fcsr))
         kinds[hart] = NONE;

@@ -6,8 +6,9 @@ static const struct {
     const char *name;
     uint64_t counter, scounteren;
 } rows[] = {
-    {"time, let in", TIME_OF_ALL, 2},       {"time, let in with all", TIME_OF_ALL, 7},   {"time, kept out", TIME_OF_ALL, 0},
-    {"time, kept out alone", TIME_OF_ALL, 5}, {"cycles, let in", CYCLES, 7}, {"instructions, let in", INSTRUCTIONS, 7},
+    {"time, let in", TIME_OF_ALL, 2},   {"time, let in with all", TIME_OF_ALL, 7},
+    {"time, kept out", TIME_OF_ALL, 0}, {"time, kept out alone", TIME_OF_ALL, 5},
+    {"cycles, let in", CYCLES, 7},      {"instructions, let in", INSTRUCTIONS, 7},
 };
 
 static void read(unsigned row)

@@ -10,6 +10,6 @@ returns c = λ layout opened events old trap frame read question answered new ru
       closed = λ hart a value said after byte x own reaches other.
           let next = c.board_law.ensures layout opened _ after (happened run (access hart a value said) x) rules answer in
           next.each.1.denied id byte gone.0 (gone.1, own) reaches other;
-      zero = λ byte own. last.each.1.zeroes id gone byte ∙ ap (λ b. if b then 0 else old.memory byte) own;
+      zero = λ byte own. last.each.1.0.zeroes id gone byte ∙ ap (λ b. if b then 0 else old.memory byte) own;
       entries = last.banks;
     }
