@@ -2,7 +2,6 @@
 use Rattle.std.specs.Prelude.{◌≡◌, ◌⊎◌, ℕ, List}
 use Rattle.std.proofs.Common.{inl, inr, refl}
 use Rattle.std.specs.Borrow.{Bor}
-use Rattle.command_inputs.specs.declared.trouble.Trouble.{Trouble}
 use Rattle.command_inputs.specs.declared.trouble.Trouble.TheVariants as troubles
 use Rattle.register_audit.specs.declared.fault.ListingFault.{ListingFault}
 use Rattle.register_audit.specs.declared.fault.ListingFault.TheVariants as faults

@@ -6,9 +6,7 @@ use Rattle.std.specs.List.{ends_with}
 use Rattle.std.specs.Option.{is_some}
 use Rattle.std.specs.Borrow.{Bor}
 use Rattle.byte_streams.specs.Writings.{Breaks, IsUnwritten, TakesAll, Writing}
-use Rattle.platforms.specs.Platform.{PlatformLayout}
-use Rattle.platform_file.specs.Document.{IsPlatformFile}
-use Rattle.file_lints.specs.PlatformLints.{IsLintLine}
+use Rattle.file_lints.specs.PlatformLints.{IsPlatformLintText}
 use Rattle.map_lint.specs.Findings.{IsLintText}
 use Rattle.map_lint.specs.Lints.{IsVerdictOfLines}
 use Rattle.pmp_encoding.specs.declared.xlen.Xlen.{Xlen}
@@ -62,13 +60,11 @@ IsListingLint xlen name bytes true text = ((leaves : Listing) × (listed xlen by
 IsListingLint xlen name bytes false text = (n : ℕ) × IsFirstUnknown xlen bytes n
     × (text ≡ listing_fault xlen name (is_some (listed (other_width xlen) bytes)) n)
 
--- of a file that should be a platform: nothing where it is one, otherwise a line under its name as
--- it is shown
+-- of a file that should be a platform, under its name as it is shown: warnings where it is one,
+-- otherwise one line
 abbrev pub IsPlatformLint : List ℕ → List ℕ → Bool → List ℕ → Type 0
-IsPlatformLint name bytes true text = ((platform : PlatformLayout) × IsPlatformFile bytes platform)
-    × (text ≡ [])
-IsPlatformLint name bytes false text = (named : List ℕ) × IsShown name named
-    × IsLintLine named bytes text
+IsPlatformLint name bytes is text = (named : List ℕ) × IsShown name named
+    × IsPlatformLintText named bytes is text
 
 -- what is written of the bytes of a file, by whether its name is that of a platform
 abbrev pub IsLint : Bool → List ℕ → List ℕ → Bool → List ℕ → Type 0

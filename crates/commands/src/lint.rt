@@ -42,7 +42,8 @@ pub fn lint_map<W: Sink>(
     }
 }
 
-/// Prints what is wrong with the bytes of a platform file. The status is 0 where they are a platform, and 1 where they are none.
+/// Prints what is wrong with the bytes of a platform file, or warnings of a platform. The status is 0 where they are a platform,
+/// and 1 where they are none.
 pub fn lint_as_platform<W: Sink>(
     alloc: Global,
     name: &str,

@@ -1,8 +1,10 @@
 pub mod Items
 pub mod FoundInPlatforms
 mod Overlaps
+mod WarningLines
 pub mod Steps
 pub mod Parts
+pub mod FirstParts
 mod Accesses
 mod Complete
 mod EventWords

@@ -41,7 +41,6 @@ abbrev pub HasWordAt : List ℕ → ℕ → List ℕ → Type 0
 HasWordAt text at word = (at + length word ≤ length text)
     × (take (length word) (drop at text) ≡ word)
 
--- what a breach is about is in the text, after this many bytes
-abbrev pub IsPlaceOf : List ℕ → Breach → ℕ → Type 0
-IsPlaceOf text breach at = (word : List ℕ) × (word_about breach ≡ Some word)
-    × HasWordAt text at word
+-- this word, where it is one, is in the text after this many bytes
+abbrev pub IsPlaceOf : List ℕ → Option (List ℕ) → ℕ → Type 0
+IsPlaceOf text sought at = (word : List ℕ) × (sought ≡ Some word) × HasWordAt text at word

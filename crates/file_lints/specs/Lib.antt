@@ -11,3 +11,6 @@ pub mod Registers
 pub mod Takers
 pub mod TraceTexts
 pub mod KeyPlaces
+pub mod Positions
+pub mod Masters
+pub mod MasterTexts

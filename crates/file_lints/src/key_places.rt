@@ -200,8 +200,16 @@ fn find(text: &[u8], sought: Sought, word: &[u8]) -> Option<usize>
 /// How many bytes of a text come before what a breach is about, where that is found: the text has that key, or the name of
 /// that table, there.
 pub(crate) fn place_of(text: &str, breach: &Breach<'_>) -> Option<usize>
-    ensures { IfSome result (IsPlaceOf text.now breach.now) }
+    ensures { IfSome result (IsPlaceOf text.now (word_about breach.now)) }
 {
     let word = word_about(breach)?;
     find(text.as_bytes(), sought_by(breach), word.as_bytes())
+}
+
+/// How many bytes of a text come before the name in the header of that table, where that is found.
+pub(crate) fn header_of(text: &str, table: TomlPath) -> Option<usize>
+    ensures { IfSome result (IsPlaceOf text.now (table_word table)) }
+{
+    let word = table_word(table)?;
+    find(text.as_bytes(), Sought::Header(table), word.as_bytes())
 }

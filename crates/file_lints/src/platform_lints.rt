@@ -1,12 +1,14 @@
 //! The lint of a platform file.
 
-ghost use Rattle.std.specs.Prelude.{◌≡◌, ◌≤◌, ◌++◌, List, ℕ, Err, IfOk, IfSome, Ok, OnOk, None, Some, true, false, codes, length, take};
+ghost use Rattle.std.specs.Prelude.{◌≡◌, ◌++◌, Bool, List, ℕ, Err, IfOk, Ok, OnOk};
 ghost use Rattle.byte_streams.specs.Writings.{writing, Breaks, TakesAll};
 ghost use Rattle.toml.specs.Errors.{IsMemory, IsWithin, span_start};
 ghost use Rattle.toml.specs.View.{table_view};
 ghost use Rattle.platforms.specs.Platform.{PlatformLayout};
-ghost use Rattle.platform_file.specs.Document.{IsPlatformDocument, IsPlatformFile, IsPlatformText};
-ghost use Rattle.file_lints.specs.PlatformLints.{IsFinding, IsLintLine, IsPosition, IsSyntaxText, no_text_line, position_after, position_text};
+ghost use Rattle.platform_file.specs.Document.{IsPlatformDocument, IsPlatformText};
+ghost use Rattle.file_lints.specs.KeyPlaces.{word_about};
+ghost use Rattle.file_lints.specs.PlatformLints.{IsFinding, IsPlatformLintText, IsSyntaxText, no_text_line};
+ghost use Rattle.file_lints.specs.Positions.{IsPosition};
 ghost use Rattle.file_lints.specs.Order.{IsFirstBreach};
 ghost use Rattle.file_lints.specs.PlatformTexts.{breach_text};
 ghost use Rattle.file_lints.specs.declared.breach.Breach.{Breach};
@@ -15,10 +17,12 @@ ghost use Rattle.lint_texts.specs.declared.lint_fault.LintFault as LintFault;
 use crate::breach::Breach;
 use crate::first_breach::form_breach;
 use crate::key_places::place_of;
+use crate::positions::{push_found, push_position};
 use crate::rules::rule_breach;
 use crate::texts::push_breach;
+use crate::warnings::warnings;
 use byte_streams::{Sink, write_whole};
-use lint_texts::{LintFault, push, push_number};
+use lint_texts::{LintFault, push};
 use platform_file::{TextFault, platform_of};
 use std::alloc::{AllocError, Global};
 use std::str;
@@ -41,23 +45,6 @@ fn breach_of<'a>(alloc: Global, document: &'a Table) -> Result<Breach<'a>, Alloc
     }
 }
 
-/// The line and the column after some bytes, both counted from 1. A column counts bytes.
-fn position_after(before: &[u8]) -> (u64, u64)
-    ensures { result ≡ position_after before.now 1 1 }
-{
-    let mut line: u64 = 1;
-    let mut column: u64 = 1;
-    for byte in before {
-        if *byte == b'\n' {
-            line += 1;
-            column = 1;
-        } else {
-            column += 1;
-        }
-    }
-    (line, column)
-}
-
 /// How many bytes of a text come before the place where the library stopped reading it.
 fn start_of(error: &Error) -> usize
     requires { ¬ IsMemory error.now }
@@ -67,20 +54,6 @@ fn start_of(error: &Error) -> usize
         Some(span) => span.start,
         None => unreachable!(),
     }
-}
-
-/// Appends the line and the column after that many bytes of a text, as `:3:1: `.
-fn push_position(line: &mut Vec<u8>, text: &str, at: usize) -> Result<(), AllocError>
-    requires { at ≤ length text.now }
-    ensures { OnOk result (line.new.items
-        ≡ line.old.items ++ position_text (position_after (take at text.now) 1 1)) }
-{
-    let (row, column) = position_after(&text.as_bytes()[..at]);
-    push(line, ":")?;
-    push_number(line, row)?;
-    push(line, ":")?;
-    push_number(line, column)?;
-    push(line, ": ")
 }
 
 /// Appends where a text stops being a document, and why, in the words of the library that reads it.
@@ -94,17 +67,6 @@ fn push_syntax(line: &mut Vec<u8>, text: &str, error: &Error) -> Result<(), Allo
     push(line, error.message())
 }
 
-/// Appends where the text has what a breach is about, where that is found.
-fn push_place(line: &mut Vec<u8>, text: &str, breach: &Breach<'_>) -> Result<(), AllocError>
-    ensures { OnOk result ((position : List ℕ) × IsPosition text.now breach.now position
-        × (line.new.items ≡ line.old.items ++ position)) }
-{
-    match place_of(text, breach) {
-        Some(at) => push_position(line, text, at),
-        None => push(line, ": "),
-    }
-}
-
 /// Appends what the document of a text breaks first that is no platform, and where.
 fn push_document(
     alloc: Global,
@@ -115,11 +77,11 @@ fn push_document(
     requires { (platform : PlatformLayout)
         → IsPlatformDocument (table_view document.now) platform → ⊥ }
     ensures { OnOk result ((breach : Breach) × IsFirstBreach (table_view document.now) breach
-        × (position : List ℕ) × IsPosition text.now breach position
+        × (position : List ℕ) × IsPosition text.now (word_about breach) position
         × (line.new.items ≡ line.old.items ++ (position ++ breach_text breach))) }
 {
     let breach = breach_of(alloc, document)?;
-    push_place(line, text, &breach)?;
+    push_found(line, text, place_of(text, &breach))?;
     push_breach(line, breach)
 }
 
@@ -153,50 +115,43 @@ fn no_text(alloc: Global, name: &str) -> Result<Vec<u8>, AllocError>
     Ok(line)
 }
 
-/// The line for a file that is no platform, and none for a platform.
-fn lint_line(alloc: Global, name: &str, bytes: &[u8]) -> Result<Option<Vec<u8>>, AllocError>
-    ensures platform { result ≡ Ok None
-        → (platform : PlatformLayout) × IsPlatformFile bytes.now platform }
-    ensures line { IfOk result (λ found.
-        IfSome found (λ line. IsLintLine name.now bytes.now line.items)) }
+/// What is written of a file, and whether it is a platform.
+fn lint_text(alloc: Global, name: &str, bytes: &[u8]) -> Result<(bool, Vec<u8>), AllocError>
+    ensures { IfOk result (λ answer.
+        IsPlatformLintText name.now bytes.now answer.0 answer.1.items) }
 {
     let Ok(text) = str::from_utf8(bytes) else {
-        return Ok(Some(no_text(alloc, name)?));
+        return Ok((false, no_text(alloc, name)?));
     };
     match platform_of(alloc, text) {
-        Ok(_) => Ok(None),
+        Ok(_) => Ok((true, warnings(alloc, name, text)?)),
         Err(TextFault::Memory) => Err(AllocError),
-        Err(TextFault::NotAPlatform) => Ok(Some(finding(alloc, name, text)?)),
+        Err(TextFault::NotAPlatform) => Ok((false, finding(alloc, name, text)?)),
     }
 }
 
-/// Writes the first thing that keeps a file from being a platform, on one line; nothing where it is one. The answer is
-/// whether it is. Where memory is refused nothing was written.
+/// Writes what there is to say of a file that should be a platform, and answers whether it is one: of a platform a warning for
+/// each master of memory that its devices hold, and otherwise the first thing that keeps it from being one, on one line. Where
+/// memory is refused nothing was written.
 pub fn lint_platform<W: Sink>(
     alloc: Global,
     name: &str,
     bytes: &[u8],
     out: &mut W,
 ) -> Result<bool, LintFault>
-    ensures platform { result ≡ Ok true
-        → (platform : PlatformLayout) × IsPlatformFile bytes.now platform }
-    ensures silent { result ≡ Ok true → out.new ≡ out.old }
-    ensures written { result ≡ Ok false → (line : List ℕ)
-        × IsLintLine name.now bytes.now line
-        × TakesAll line (writing W.contents W.failures W.stalls out.old out.new) }
+    ensures written { IfOk result (λ is_platform. (text : List ℕ)
+        × IsPlatformLintText name.now bytes.now is_platform text
+        × TakesAll text (writing W.contents W.failures W.stalls out.old out.new)) }
     ensures untouched { result ≡ Err LintFault.Memory → out.new ≡ out.old }
-    ensures broken { result ≡ Err LintFault.Device → (line : List ℕ)
-        × IsLintLine name.now bytes.now line
-        × Breaks line (writing W.contents W.failures W.stalls out.old out.new) }
+    ensures broken { result ≡ Err LintFault.Device → (is_platform : Bool) × (text : List ℕ)
+        × IsPlatformLintText name.now bytes.now is_platform text
+        × Breaks text (writing W.contents W.failures W.stalls out.old out.new) }
 {
-    let Ok(found) = lint_line(alloc, name, bytes) else {
+    let Ok((is_platform, text)) = lint_text(alloc, name, bytes) else {
         return Err(LintFault::Memory);
     };
-    let Some(line) = found else {
-        return Ok(true);
-    };
-    let Ok(()) = write_whole(out, line.as_slice()) else {
+    let Ok(()) = write_whole(out, text.as_slice()) else {
         return Err(LintFault::Device);
     };
-    Ok(false)
+    Ok(is_platform)
 }

@@ -30,7 +30,7 @@ fn push_numbered(text: &mut Vec<u8>, name: &str, number: u64) -> Result<(), Allo
 }
 
 /// Appends the table that is spoken of: nothing for the file's own.
-fn push_place(text: &mut Vec<u8>, place: TomlPath) -> Result<(), AllocError>
+pub(crate) fn push_place(text: &mut Vec<u8>, place: TomlPath) -> Result<(), AllocError>
     ensures { OnOk result (text.new.items ≡ text.old.items ++ place_text place) }
 {
     match place {

@@ -11,7 +11,7 @@ use Rattle.printed_lines.specs.Placed.{word_from}
 use Rattle.printed_lines.specs.Texts.{register_text}
 use Rattle.register_formats.specs.Names.{address_or_zero, note_text}
 use Rattle.register_formats.specs.Heads.{head_begin, head_below, head_end, head_rules, head_width}
-use Rattle.register_formats.specs.Shared.{kept_bits, shared_words}
+use Rattle.register_formats.specs.Shared.{kept_bits, shared_word_count}
 use Rattle.register_formats.specs.Rows.{rows_text}
 
 -- the label of a routine, where it has a name
@@ -30,9 +30,9 @@ asm_head xlen first label end = concat (head_begin ∷ head_width xlen ∷ head_
     ∷ head_end ∷ label ∷ end ∷ [])
 
 -- which registers are changed
-abbrev pub asm_changed : Xlen → Limit → ℕ → List ℕ
-asm_changed xlen limit first =
-    if shared_words xlen limit first == 0 then codes "/* Only t0 is changed. */\n"
+abbrev pub asm_registers_note : Xlen → Limit → ℕ → List ℕ
+asm_registers_note xlen limit first =
+    if shared_word_count xlen limit first == 0 then codes "/* Only t0 is changed. */\n"
     else codes "/* Only t0 and t1 are changed. */\n"
 
 -- an instruction that the other width lacks: for RV64 one that changes nothing, and for RV32 one
@@ -44,7 +44,7 @@ asm_guard Rv64 = codes "    addiw   zero, zero, 0 /* an assembler for RV32 refus
 
 -- both
 abbrev pub asm_begin : Xlen → Limit → ℕ → List ℕ
-asm_begin xlen limit first = asm_changed xlen limit first ++ asm_guard xlen
+asm_begin xlen limit first = asm_registers_note xlen limit first ++ asm_guard xlen
 
 -- the instructions that write the address register of the list's entry i, with that entry
 abbrev pub asm_address_row : Xlen → ℕ → List Entry → ℕ → List ℕ
@@ -54,15 +54,15 @@ asm_address_row xlen first entries i =
     ++ (codes "    csrw    pmpaddr" ++ decimal (first + i) ++ codes ", t0\n")
 
 -- those that read a shared word, and keep the bits of the entries below the first
-abbrev pub asm_kept : Xlen → ℕ → List ℕ
-asm_kept xlen first =
+abbrev pub asm_shared_read : Xlen → ℕ → List ℕ
+asm_shared_read xlen first =
     codes "    csrr    t1, pmpcfg" ++ decimal (word_number xlen (first / word_entries xlen))
     ++ codes "\n    li      t0, 0x" ++ register_text xlen (kept_bits xlen first)
     ++ codes "\n    and     t1, t1, t0\n"
 
 -- and those that write them with the bytes of the list
-abbrev pub asm_joined : Xlen → ℕ → List Entry → List ℕ
-asm_joined xlen first entries =
+abbrev pub asm_shared_write : Xlen → ℕ → List Entry → List ℕ
+asm_shared_write xlen first entries =
     codes "    li      t0, 0x" ++ register_text xlen
     (word_from xlen first entries (first / word_entries xlen))
     ++ codes "\n    or      t0, t0, t1\n    csrw    pmpcfg"
@@ -70,7 +70,8 @@ asm_joined xlen first entries =
 
 -- the write of the word that is shared
 abbrev pub asm_shared_row : Xlen → ℕ → List Entry → ℕ → List ℕ
-asm_shared_row xlen first entries i = asm_kept xlen first ++ asm_joined xlen first entries
+asm_shared_row xlen first entries i =
+    asm_shared_read xlen first ++ asm_shared_write xlen first entries
 
 -- those that write a word which has no entry below the first
 abbrev pub asm_word_row : Xlen → ℕ → List Entry → ℕ → List ℕ
@@ -83,7 +84,7 @@ asm_word_row xlen first entries i =
 -- all words that have an entry from the first on, in which those after the list are off
 abbrev pub asm_words : Xlen → Limit → ℕ → List Entry → List ℕ
 asm_words xlen limit first entries =
-    rows_text (asm_shared_row xlen first entries) 0 (shared_words xlen limit first)
+    rows_text (asm_shared_row xlen first entries) 0 (shared_word_count xlen limit first)
     ++ rows_text (asm_word_row xlen first entries) 0
     (word_count xlen limit - whole_word xlen first)
 

@@ -13,7 +13,7 @@ use Rattle.printed_lines.specs.Placed.{entry_from, word_from}
 use Rattle.printed_lines.specs.Texts.{register_text}
 use Rattle.register_formats.specs.Names.{address_or_zero, array_link, place_text, prefix_of}
 use Rattle.register_formats.specs.Heads.{head_begin, head_below, head_end, head_rules, head_width}
-use Rattle.register_formats.specs.Shared.{kept_bits, shared_words}
+use Rattle.register_formats.specs.Shared.{kept_bits, shared_word_count}
 use Rattle.register_formats.specs.Rows.{rows_text}
 
 -- what comes before the arrays: a compiler for RISC-V of the other width refuses the text; one for
@@ -98,26 +98,26 @@ c_address_write first i = codes "    __asm__ volatile(\"csrw pmpaddr" ++ decimal
     ++ codes ", %0\" : : \"r\"(addr[" ++ decimal (first + i) ++ codes "]));\n"
 
 -- what comes before the number of a shared word
-abbrev pub c_kept_begin : Xlen → List ℕ
-c_kept_begin Rv32 = codes "    uint32_t kept;\n    __asm__ volatile(\"csrr %0, pmpcfg"
-c_kept_begin Rv64 = codes "    uint64_t kept;\n    __asm__ volatile(\"csrr %0, pmpcfg"
+abbrev pub c_shared_read_begin : Xlen → List ℕ
+c_shared_read_begin Rv32 = codes "    uint32_t kept;\n    __asm__ volatile(\"csrr %0, pmpcfg"
+c_shared_read_begin Rv64 = codes "    uint64_t kept;\n    __asm__ volatile(\"csrr %0, pmpcfg"
 
 -- those that read a shared word, and keep the bits of the entries below the first
-abbrev pub c_kept : Xlen → ℕ → List ℕ
-c_kept xlen first =
-    c_kept_begin xlen ++ decimal (word_number xlen (first / word_entries xlen))
+abbrev pub c_shared_read : Xlen → ℕ → List ℕ
+c_shared_read xlen first =
+    c_shared_read_begin xlen ++ decimal (word_number xlen (first / word_entries xlen))
     ++ codes "\" : \"=r\"(kept));\n    kept &= 0x" ++ register_text xlen (kept_bits xlen first)
     ++ codes ";\n"
 
 -- and the one that writes them with the bytes of the list
-abbrev pub c_joined : Xlen → ℕ → List ℕ
-c_joined xlen first = codes "    __asm__ volatile(\"csrw pmpcfg"
+abbrev pub c_shared_write : Xlen → ℕ → List ℕ
+c_shared_write xlen first = codes "    __asm__ volatile(\"csrw pmpcfg"
     ++ decimal (word_number xlen (first / word_entries xlen))
     ++ codes ", %0\" : : \"r\"(kept | cfg[" ++ decimal (first / word_entries xlen) ++ codes "]));\n"
 
 -- the write of the word that is shared
-abbrev pub c_shared_write : Xlen → ℕ → ℕ → List ℕ
-c_shared_write xlen first i = c_kept xlen first ++ c_joined xlen first
+abbrev pub c_shared_row : Xlen → ℕ → ℕ → List ℕ
+c_shared_row xlen first i = c_shared_read xlen first ++ c_shared_write xlen first
 
 -- one that writes another configuration word: ` __asm__ volatile("csrw pmpcfg2, %0" : :
 -- "r"(cfg[1]));`
@@ -158,8 +158,8 @@ c_loader_begin prefix link xlen first count =
 
 -- all words that have an entry from the first on
 abbrev pub c_word_writes : Xlen → Limit → ℕ → List ℕ
-c_word_writes xlen limit first = rows_text (c_shared_write xlen first) 0
-    (shared_words xlen limit first) ++ rows_text (c_word_write xlen first) 0
+c_word_writes xlen limit first = rows_text (c_shared_row xlen first) 0
+    (shared_word_count xlen limit first) ++ rows_text (c_word_write xlen first) 0
     (word_count xlen limit - whole_word xlen first)
 
 -- the number of entries, and a function that writes the address registers from the first on, then

@@ -6,8 +6,8 @@ use Rattle.pmp_encoding.specs.declared.xlen.Xlen.{Xlen}
 use Rattle.pmp_encoding.specs.Widths.{word_entries}
 
 -- how many words are shared: one, where the list begins inside a word of the hart
-abbrev pub shared_words : Xlen → Limit → ℕ → ℕ
-shared_words xlen limit first = if not (first % word_entries xlen == 0)
+abbrev pub shared_word_count : Xlen → Limit → ℕ → ℕ
+shared_word_count xlen limit first = if not (first % word_entries xlen == 0)
     && nat_lt first (limit_number limit) then 1 else 0
 
 -- the bits of the entries below the first in the word that it is in

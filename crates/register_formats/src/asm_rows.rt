@@ -1,11 +1,11 @@
 //! The rows of assembly.
 
 ghost use Rattle.std.specs.Prelude.{◌≡◌, ◌≤◌, length, option_map};
-ghost use Rattle.register_formats.specs.AsmTexts.{asm_begin, asm_changed, asm_end, asm_guard, asm_joined, asm_kept, label_end, label_of};
+ghost use Rattle.register_formats.specs.AsmTexts.{asm_begin, asm_registers_note, asm_end, asm_guard, asm_shared_write, asm_shared_read, label_end, label_of};
 
 use crate::names::{address_or_zero, entry_at, push_note};
 use crate::rows::{Row, Rows};
-use crate::shared::{kept_bits, shared_words};
+use crate::shared::{kept_bits, shared_word_count};
 use pmp_encoding::{Limit, PackedEntry, Xlen};
 use printed_lines::{push_register, word_from};
 use text_lines::{Line, push_decimal, push_text};
@@ -41,11 +41,11 @@ pub(crate) fn label_end<'a>(name: Option<&str>) -> &'a [u8]
 }
 
 /// Which registers are changed.
-fn changed<'a>(xlen: Xlen, limit: Limit, first: u8) -> &'a [u8]
-    ensures text { result.now ≡ asm_changed xlen limit first }
+fn registers_note<'a>(xlen: Xlen, limit: Limit, first: u8) -> &'a [u8]
+    ensures text { result.now ≡ asm_registers_note xlen limit first }
     ensures most { length result.now ≤ 34 }
 {
-    if shared_words(xlen, limit, first) == 0 {
+    if shared_word_count(xlen, limit, first) == 0 {
         return b"/* Only t0 is changed. */\n";
     }
     b"/* Only t0 and t1 are changed. */\n"
@@ -69,7 +69,7 @@ pub(crate) fn begin(xlen: Xlen, limit: Limit, first: u8) -> Line
     ensures { result ≡ asm_begin xlen limit first }
 {
     let mut line = Line::new();
-    push_text(&mut line, changed(xlen, limit, first));
+    push_text(&mut line, registers_note(xlen, limit, first));
     push_text(&mut line, guard(xlen));
     line
 }
@@ -108,8 +108,8 @@ impl Rows for Addresses<'_> {
 }
 
 /// The instructions that read a shared word, and keep the bits of the entries below the first.
-fn kept(xlen: Xlen, first: u8) -> Line
-    ensures { result ≡ asm_kept xlen first }
+fn shared_read(xlen: Xlen, first: u8) -> Line
+    ensures { result ≡ asm_shared_read xlen first }
 {
     let mut line = Line::new();
     push_text(&mut line, b"    csrr    t1, pmpcfg");
@@ -121,8 +121,8 @@ fn kept(xlen: Xlen, first: u8) -> Line
 }
 
 /// Those that write them with the bytes of the list.
-fn joined(xlen: Xlen, entries: &[PackedEntry], first: u8) -> Line
-    ensures { result ≡ asm_joined xlen first entries.now }
+fn shared_write(xlen: Xlen, entries: &[PackedEntry], first: u8) -> Line
+    ensures { result ≡ asm_shared_write xlen first entries.now }
 {
     let word = xlen.word_of(first);
     let mut line = Line::new();
@@ -151,8 +151,8 @@ impl Rows for SharedWords<'_> {
 
     fn row(&self, i: usize) -> Row {
         Row {
-            front: kept(self.xlen, self.first),
-            back: joined(self.xlen, self.entries, self.first),
+            front: shared_read(self.xlen, self.first),
+            back: shared_write(self.xlen, self.entries, self.first),
         }
     }
 }

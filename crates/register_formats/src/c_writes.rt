@@ -1,7 +1,7 @@
 //! The rows of the function of C that writes the registers.
 
 ghost use Rattle.std.specs.Prelude.{◌≡◌, ◌≤◌, length};
-ghost use Rattle.register_formats.specs.CTexts.{c_joined, c_kept, c_kept_begin};
+ghost use Rattle.register_formats.specs.CTexts.{c_shared_write, c_shared_read, c_shared_read_begin};
 
 use crate::rows::{Row, Rows};
 use crate::shared::kept_bits;
@@ -39,8 +39,8 @@ impl Rows for AddressWrites {
 }
 
 /// What comes before the number of a shared word.
-fn kept_begin<'a>(xlen: Xlen) -> &'a [u8]
-    ensures text { result.now ≡ c_kept_begin xlen }
+fn shared_read_begin<'a>(xlen: Xlen) -> &'a [u8]
+    ensures text { result.now ≡ c_shared_read_begin xlen }
     ensures most { length result.now ≤ 58 }
 {
     match xlen {
@@ -50,11 +50,11 @@ fn kept_begin<'a>(xlen: Xlen) -> &'a [u8]
 }
 
 /// The instructions that read a shared word, and keep the bits of the entries below the first.
-fn kept(xlen: Xlen, first: u8) -> Line
-    ensures { result ≡ c_kept xlen first }
+fn shared_read(xlen: Xlen, first: u8) -> Line
+    ensures { result ≡ c_shared_read xlen first }
 {
     let mut line = Line::new();
-    push_text(&mut line, kept_begin(xlen));
+    push_text(&mut line, shared_read_begin(xlen));
     push_decimal(&mut line, xlen.word_number(xlen.word_of(first)));
     push_text(&mut line, b"\" : \"=r\"(kept));\n    kept &= 0x");
     push_register(&mut line, xlen, kept_bits(xlen, first));
@@ -63,8 +63,8 @@ fn kept(xlen: Xlen, first: u8) -> Line
 }
 
 /// The one that writes them with the bytes of the list.
-fn joined(xlen: Xlen, first: u8) -> Line
-    ensures { result ≡ c_joined xlen first }
+fn shared_write(xlen: Xlen, first: u8) -> Line
+    ensures { result ≡ c_shared_write xlen first }
 {
     let word = xlen.word_of(first);
     let mut line = Line::new();
@@ -84,16 +84,16 @@ pub(crate) struct SharedWrites {
 }
 
 impl Rows for SharedWrites {
-    ghost use Rattle.register_formats.specs.CTexts.{c_shared_write};
+    ghost use Rattle.register_formats.specs.CTexts.{c_shared_row};
 
-    ghost row_text = { λ rows. c_shared_write rows.xlen rows.first };
+    ghost row_text = { λ rows. c_shared_row rows.xlen rows.first };
 
     ghost most = { λ rows. 1 };
 
     fn row(&self, i: usize) -> Row {
         Row {
-            front: kept(self.xlen, self.first),
-            back: joined(self.xlen, self.first),
+            front: shared_read(self.xlen, self.first),
+            back: shared_write(self.xlen, self.first),
         }
     }
 }

@@ -8,12 +8,12 @@ ghost use Rattle.register_formats.specs.AsmTexts.{IsAsmText, asm_head, asm_words
 ghost use Rattle.register_formats.specs.CTexts.{IsCText, c_arrays, c_loader, c_loader_begin, c_word_writes};
 ghost use Rattle.register_formats.specs.Heads.{head_begin, head_below, head_end, head_rules, head_width};
 ghost use Rattle.register_formats.specs.JsonTexts.{IsJsonText, json_text};
-ghost use Rattle.register_formats.specs.Shared.{shared_words};
+ghost use Rattle.register_formats.specs.Shared.{shared_word_count};
 
 use crate::heads::{head_begin, head_below, head_end, head_rules, head_width};
 use crate::names::{array_link, prefix_of};
 use crate::rows::{print_both, print_section, print_texts, print_titled};
-use crate::shared::shared_words;
+use crate::shared::shared_word_count;
 use crate::{asm_rows, c_rows, c_writes, json_rows};
 use byte_streams::{DeviceFault, Sink, write_whole};
 use pmp_encoding::{Limit, PackedEntry, Xlen};
@@ -84,7 +84,7 @@ fn print_word_writes<W: Sink>(
 {
     let shared = c_writes::SharedWrites { xlen, first };
     let words = c_writes::WordWrites { xlen, first };
-    let shared_count = shared_words(xlen, limit, first);
+    let shared_count = shared_word_count(xlen, limit, first);
     let count = xlen.words(limit).saturating_sub(xlen.whole_word(first));
     print_both(&shared, shared_count, &words, count, out)
 }
@@ -208,7 +208,7 @@ fn print_asm_words<W: Sink>(
         entries,
         first,
     };
-    let shared_count = shared_words(xlen, limit, first);
+    let shared_count = shared_word_count(xlen, limit, first);
     let count = xlen.words(limit).saturating_sub(xlen.whole_word(first));
     print_both(&shared, shared_count, &words, count, out)
 }
@@ -284,7 +284,7 @@ fn print_object<W: Sink>(
 }
 
 /// How many words are printed: none where the hart has no room for that many entries.
-fn words_printed(xlen: Xlen, entries: usize, first: u8, limit: Limit) -> usize
+fn printed_word_count(xlen: Xlen, entries: usize, first: u8, limit: Limit) -> usize
     ensures fits { entries ≤ limit_number limit - first → result ≡ word_count xlen limit }
     ensures too_many { limit_number limit - first < entries → result ≡ 0 }
     ensures most { result ≤ 16 }
@@ -314,7 +314,7 @@ pub fn print_json<W: Sink>(
     ensures { PrintsOne (IsJsonText map.now xlen limit first entries.now)
         (writing W.contents W.failures W.stalls out.old out.new) result }
 {
-    let count = words_printed(xlen, entries.len(), first, limit);
+    let count = printed_word_count(xlen, entries.len(), first, limit);
     print_object(map.as_bytes(), xlen, entries, first, limit, count, out)?;
     Ok(())
 }

@@ -1,13 +1,13 @@
 //! A configuration word that the list shares with entries below it.
 
 ghost use Rattle.std.specs.Prelude.{◌≡◌, ◌≤◌};
-ghost use Rattle.register_formats.specs.Shared.{kept_bits, shared_words};
+ghost use Rattle.register_formats.specs.Shared.{kept_bits, shared_word_count};
 
 use pmp_encoding::{Limit, Xlen};
 
 /// How many words are shared.
-pub(crate) fn shared_words(xlen: Xlen, limit: Limit, first: u8) -> usize
-    ensures value { result ≡ shared_words xlen limit first }
+pub(crate) fn shared_word_count(xlen: Xlen, limit: Limit, first: u8) -> usize
+    ensures value { result ≡ shared_word_count xlen limit first }
     ensures most { result ≤ 1 }
 {
     if first % xlen.word_entries() != 0 && u32::from(first) < limit.number() {

@@ -52,6 +52,12 @@ const ROWS: &[Row<'static>] = &[
     ),
     (
         Reader::PlatformLint,
+        b"monitor = { base = 0, size = 4096 }\nram = [{ base = 0, size = 4096 }]\ndevice = [{ base = 0x10090000, size = 4096, perm = 'rw' }]\n",
+        true,
+        "p:3:1: warning: device 1: on SiFive's FU540 and FU740 it has Ethernet, 0x10090000 to 0x10091fff, which reads and writes any memory by itself; leave these pages out\n",
+    ),
+    (
+        Reader::PlatformLint,
         b"harts = 2\n",
         false,
         "p: the key monitor is missing\n",

@@ -1,5 +1,5 @@
 -- Pages of the same bytes are measured alike, wherever they are.
-use Rattle.std.proofs.Common.{◌≡◌, ◌∙◌, ◌+◌, ◌/◌, ap, arith, sym}
+use Rattle.std.proofs.Common.{◌≡◌, ◌∙◌, ◌+◌, ◌/◌, ap, arith}
 use Rattle.measurement.specs.Digests.{layout_of}
 use Rattle.measurement.specs.Measured.{digest_of}
 use Rattle.measurement.proofs.BlankPages.{same_pages}

@@ -1,25 +1,7 @@
-use Rattle.std.proofs.Common.{◌≡◌, ℕ, [], Bool, true, false, List, Err, Ok, Option, ap, refl}
-use Rattle.byte_streams.specs.Writings.{writing, TakesAll}
-use Rattle.byte_streams.proofs.Writings.{takes_none}
+use Rattle.std.proofs.Common.{Err, ap, refl}
 use Rattle.std.proofs.lemmas.Result.{err_from_is_err_and}
-use Rattle.command_inputs.specs.Shown.{IsShown}
-use Rattle.platforms.specs.Platform.{PlatformLayout}
-use Rattle.platform_file.specs.Document.{IsPlatformFile}
-use Rattle.file_lints.specs.PlatformLints.{IsLintLine}
-use Rattle.commands.specs.Lint.{IsPlatformLint}
 use Rattle.commands.specs.Lint as lints
 use Rattle.commands.proofs.lint.lint_as_platform.Goals as goal
-
--- what was written, by the answer
-text :
-    {W : Type 0} (contents : W → Option (List ℕ)) (failures stalls : W → ℕ) (old new : W) (name named bytes : List ℕ) (is : Bool) → IsShown name named
-    → (is ≡ true → (platform : PlatformLayout) × IsPlatformFile bytes platform) → (is ≡ true → new ≡ old)
-    → (is ≡ false → (line : List ℕ) × IsLintLine named bytes line × TakesAll line (writing contents failures stalls old new))
-    → (text : List ℕ) × IsPlatformLint name bytes is text × TakesAll text (writing contents failures stalls old new)
-text contents failures stalls old new name named bytes true is platform silent written =
-    ([], (platform refl, refl), rw (silent refl) (takes_none contents failures stalls old))
-text contents failures stalls old new name named bytes false is platform silent written =
-    let w = written refl in (w.0, (named, is, w.1), w.2)
 
 pub returns-in_err-name : goal.returns-in_err-name
 returns-in_err-name g c =
@@ -28,13 +10,9 @@ returns-in_err-name g c =
 
 pub returns-in-Ok : goal.returns-in-Ok
 returns-in-Ok g c =
-    let said = c.in-Ok.ensures in
+    let w = c.in-Ok.ensures.written in
     let named = rw c.in_ok-name.ensures at c.text.ensures in
-    let w =
-    text g.W.Sink.contents g.W.Sink.failures g.W.Sink.stalls c.args.out.now c.lint_platform.new.out c.args.name.now c.text.result.now c.args.bytes.now
-    c.in-Ok.is_platform named
-    (λ e. said.platform (ap (λ t. Ok t) e)) (λ e. said.silent (ap (λ t. Ok t) e)) (λ e. said.written (ap (λ t. Ok t) e)) in
-    rw c.answer_status.ensures (lints.Tells.whole c.in-Ok.is_platform w.0 w.1 w.2)
+    rw c.answer_status.ensures (lints.Tells.whole c.in-Ok.is_platform w.0 (c.text.result.now, named, w.1) w.2)
 
 pub returns-in-Err-Memory : goal.returns-in-Err-Memory
 returns-in-Err-Memory g c = lints.Tells.no_memory (c.in-Err-Memory.ensures.untouched (ap (λ f. Err f) c.in-Err-Memory.field-0-is))
@@ -43,4 +21,4 @@ pub returns : goal.returns
 returns g c =
     let w = c.in-Err-Device.ensures.broken (ap (λ f. Err f) c.in-Err-Device.field-0-is) in
     let named = rw c.in_ok-name.ensures at c.text.ensures in
-    lints.Tells.no_output false w.0 (c.text.result.now, named, w.1) w.2
+    lints.Tells.no_output w.0 w.1 (c.text.result.now, named, w.2) w.3

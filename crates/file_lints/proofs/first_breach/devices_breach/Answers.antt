@@ -6,7 +6,7 @@ use Rattle.toml.proofs.Views.{get_item_within}
 use Rattle.platform_file.specs.Document.{device_of}
 use Rattle.file_lints.specs.declared.breach.TomlPath.TheVariants.{Device}
 use Rattle.file_lints.proofs.Items.{makes_from}
-use Rattle.file_lints.proofs.Parts.{before_item, item_low, next_item}
+use Rattle.file_lints.proofs.FirstParts.{before_item, item_low, next_item}
 use Rattle.file_lints.proofs.Steps.{placed_at, step_small}
 use Rattle.file_lints.proofs.first_breach.devices_breach.Goals as goal
 

@@ -4,7 +4,8 @@ use Rattle.toml.specs.View.{table_view}
 use Rattle.file_lints.specs.declared.breach.TomlPath.TheVariants as places
 use Rattle.file_lints.specs.Breaches.{at_place}
 use Rattle.file_lints.proofs.FoundInPlatforms.{carried, paired}
-use Rattle.file_lints.proofs.Parts.{NonePartBefore, at_least, clear_keys, first_of, lowest, none_before_first, part_up}
+use Rattle.file_lints.proofs.Parts.{clear_keys, lowest}
+use Rattle.file_lints.proofs.FirstParts.{NonePartBefore, at_least, first_of, none_before_first, part_up}
 use Rattle.file_lints.proofs.first_breach.form_breach.Goals as goal
 
 pub returns-in-Some-clause-some : goal.returns-in-Some-clause-some

@@ -6,7 +6,7 @@ use Rattle.toml.proofs.Views.{get_item_within}
 use Rattle.platform_file.specs.Document.{range_of}
 use Rattle.file_lints.specs.declared.breach.TomlPath.TheVariants.{Ram}
 use Rattle.file_lints.proofs.Items.{makes_from}
-use Rattle.file_lints.proofs.Parts.{before_item, item_low, next_item}
+use Rattle.file_lints.proofs.FirstParts.{before_item, item_low, next_item}
 use Rattle.file_lints.proofs.Steps.{placed_at, step_small}
 use Rattle.file_lints.proofs.first_breach.ram_breach.Goals as goal
 

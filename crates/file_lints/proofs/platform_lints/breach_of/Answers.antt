@@ -2,7 +2,7 @@ use Rattle.std.proofs.Common.{IfSome, Ok, ap, subst, ◌∙◌}
 use Rattle.toml.specs.View.{table_view}
 use Rattle.file_lints.specs.Breaches.{IsBreach}
 use Rattle.file_lints.specs.Order.{IsOfRules}
-use Rattle.file_lints.proofs.Parts.{first_rule}
+use Rattle.file_lints.proofs.FirstParts.{first_rule}
 use Rattle.file_lints.proofs.platform_lints.breach_of.Goals as goal
 
 pub unreachable-requires : goal.unreachable-requires

@@ -1,6 +1,6 @@
 use Rattle.std.proofs.Common.{◌≡◌, ◌+◌, ◌≤◌, drop}
-use Rattle.file_lints.specs.PlatformLints.{position_after}
-use Rattle.file_lints.proofs.platform_lints.position_after.Given as goal
+use Rattle.file_lints.specs.Positions.{position_after}
+use Rattle.file_lints.proofs.positions.position_after.Given as goal
 
 abbrev pub invariant-loop-byte : goal.invariant-loop-byte
 invariant-loop-byte l =
