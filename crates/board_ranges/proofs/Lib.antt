@@ -1,3 +1,4 @@
 mod OneByOne
 mod Live
 mod OneNode
+mod Either

@@ -2,9 +2,10 @@
 use Rattle.std.proofs.Common.{◌≡◌, Bool, true, List, refl, codes}
 use Rattle.device_tree.specs.Pieces.{Part}
 use Rattle.board_ranges.specs.declared.kinds.Place.{Place}
+use Rattle.board_ranges.specs.MachineDevices.{is_machine}
 use Rattle.board_ranges.specs.Properties.{is_okay, value_in}
 use Rattle.board_ranges.specs.Meaning.{has_type, is_there, kind_by, live_kind}
 
-pub live : (place : Place) (P : List Part) (h m u : Bool) → is_okay P ≡ true → h ≡ has_type (codes "cpu") P → m ≡ has_type (codes "memory") P
-    → u ≡ is_there (value_in (codes "no-map") P) → kind_by place h m u ≡ live_kind place P
-live place P h m u ok a b c = rw (a, b, c, ok) refl
+pub live : (place : Place) (P : List Part) (h m u o : Bool) → is_okay P ≡ true → h ≡ has_type (codes "cpu") P → m ≡ has_type (codes "memory") P
+    → u ≡ is_there (value_in (codes "no-map") P) → o ≡ is_machine (value_in (codes "compatible") P) → kind_by place h m u o ≡ live_kind place P
+live place P h m u o ok a b c d = rw (a, b, c, d, ok) refl

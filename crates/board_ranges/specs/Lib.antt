@@ -1,4 +1,5 @@
 pub mod Cells
 pub mod Windows
 pub mod Properties
+pub mod MachineDevices
 pub mod Meaning

@@ -8,7 +8,8 @@ use Rattle.device_tree.specs.Nodes.{Nodes, no_nodes, node, Tree}
 use Rattle.board_ranges.specs.declared.cells.Cells.{Cells}
 use Rattle.board_ranges.specs.declared.rows.Extent.{Extent}
 use Rattle.board_ranges.specs.declared.kinds.Kind.{Kind}
-use Rattle.board_ranges.specs.declared.kinds.Kind.TheVariants.{Memory, Device, Reserved}
+use Rattle.board_ranges.specs.declared.kinds.Kind.TheVariants.{Memory, Device, Machine}
+use Rattle.board_ranges.specs.declared.kinds.Kind.TheVariants.{Reserved, Hart}
 use Rattle.board_ranges.specs.declared.kinds.Place.{Place}
 use Rattle.board_ranges.specs.declared.kinds.Place.TheVariants.{BelowRoot, InReserved}
 use Rattle.board_ranges.specs.declared.kinds.Place.TheVariants.{OnBus, Elsewhere}
@@ -17,6 +18,7 @@ use Rattle.board_ranges.specs.declared.registers.Found.{Found}
 use Rattle.board_ranges.specs.Cells.{AreRows}
 use Rattle.board_ranges.specs.Windows.{AreWindows, Path, by, same, at_root, behind_way}
 use Rattle.board_ranges.specs.Properties.{value_in, cells_in, is_okay}
+use Rattle.board_ranges.specs.MachineDevices.{is_machine}
 
 -- a range of addresses: what it is, where, and the name of the node that says it
 pub record Range : Type 0 where
@@ -37,18 +39,25 @@ is_there (Some value) = true
 abbrev pub has_type : List ℕ → List Part → Bool
 has_type text properties = is_value (text ++ 0 ∷ []) (value_in (codes "device_type") properties)
 
--- what the registers of a node are, by its place and by whether it is a hart, memory, and not to
--- be mapped: in `/reserved-memory` what is not to be mapped; memory below the root; else a device
--- where addresses are those of a bus, but no hart
-abbrev pub kind_by : Place → Bool → Bool → Bool → Option Kind
-kind_by Elsewhere hart memory unmapped = None
-kind_by InReserved hart memory unmapped = cond unmapped (Some Reserved) None
-kind_by BelowRoot hart memory unmapped = cond hart None (cond memory (Some Memory) (Some Device))
-kind_by OnBus hart memory unmapped = cond hart None (cond memory None (Some Device))
+-- a device, or one that is machine mode's
+abbrev pub device_by : Bool → Kind
+device_by machine = cond machine Machine Device
+
+-- what the registers of a node are, by its place and by whether it is a hart, memory, not to be
+-- mapped, and machine mode's: in `/reserved-memory` what is not to be mapped; else a hart; memory
+-- below the root; and a device where addresses are those of a bus
+abbrev pub kind_by : Place → Bool → Bool → Bool → Bool → Option Kind
+kind_by Elsewhere hart memory unmapped machine = cond hart (Some Hart) None
+kind_by InReserved hart memory unmapped machine = cond unmapped (Some Reserved) None
+kind_by BelowRoot hart memory unmapped machine = cond hart (Some Hart)
+    (cond memory (Some Memory) (Some (device_by machine)))
+kind_by OnBus hart memory unmapped machine = cond hart (Some Hart)
+    (cond memory None (Some (device_by machine)))
 
 abbrev pub kind_of : Place → List Part → Option Kind
 kind_of place properties = kind_by place (has_type (codes "cpu") properties)
     (has_type (codes "memory") properties) (is_there (value_in (codes "no-map") properties))
+    (is_machine (value_in (codes "compatible") properties))
 
 abbrev pub live_kind : Place → List Part → Option Kind
 live_kind place properties = cond (is_okay properties) (kind_of place properties) None

@@ -7,8 +7,12 @@ pub enum Kind {
     Memory,
     /// Registers of a device.
     Device,
+    /// Registers of a device that is machine mode's: the timer or the software interrupts of harts.
+    Machine,
     /// Memory that is not to be mapped.
     Reserved,
+    /// A hart: its numbers, each with a size of no cells.
+    Hart,
 }
 
 /// Where a node is.

@@ -7,6 +7,7 @@ mod fault;
 mod head;
 mod inner;
 mod kinds;
+mod machine_devices;
 mod node;
 mod nodes;
 mod properties;

@@ -6,10 +6,11 @@ ghost use Rattle.device_tree.specs.Pieces.{parts_of};
 ghost use Rattle.board_ranges.specs.Cells.{AreRows};
 ghost use Rattle.board_ranges.specs.Windows.{path_of};
 ghost use Rattle.board_ranges.specs.Properties.{value_in};
-ghost use Rattle.board_ranges.specs.Meaning.{AreCells, AreOwn, IsInnerWay, as_ranges, Range, has_type, is_there, is_value, kind_by, kind_of, live_kind, range_of, said_of};
+ghost use Rattle.board_ranges.specs.Meaning.{AreCells, AreOwn, IsInnerWay, as_ranges, Range, device_by, has_type, is_there, is_value, kind_by, kind_of, live_kind, range_of, said_of};
 
 use crate::cells::Cells;
 use crate::kinds::{Kind, Place};
+use crate::machine_devices::is_machine;
 use crate::properties::{cells_in, is_okay, value_of};
 use crate::rows::{Extent, RowFault, rows_of};
 use crate::ways::{Way, windows_of};
@@ -45,12 +46,33 @@ fn is_there(value: Option<&[u8]>) -> bool
     }
 }
 
+/// What the registers of a device are.
+fn device_by(is_machine: bool) -> Kind
+    ensures { result ≡ device_by is_machine }
+{
+    if is_machine {
+        return Kind::Machine;
+    }
+    Kind::Device
+}
+
 /// What the registers of a node are, by its place and by what it is.
-fn kind_by(place: Place, is_hart: bool, is_memory: bool, is_unmapped: bool) -> Option<Kind>
-    ensures { result ≡ kind_by place is_hart is_memory is_unmapped }
+fn kind_by(
+    place: Place,
+    is_hart: bool,
+    is_memory: bool,
+    is_unmapped: bool,
+    is_machine: bool,
+) -> Option<Kind>
+    ensures { result ≡ kind_by place is_hart is_memory is_unmapped is_machine }
 {
     match place {
-        Place::Elsewhere => None,
+        Place::Elsewhere => {
+            if is_hart {
+                return Some(Kind::Hart);
+            }
+            None
+        }
         Place::InReserved => {
             if is_unmapped {
                 return Some(Kind::Reserved);
@@ -59,21 +81,21 @@ fn kind_by(place: Place, is_hart: bool, is_memory: bool, is_unmapped: bool) -> O
         }
         Place::BelowRoot => {
             if is_hart {
-                return None;
+                return Some(Kind::Hart);
             }
             if is_memory {
                 return Some(Kind::Memory);
             }
-            Some(Kind::Device)
+            Some(device_by(is_machine))
         }
         Place::OnBus => {
             if is_hart {
-                return None;
+                return Some(Kind::Hart);
             }
             if is_memory {
                 return None;
             }
-            Some(Kind::Device)
+            Some(device_by(is_machine))
         }
     }
 }
@@ -89,7 +111,8 @@ pub(crate) fn kind_of<'a>(place: Place, properties: &'a [PlacedPiece<'a>]) -> Op
     let is_hart = is_value(device_type, b"cpu\0".as_slice());
     let is_memory = is_value(device_type, b"memory\0".as_slice());
     let is_unmapped = is_there(value_of(properties, b"no-map".as_slice()));
-    kind_by(place, is_hart, is_memory, is_unmapped)
+    let is_machine = is_machine(value_of(properties, b"compatible".as_slice()));
+    kind_by(place, is_hart, is_memory, is_unmapped, is_machine)
 }
 
 /// The cells that a node gives its children, where they are numbers up to four.

@@ -1,0 +1,6 @@
+mod Laid
+mod Same
+mod Parts
+mod Files
+mod Refusals
+mod PageNumbers

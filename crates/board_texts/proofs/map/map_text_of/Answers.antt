@@ -1,0 +1,14 @@
+use Rattle.std.proofs.Common.{◌∙◌, ap}
+use Rattle.device_tree.specs.Pieces.{parts_of}
+use Rattle.board_texts.proofs.map.map_text_of.Goals as goal
+
+pub returns-in-Ok-map_of_pieces-clause-ok : goal.returns-in-Ok-map_of_pieces-clause-ok
+returns-in-Ok-map_of_pieces-clause-ok c =
+    let read = c.in-Ok.ensures.ok in
+    let said = c.in-Ok-map_of_pieces.ensures.ok read.0 (ap parts_of c.as_slice.ensures.value ∙ read.2) in
+    record {
+      ranges = said.0;
+      reservations = c.in-Ok.tree.reservations.items;
+      board = record { tree = read.0; read = read.1; says = said.1 };
+      map = rw c.as_slice-2.ensures.value at said.2;
+    }

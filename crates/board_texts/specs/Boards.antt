@@ -1,0 +1,96 @@
+-- A board: what the bytes of its tree say, where the monitor is, and what the text of a map is.
+use Rattle.std.specs.Prelude.{◌≡◌, ◌≢◌, ⊤, ℕ, ◌*◌, Bool, leb, ◌&&◌}
+use Rattle.std.specs.Prelude.{List, [], ◌∷◌, ◌++◌, length, take, bytes_eq, codes}
+use Rattle.pmp_encoding.specs.Perms.{perm_word}
+use Rattle.pmp_encoding.specs.Views.{SameView}
+use Rattle.permission_map.specs.declared.runs.Run.{Run}
+use Rattle.permission_map.specs.Runs.{AreRuns, view_of_runs}
+use Rattle.map_text.specs.MapFile.{Makes}
+use Rattle.device_tree.specs.declared.reservations.Reservation.{Reservation}
+use Rattle.device_tree.specs.Nodes.{Tree}
+use Rattle.device_tree.specs.Trees.{ReadsAs}
+use Rattle.board_ranges.specs.Meaning.{Range, TreeSays}
+use Rattle.lint_texts.specs.Pieces.{address_text}
+use Rattle.device_tree.specs.declared.fault.TreeFault.{TreeFault}
+use Rattle.device_tree.specs.declared.fault.TreeReason.TheVariants as tree_reasons
+use Rattle.board_texts.specs.declared.fault.BoardTextFault.{BoardTextFault}
+use Rattle.board_texts.specs.declared.fault.BoardTextFault.TheVariants as faults
+use Rattle.board_texts.specs.Comments.{comments_on, lefts_text, reservations_text}
+use Rattle.board_texts.specs.Views.{board_view, nowhere}
+
+-- bytes begin as a flattened device tree does
+abbrev pub is_tree : List ℕ → Bool
+is_tree bytes = leb 4 (length bytes) && bytes_eq (take 4 bytes) (0xd0 ∷ 0x0d ∷ 0xfe ∷ 0xed ∷ [])
+
+-- the bytes begin with a device tree, and it says these ranges and has these reservations
+pub record IsBoard (bytes : List ℕ) (ranges : List Range) (reservations : List Reservation) :
+    Type 0 where
+  pub tree : Tree
+  pub read : ReadsAs bytes tree reservations
+  pub says : TreeSays tree ranges
+
+-- a line of a map
+abbrev pub run_text : Run → List ℕ
+run_text run = address_text (4096 * run.first) ++ (codes " " ++ (address_text (4096 * run.count)
+    ++ (codes " " ++ (perm_word run.perm ++ codes "\n"))))
+
+-- a run of a map: the ranges that it is from, and its line
+abbrev pub item_text : List Range → Run → List ℕ
+item_text ranges run = comments_on run ranges ++ run_text run
+
+-- each run of a map
+abbrev pub lines_text : List Range → List Run → List ℕ
+lines_text ranges [] = []
+lines_text ranges (run ∷ runs) = item_text ranges run ++ lines_text ranges runs
+
+-- what the text of a map begins with
+unfoldable pub map_head : List ℕ
+map_head = codes "# The map of a device tree: memory rwx, devices rw. It does not name nodes that are\n"
+    ++ codes "# not in use, /reserved-memory without no-map or reg, and what is reached through PCI.\n"
+
+-- the text of a board's map
+abbrev pub board_map_text : List Range → List Reservation → List Run → List ℕ
+board_map_text ranges reservations runs = map_head ++ (lines_text ranges runs
+    ++ (lefts_text runs ranges ++ reservations_text reservations))
+
+-- the text is the map of a board: its lines make the map of what the board gives on each page
+pub record IsBoardMap (ranges : List Range) (reservations : List Reservation) (text : List ℕ) :
+    Type 0 where
+  pub runs : List Run
+  pub are_runs : AreRuns runs
+  pub view_is : SameView (view_of_runs runs) (board_view nowhere ranges)
+  pub text_is : text ≡ board_map_text ranges reservations runs
+  pub made : Makes text runs
+
+-- faults of a tree that was read: the numbers of a node, too many ranges, a text that is not read
+-- back, and memory
+abbrev pub IsLateFault : BoardTextFault → Type 0
+IsLateFault (faults.Tree fault) = ⊥
+IsLateFault (faults.Ranges fault) = ⊤
+IsLateFault faults.TooManyRanges = ⊤
+IsLateFault faults.NoMonitor = ⊥
+IsLateFault (faults.Rule fault) = ⊥
+IsLateFault faults.NotReadBack = ⊤
+IsLateFault faults.Memory = ⊤
+
+-- the bytes begin with no tree that is read, but for want of memory
+abbrev pub IsNoTree : List ℕ → TreeFault → Type 0
+IsNoTree bytes fault = fault.reason ≢ tree_reasons.Memory
+    → (tree : Tree) (reservations : List Reservation) → ReadsAs bytes tree reservations → ⊥
+
+-- when there is no map of a tree
+abbrev pub IsNoMap : List ℕ → BoardTextFault → Type 0
+IsNoMap bytes (faults.Tree fault) = IsNoTree bytes fault
+IsNoMap bytes (faults.Ranges fault) = ⊤
+IsNoMap bytes faults.TooManyRanges = ⊤
+IsNoMap bytes faults.NoMonitor = ⊥
+IsNoMap bytes (faults.Rule fault) = ⊥
+IsNoMap bytes faults.NotReadBack = ⊤
+IsNoMap bytes faults.Memory = ⊤
+
+-- the bytes are those of a device tree, and the text is the map of its board
+pub record IsMapOfTree (bytes text : List ℕ) : Type 0 where
+  pub ranges : List Range
+  pub reservations : List Reservation
+  pub board : IsBoard bytes ranges reservations
+  pub map : IsBoardMap ranges reservations text

@@ -1,0 +1,101 @@
+//! Which pages a range of a board has.
+
+ghost use Rattle.std.specs.Prelude.{◌≡◌, ◌+◌, ◌^◌, ◌<◌, ◌≤◌, ℕ};
+ghost use Rattle.pmp_encoding.specs.Views.{in_range};
+ghost use Rattle.board_ranges.specs.declared.rows.Extent.{Extent};
+ghost use Rattle.board_texts.specs.Pages.{has_all_of, has_byte_of, inner, outer, page_from, page_of, pages_of, range_of, span};
+
+use board_ranges::{Extent, Found, Kind};
+use pmp_encoding::{PAGE_SIZE, PageRange, SPACE_PAGES};
+
+/// The page of a byte, or the end of the space.
+fn page_of(byte: u64) -> u64
+    ensures { result ≡ page_of byte }
+{
+    (byte / PAGE_SIZE).min(SPACE_PAGES)
+}
+
+/// The first page that does not begin before the byte, or the end of the space.
+fn page_from(byte: u64) -> u64
+    ensures { result ≡ page_from byte }
+{
+    let page = byte / PAGE_SIZE;
+    if byte % PAGE_SIZE == 0 {
+        return page.min(SPACE_PAGES);
+    }
+    (page + 1).min(SPACE_PAGES)
+}
+
+/// The first page behind the extent.
+fn page_behind(extent: Extent) -> u64
+    ensures { result ≡ page_from (extent.base + extent.size) }
+{
+    match extent.base.checked_add(extent.size) {
+        Some(end) => page_from(end),
+        None => SPACE_PAGES,
+    }
+}
+
+/// The page that the extent ends in, or at the beginning of.
+fn page_within(extent: Extent) -> u64
+    ensures { result ≡ page_of (extent.base + extent.size) }
+{
+    match extent.base.checked_add(extent.size) {
+        Some(end) => page_of(end),
+        None => SPACE_PAGES,
+    }
+}
+
+/// The pages from one to another.
+fn span(first: u64, end: u64) -> PageRange
+    requires begins { first ≤ 2 ^ 44 }
+    requires ends { end ≤ 2 ^ 44 }
+    ensures value { result ≡ span first end }
+    ensures inside { result.first + result.count ≤ 2 ^ 44 }
+{
+    PageRange {
+        first,
+        count: end.saturating_sub(first),
+    }
+}
+
+/// The pages that have a byte of the extent.
+pub(crate) fn outer(extent: Extent) -> PageRange
+    ensures value { result ≡ outer extent }
+    ensures inside { result.first + result.count ≤ 2 ^ 44 }
+{
+    if extent.size == 0 {
+        return span(0, 0);
+    }
+    span(page_of(extent.base), page_behind(extent))
+}
+
+/// The pages whose bytes are all the extent's.
+fn inner(extent: Extent) -> PageRange
+    ensures value { result ≡ inner extent }
+    ensures inside { result.first + result.count ≤ 2 ^ 44 }
+{
+    span(page_from(extent.base), page_within(extent))
+}
+
+/// The pages that a range stands for.
+pub(crate) fn pages_of<'a>(found: &Found<'a>) -> PageRange
+    ensures value { result ≡ pages_of (range_of found.now) }
+    ensures inside { result.first + result.count ≤ 2 ^ 44 }
+{
+    match found.kind {
+        Kind::Memory => inner(found.extent),
+        Kind::Device => outer(found.extent),
+        Kind::Machine => outer(found.extent),
+        Kind::Reserved => outer(found.extent),
+        Kind::Hart => span(0, 0),
+    }
+}
+
+/// The pages that have a byte of an extent are `outer` ones, and those that have no byte of anything else are `inner` ones.
+pub fn pages_law()
+    ensures outer { (extent : Extent) (page : ℕ) → page < 2 ^ 44
+        → in_range (outer extent).first (outer extent).count page ≡ has_byte_of extent page }
+    ensures inner { (extent : Extent) (page : ℕ) → page < 2 ^ 44
+        → in_range (inner extent).first (inner extent).count page ≡ has_all_of extent page }
+{}
