@@ -105,6 +105,8 @@ fn trap_in(bytes: &[u8; 352], harts: u8, trap: &mut Trap) -> bool
     ensures trap { result ≡ true → IsTrapFrame bytes.now harts trap.new }
     ensures none { result ≡ false → (one : TrapOf) → IsTrapFrame bytes.now harts one → ⊥ }
 {
+    // (before the checks: what comes after so many is compiled as what seldom comes)
+    let control = control_in(bytes);
     let Some(event) = event_in(word(bytes, 0)) else {
         return false;
     };
@@ -115,13 +117,13 @@ fn trap_in(bytes: &[u8; 352], harts: u8, trap: &mut Trap) -> bool
     if word(bytes, 34) != TAG_CONTROL {
         return false;
     }
-    if is_machine(word(bytes, 43)) {
+    if is_machine(control.mode) {
         return false;
     }
     trap.event = event;
     trap.hart = hart as u8;
     registers_in(bytes, &mut trap.registers);
-    trap.control = control_in(bytes);
+    trap.control = control;
     true
 }
 

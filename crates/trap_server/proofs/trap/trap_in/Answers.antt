@@ -9,7 +9,7 @@ returns-in_default-clause-none c = λ is. no_event c.args.bytes.now c.args.harts
 
 pub returns-then-is_machine-clause-none : goal.returns-then-is_machine-clause-none
 returns-then-is_machine-clause-none c = λ is trap frame.
-    true≢false (sym c.if-is_machine.true ∙ c.is_machine.ensures ∙ ap is_machine (c.word-3.ensures ∙ sym frame.control.mode) ∙ frame.below)
+    true≢false (sym c.if-is_machine.true ∙ c.is_machine.ensures ∙ ap is_machine (c.control_in-control.ensures.mode ∙ sym frame.control.mode) ∙ frame.below)
 
 pub returns-clause-trap : goal.returns-clause-trap
 returns-clause-trap c = λ is. record {
@@ -18,6 +18,9 @@ returns-clause-trap c = λ is. record {
   known = omega (arith, c.if-hart-from.false, c.from.ensures);
   registers = c.registers_in.ensures;
   control_follows = sym c.word-2.ensures ∙ c.if-word-ne-TAG_CONTROL.false;
-  control = c.control_in-trap.ensures;
-  below = ap is_machine (c.control_in-trap.ensures.mode ∙ sym c.word-3.ensures) ∙ sym c.is_machine.ensures ∙ c.if-is_machine.false;
+  control = c.control_in-control.ensures;
+  below = sym c.is_machine.ensures ∙ c.if-is_machine.false;
 }
+
+pub overflow_cast-trap : goal.overflow_cast-trap
+overflow_cast-trap c = omega (arith, c.if-hart-from.false, c.from.ensures, c.ranges.harts.fits)
