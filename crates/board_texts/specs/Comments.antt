@@ -88,7 +88,7 @@ comments_on run (range ∷ ranges) = comment_text run range ++ comments_on run r
 -- why a range is left out
 unfoldable pub left_reason : Kind → List ℕ
 left_reason Memory = codes "; no whole page of it is left\n"
-left_reason Device = codes "; its pages are memory, or denied\n"
+left_reason Device = codes "; it has no page that is neither memory nor denied\n"
 left_reason Machine = codes "; it is the timer of harts or interrupts them\n"
 left_reason Reserved = codes "; nothing else is to map it\n"
 left_reason Hart = codes "\n"

@@ -190,7 +190,7 @@ fn left_reason(kind: Kind) -> &'static str
 {
     match kind {
         Kind::Memory => "; no whole page of it is left\n",
-        Kind::Device => "; its pages are memory, or denied\n",
+        Kind::Device => "; it has no page that is neither memory nor denied\n",
         Kind::Machine => "; it is the timer of harts or interrupts them\n",
         Kind::Reserved => "; nothing else is to map it\n",
         Kind::Hart => "\n",
