@@ -3,7 +3,7 @@
 
   tests/board_trees/run.py
 
-No command prints them yet, so a program of its own does (`main.rt`), which is built without proof in half a minute: this is a test
+No command prints them yet, so a program of its own does (`main.txt`: the kit takes a .rt file in src/ alone), which is built without proof in half a minute: this is a test
 of what the texts say, and the proof is one of what they mean. Trees written here have each case in which a tree does not say what
 a map wants to know; what has to come of them is written beside them, by docs/DECISIONS.md, 392 to 397. Of QEMU's trees the
 registers of each node are asked of fdtget, and rounded here. Of one tree of each board 100,000 copies with up to four bytes
@@ -53,7 +53,7 @@ def build(folder):
     (folder / "crates.txt").write_text("\n".join([*lines, "board_trees: board_texts"]) + "\n")
     shutil.copy(TOP / "HANDLES", folder)
     (folder / "crates/board_trees/src").mkdir(parents=True)
-    shutil.copy(HERE / "main.rt", folder / "crates/board_trees/src/main.rt")
+    shutil.copy(HERE / "main.txt", folder / "crates/board_trees/src/main.rt")
     program = folder / "board_trees"
     subprocess.run([TOP / "tools/unproved_program", program, folder / "crates/board_trees"], check=True, capture_output=True)
     return program
