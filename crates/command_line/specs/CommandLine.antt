@@ -64,6 +64,10 @@ first_rule = option_rule (codes "first") []
 abbrev pub xlen_rule : Rule
 xlen_rule = option_rule (codes "xlen") (codes "64" ∷ [])
 
+-- `--mode`, which is u where it is not given
+abbrev pub mode_rule : Rule
+mode_rule = option_rule (codes "mode") (codes "u" ∷ [])
+
 -- `--registers`, which takes no value
 abbrev pub registers_rule : Rule
 registers_rule = flag_rule (codes "registers")
@@ -168,10 +172,12 @@ show_app = with_rule
     (with_rule
     (with_rule
     (with_rule
+    (with_rule
     (with_rule (with_rule (with_rule (new_app (codes "show")) (file_rule (codes "MAP") true))
     entries_rule) at_most_rule)
     registers_rule)
     xlen_rule)
+    mode_rule)
     format_rule)
     costs_rule)
     hints_rule
@@ -180,15 +186,17 @@ abbrev pub audit_app : App
 audit_app = with_rule
     (with_rule
     (with_rule
+    (with_rule
     (with_rule (with_rule (new_app (codes "audit")) (file_rule (codes "MAP") true))
     (file_rule (codes "REGISTERS") true))
     all_rule)
     xlen_rule)
+    mode_rule)
     hints_rule
 
 abbrev pub map_app : App
-map_app = with_rule (with_rule (with_rule (new_app (codes "map"))
-    (file_rule (codes "REGISTERS") true)) xlen_rule) hints_rule
+map_app = with_rule (with_rule (with_rule (with_rule (new_app (codes "map"))
+    (file_rule (codes "REGISTERS") true)) xlen_rule) mode_rule) hints_rule
 
 abbrev pub lint_app : App
 lint_app = with_rule

@@ -88,6 +88,14 @@ pub const XLEN: Argument<'static> = Argument::Value {
     help: "How many bits the hart's registers have",
 };
 
+/// The mode that is asked what it may do by registers.
+pub const MODE: Argument<'static> = Argument::Value {
+    name: "mode",
+    value: "m|s|u",
+    default: Some("u"),
+    help: "The mode that the registers bind: m for machine mode",
+};
+
 /// The platform that a trace is for.
 pub const PLATFORM: Argument<'static> = Argument::Value {
     name: "platform",

@@ -21,6 +21,7 @@ fn kind_of(fault: &Fault<'_>) -> ErrorKind
         | Fault::Format(_)
         | Fault::TableFormat(_)
         | Fault::Xlen(_)
+        | Fault::Mode(_)
         | Fault::Hints(_) => ErrorKind::InvalidValue,
         Fault::AtMost(_)
         | Fault::Name(_)
@@ -33,6 +34,7 @@ fn kind_of(fault: &Fault<'_>) -> ErrorKind
         | Fault::TwoAnswers
         | Fault::NoPicture
         | Fault::NoCosts
+        | Fault::NoMachine
         | Fault::TakesPlace(_) => ErrorKind::ArgumentConflict,
     }
 }

@@ -8,7 +8,7 @@ ghost use Rattle.command_line.specs.ClapModel.{app_by, with_arguments};
 
 use crate::arguments::{
     ALL, AT_MOST, Argument, COSTS, DATA, ENTRIES, ENTRY, EXPECT, EXPLAIN, FIRST, FORMAT, HINTS,
-    MEASURE, NAME, PLATFORM, SHARED, TABLE_FORMAT, TEXT, TRACE, XLEN,
+    MEASURE, MODE, NAME, PLATFORM, SHARED, TABLE_FORMAT, TEXT, TRACE, XLEN,
 };
 use program_tasks::Subcommand;
 
@@ -28,7 +28,7 @@ const AS_THEY_STAND: &str = "Read MAP as a listing of registers, which are taken
 
 const RUN_ROW: Row<'static> = Row {
     about: "Boot a platform and run a trace of accesses, calls and interrupts on it",
-    more: "A platform file is TOML: [monitor] and one [[ram]] or more, each with base and size in bytes, whole pages of 4096;\n[[device]] with a perm too; and, above them, harts = 1 to 4 (1) and entries = 16 or 64 (16).\n\nA trace has a line for each event, with M s or u, and SIZE 1, 2, 4 or 8 (for a fetch 2 or 4):\n\n  fetch M SIZE ADDR\n  load M SIZE ADDR\n  store M SIZE ADDR VALUE\n  reg xN VALUE\n  ecall W1 .. Wk         up to 8 words, put in a7, a6, a0 to a5\n  irq                    the timer's interrupt\n\n@H before an event names its hart, from 0. # begins a comment. The monitor's calls are\n\n  ecall 0x08454E43 0 BASE TEXT DATA SHARED_BASE SHARED ENTRY    create (pages; ENTRY is an offset in bytes)\n  ecall 0x08454E43 1 ID     destroy         ecall 0x08454E43 2 ID     run\n  ecall 0x08454E43 3        stop            ecall 0x08454E43 4 ID     resume\n  ecall 0x08454E43 5 VALUE  exit            ecall 0x08454E43 6 ID K   word K of the measurement\n\nEach event N is answered by 'N ok', 'N ok VALUE' (a load), 'N fault CAUSE', 'N call STATUS VALUE WORLD USED' or\n'N irq WORLD USED': WORLD is 0 for the host or an enclave's id, and USED how many PMP entries are loaded.\n\nWith --expect each answer is compared with the one that the comment of its line begins with, as '# 3 fault 5' or\n'# fault 5: why'. Where one differs the first that does is told after the report, with status 1.\n\nWith --explain a comment behind each answer says what happened, which entry decided an access and why a call was refused:\n'5 call -101 0x0000000000000000 1 1 # hart 0, enclave 1: run 1: refused, not the host'.\nA summary of the run comes last, in lines that begin with '# '.\n\nExamples:\n  pmpmon run platform.toml trace.txt --measure\n  pmpmon run platform.toml trace.txt --expect",
+    more: "A platform file is TOML: [monitor] and one [[ram]] or more, each with base and size in bytes, whole pages of 4096;\n[[device]] with a perm too; and, above them, harts = 1 to 4 (1) and entries = 16 or 64 (16).\n\nA trace has a line for each event, with M s or u, and SIZE 1, 2, 4 or 8 (for a fetch 2 or 4):\n\n  fetch M SIZE ADDR\n  load M SIZE ADDR\n  store M SIZE ADDR VALUE\n  reg xN VALUE\n  ecall W1 .. Wk         up to 8 words, put in a7, a6, a0 to a5\n  irq                    the timer's interrupt\n\n@H before an event names its hart, from 0. # begins a comment. The monitor's calls are\n\n  ecall 0x08454E43 0 BASE TEXT DATA SHARED_BASE SHARED ENTRY    create (pages; ENTRY is an offset in bytes)\n  ecall 0x08454E43 1 ID     destroy         ecall 0x08454E43 2 ID     run\n  ecall 0x08454E43 3        stop            ecall 0x08454E43 4 ID     resume\n  ecall 0x08454E43 5 VALUE  exit            ecall 0x08454E43 6 ID K   word K of the measurement\n\nEach event N is answered by 'N ok', 'N ok VALUE' (a load), 'N fault CAUSE', 'N call STATUS VALUE WORLD USED' or\n'N irq WORLD USED': WORLD is 0 for the host or an enclave's id, and USED how many PMP entries are loaded.\n\nWith --expect each answer is compared with the one that the comment of its line begins with, as '# 3 fault 5' or\n'# fault 5: why'. Where one differs the first that does is told after the report, with status 1.\nWhich comments look like an answer and are none, as '# Fault 5', standard error says at the end.\n\nWith --explain a comment behind each answer says what happened, which entry decided an access and why a call was refused:\n'5 call -101 0x0000000000000000 1 1 # hart 0, enclave 1: run 1: refused, not the host'.\nA summary of the run comes last, in lines that begin with '# '.\n\nExamples:\n  pmpmon run platform.toml trace.txt --measure\n  pmpmon run platform.toml trace.txt --expect",
     arguments: &[
         Argument::File("PLATFORM", "The platform file"),
         Argument::File("TRACE", "The trace of events"),
@@ -57,7 +57,7 @@ const PLAN_ROW: Row<'static> = Row {
 
 const JUDGE_ROW: Row<'static> = Row {
     about: "Load a map's entries, or take registers as they stand, and judge the accesses of a trace by them",
-    more: "A trace has a line for each access, with M s or u, and SIZE 1, 2, 4 or 8 (for a fetch 2 or 4):\n\n  fetch M SIZE ADDR\n  load M SIZE ADDR\n  store M SIZE ADDR VALUE\n\nEach is answered by 'N ok' or 'N fault CAUSE'.\n\nWith --registers MAP is a listing of registers, as audit takes it: OFF, TOR, NA4 and NAPOT, locked or not. --entries says\nnothing then. Registers with reserved values, or beside an mseccfg with a bit that is not known, judge nothing:\none line says why, with status 1.\n\nWith --xlen 32 the registers are those of RV32, and a map with a byte at or beyond 2^34 is too far for it, with status 2.\n\nWith --expect each answer is compared with the one that the comment of its line begins with, as '# ok' or '# fault 5: why'.\nWhere one differs the first that does is told after the answers, with status 1.\n\nWith --explain a comment behind each answer says which entry decided it: '1 ok # entry 0: 0x80000000-0x80000fff rwx'.\n\nExamples, with a file trace.txt that holds the line 'load s 8 0x80000ff8':\n  pmpmon judge map.txt trace.txt\n  pmpmon judge --registers board.txt trace.txt",
+    more: "A trace has a line for each access, with M s or u, and SIZE 1, 2, 4 or 8 (for a fetch 2 or 4):\n\n  fetch M SIZE ADDR\n  load M SIZE ADDR\n  store M SIZE ADDR VALUE\n\nEach is answered by 'N ok' or 'N fault CAUSE'.\n\nWith --registers MAP is a listing of registers, as audit takes it: OFF, TOR, NA4 and NAPOT, locked or not. --entries says\nnothing then. Registers with reserved values, or beside an mseccfg with a bit that is not known, judge nothing:\none line says why, with status 1. Where lines of other registers are passed over, standard error says so.\n\nWith --xlen 32 the registers are those of RV32, and a map with a byte at or beyond 2^34 is too far for it, with status 2.\n\nWith --expect each answer is compared with the one that the comment of its line begins with, as '# ok' or '# fault 5: why'.\nWhere one differs the first that does is told after the answers, with status 1.\nWhich comments look like an answer and are none, as '# Fault 5', standard error says at the end.\n\nWith --explain a comment behind each answer says which entry decided it: '1 ok # entry 0: 0x80000000-0x80000fff rwx'.\n\nExamples, with a file trace.txt that holds the line 'load s 8 0x80000ff8':\n  pmpmon judge map.txt trace.txt\n  pmpmon judge --registers board.txt trace.txt",
     arguments: &[
         Argument::File(
             "MAP",
@@ -85,7 +85,7 @@ const CHECK_ROW: Row<'static> = Row {
 
 const SHOW_ROW: Row<'static> = Row {
     about: "Print a map, or what registers mean, as a table, each stretch with the entry that decides it",
-    more: "Prints the map as a table: each stretch of bytes with one permission that one entry decides, its size, its\npermission (r, w, x, a hyphen for each that it lacks), the entry, and the entries that it overrides there; then all\nelse; then how many entries the map needs, and whether a hart of --entries has as many.\n\nWith --costs lines as 'without line 3: 22 entries' follow, one for each line of the map that sets something: what it\nneeds without that line. With --format svg the table is a picture, with --format json one object, without costs.\nNone of them can be used with --registers.\n\nWith --registers the file is a listing of registers, as audit takes it, and the table says what they give: OFF, TOR, NA4\nand NAPOT, locked or not. --entries and --at-most say nothing then. Registers with reserved values, or beside an mseccfg\nwith a bit that is not known, have no table: one line says why, with status 1.\n\nWith --xlen 32 the registers are those of RV32, and a map with a byte at or beyond 2^34 is too far for it, with status 2.\n\nExamples:\n  pmpmon show map.txt --entries 64\n  pmpmon show map.txt --format svg > map.svg\n  pmpmon show --registers board.txt",
+    more: "Prints the map as a table: each stretch of bytes with one permission that one entry decides, its size, its\npermission (r, w, x, a hyphen for each that it lacks), the entry, and the entries that it overrides there; then all\nelse; then how many entries the map needs, and whether a hart of --entries has as many.\n\nWith --costs lines as 'without line 3: 22 entries' follow, one for each line of the map that sets something: what it\nneeds without that line. With --format svg the table is a picture, with --format json one object, without costs.\nNone of them can be used with --registers.\n\nWith --registers the file is a listing of registers, as audit takes it, and the table says what they give: OFF, TOR, NA4\nand NAPOT, locked or not. --entries and --at-most say nothing then. Registers with reserved values, or beside an mseccfg\nwith a bit that is not known, have no table: one line says why, with status 1. With\n--mode m the table says what they give machine mode, and all else what it may do where no entry matches.\n\nWith --xlen 32 the registers are those of RV32, and a map with a byte at or beyond 2^34 is too far for it, with status 2.\n\nExamples:\n  pmpmon show map.txt --entries 64\n  pmpmon show map.txt --format svg > map.svg\n  pmpmon show --registers board.txt",
     arguments: &[
         Argument::File(
             "MAP",
@@ -95,6 +95,7 @@ const SHOW_ROW: Row<'static> = Row {
         AT_MOST,
         Argument::Flag("registers", AS_THEY_STAND),
         XLEN,
+        MODE,
         TABLE_FORMAT,
         COSTS,
         HINTS,
@@ -103,22 +104,24 @@ const SHOW_ROW: Row<'static> = Row {
 
 const AUDIT_ROW: Row<'static> = Row {
     about: "Say whether registers mean a map, or where they differ first",
-    more: "REGISTERS is what 'plan' prints, or lines 'pmpaddrN VALUE' and 'pmpcfgK VALUE' in any order; a later line overrides an\nearlier one, and what no line sets is zero.\n\nPrints 'means the map: 5 entries where 3 are enough'; or, with status 1, the first stretch that differs (with --all each),\nwhat the map and the registers say there and which entry says it, or the first pair that no entry has. Lines of other\nregisters are passed over, which a comment says. mseccfg of Smepmp\nis decided; with a bit that is not known there is no verdict, with status 1.\n\nWith --xlen 32 the registers are those of RV32: pmpcfgK has four entries from 4K on, numbers have 32 bits, and a map with a\nbyte at or beyond 2^34 is too far.\n\nExample:\n  pmpmon audit map.txt registers.txt",
+    more: "REGISTERS is what 'plan' prints, or lines 'pmpaddrN VALUE' and 'pmpcfgK VALUE' in any order; a later line overrides an\nearlier one, and what no line sets is zero.\n\nPrints 'means the map: 5 entries where 3 are enough'; or, with status 1, the first stretch that differs (with --all each),\nwhat the map and the registers say there and which entry says it, or the first pair that no entry has. Lines of other\nregisters are passed over, which a comment says. mseccfg of Smepmp\nis decided; with a bit that is not known there is no verdict, with status 1.\n\nWith --mode m the map is what machine mode may do, and how many entries are enough is not said. It is asked of supervisor\nand user mode otherwise, which the registers bind alike.\n\nWith --xlen 32 the registers are those of RV32: pmpcfgK has four entries from 4K on, numbers have 32 bits, and a map with a\nbyte at or beyond 2^34 is too far.\n\nExample:\n  pmpmon audit map.txt registers.txt",
     arguments: &[
         Argument::File("MAP", "The map file"),
         Argument::File("REGISTERS", "The listing of the registers"),
         ALL,
         XLEN,
+        MODE,
         HINTS,
     ],
 };
 
 const MAP_ROW: Row<'static> = Row {
     about: "Print the map that registers mean, where they mean one by whole pages",
-    more: "REGISTERS is a listing of registers, as audit takes it. Prints a line 'BASE SIZE PERM' for each range of pages that\nsupervisor and user mode may use: a map file, which plan makes the fewest entries of.\n\nStatus 1, and one line that says why, where no map of whole pages is what the registers mean.\n\nWith --xlen 32 the registers are those of RV32, whose space has 2^34 bytes.\n\nExample:\n  pmpmon map board.txt | pmpmon plan -",
+    more: "REGISTERS is a listing of registers, as audit takes it. Prints a line 'BASE SIZE PERM' for each range of pages that\nsupervisor and user mode may use: a map file, which plan makes the fewest entries of.\n\nWith --mode m it is the map of what machine mode may do. Where lines of other registers are passed over, standard error\nsays so.\n\nStatus 1, and one line that says why, where no map of whole pages is what the registers mean.\n\nWith --xlen 32 the registers are those of RV32, whose space has 2^34 bytes.\n\nExample:\n  pmpmon map board.txt | pmpmon plan -",
     arguments: &[
         Argument::File("REGISTERS", "The listing of the registers"),
         XLEN,
+        MODE,
         HINTS,
     ],
 };

@@ -1,3 +1,4 @@
+pub mod Answered
 pub mod Lint
 pub mod Traces
 pub mod Audit

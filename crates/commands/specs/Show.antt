@@ -5,6 +5,7 @@ use Rattle.std.specs.Borrow.{Bor}
 use Rattle.byte_streams.specs.Writings.{Breaks, IsUnwritten, TakesAll, Writing}
 use Rattle.pmp_encoding.specs.declared.limit.Limit.{Limit}
 use Rattle.pmp_encoding.specs.declared.region.Entry.{Entry}
+use Rattle.pmp_match.specs.declared.access.Mode.{Mode}
 use Rattle.pmp_match.specs.Meaning.{View}
 use Rattle.permission_map.specs.declared.runs.Run.{Run}
 use Rattle.permission_map.specs.Runs.{view_of_runs}
@@ -65,31 +66,31 @@ pub data Shows {R W : Type 0} (map : Bor (List ℕ)) (xlen : Xlen) (limit : Limi
       → IsShown format costs bytes (view_of_runs runs) entries limit text → Breaks text out
       → Shows map xlen limit at_most format costs first out (Err Output)
 
--- `show --registers`: the listing of registers is read, and the table of what they give is printed,
--- or why they mean nothing
-pub data ShowsRegisters {R W : Type 0} (registers : Bor (List ℕ)) (xlen : Xlen) (first : Reading R)
-    (out : Writing W) : Result ℕ Trouble → Type 0 where
+-- `show --registers`: the listing of registers is read, and the table of what they give a mode is
+-- printed, or why they mean nothing
+pub data ShowsRegisters {R W : Type 0} (registers : Bor (List ℕ)) (xlen : Xlen) (mode : Mode)
+    (first : Reading R) (out : Writing W) : Result ℕ Trouble → Type 0 where
   told :
       (listing text : List ℕ) (meant : Bool) → HasBytes (2 ^ 20) first listing
-      → IsRegisterTable xlen listing text meant → TakesAll text out
-      → ShowsRegisters registers xlen first out (Ok (answer_status meant))
+      → IsRegisterTable mode xlen listing text meant → TakesAll text out
+      → ShowsRegisters registers xlen mode first out (Ok (answer_status meant))
   no_bytes : (trouble : Trouble) → HasNoBytes (2 ^ 20) registers first trouble → IsUnwritten out
-      → ShowsRegisters registers xlen first out (Err trouble)
+      → ShowsRegisters registers xlen mode first out (Err trouble)
   no_memory : (listing : List ℕ) → HasBytes (2 ^ 20) first listing → IsUnwritten out
-      → ShowsRegisters registers xlen first out (Err Memory)
+      → ShowsRegisters registers xlen mode first out (Err Memory)
   not_understood :
       (listing : List ℕ) (n : ℕ) → HasBytes (2 ^ 20) first listing → IsFirstUnknown xlen listing n
-      → IsUnwritten out → ShowsRegisters registers xlen first out
+      → IsUnwritten out → ShowsRegisters registers xlen mode first out
       (Err (NotUnderstood registers n))
   no_output :
       (listing text : List ℕ) (meant : Bool) → HasBytes (2 ^ 20) first listing
-      → IsRegisterTable xlen listing text meant → Breaks text out
-      → ShowsRegisters registers xlen first out (Err Output)
+      → IsRegisterTable mode xlen listing text meant → Breaks text out
+      → ShowsRegisters registers xlen mode first out (Err Output)
 
 -- `show`, with `--registers` or without
-abbrev pub ShowsAs : {R W : Type 0} → Bool → Bor (List ℕ) → Xlen → Limit → Option ℕ → TableFormat
-    → Bool → Reading R → Writing W → Result ℕ Trouble → Type 0
-ShowsAs true file xlen limit at_most format costs first out done =
-    ShowsRegisters file xlen first out done
-ShowsAs false file xlen limit at_most format costs first out done =
+abbrev pub ShowsAs : {R W : Type 0} → Bool → Bor (List ℕ) → Xlen → Mode → Limit → Option ℕ
+    → TableFormat → Bool → Reading R → Writing W → Result ℕ Trouble → Type 0
+ShowsAs true file xlen mode limit at_most format costs first out done =
+    ShowsRegisters file xlen mode first out done
+ShowsAs false file xlen mode limit at_most format costs first out done =
     Shows file xlen limit at_most format costs first out done

@@ -19,6 +19,8 @@
 //! the checker accepts, and [`bank_of`] answers the bank of a list that fits it. A certificate goes to a [`CertificateSink`]: whole
 //! into a place, or straight into any sink.
 //!
+//! What a command says beside its status is in what it answers ([`Answered`]).
+//!
 //! No command is inlined: the program that calls all of them would have the buffers of all on its stack, whatever it does.
 //!
 //! ```rust
@@ -26,6 +28,7 @@
 //! ```
 #![tactic(auto)]
 
+mod answered;
 mod certificate_sink;
 mod certified_plan;
 mod expected;
@@ -36,6 +39,7 @@ mod listing_trouble;
 mod measure;
 mod on_maps;
 
+pub use answered::{Answered, Notes, compared, quiet};
 pub use certificate_sink::{CertificateSink, Straight, Whole};
 pub use certified_plan::{bank_of, needed_by, plan_and_certify, plan_of_map};
 pub use expected::tell_first;

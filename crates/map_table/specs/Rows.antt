@@ -4,6 +4,7 @@ use Rattle.std.specs.Prelude.{if◌then◌else◌, List, [], ◌∷◌, ◌++◌
 use Rattle.std.specs.Prelude.{Option, None, Some, IfSome}
 use Rattle.pmp_encoding.specs.declared.limit.Limit.{Limit}
 use Rattle.pmp_encoding.specs.declared.extent.Extent.{Extent}
+use Rattle.pmp_encoding.specs.declared.perm.Perm.{Perm}
 use Rattle.pmp_encoding.specs.Limits.{limit_number}
 use Rattle.text_lines.specs.Written.{hex}
 use Rattle.map_table.specs.declared.stretch.Stretch.{Stretch}
@@ -73,12 +74,14 @@ abbrev pub has_rest : List Stretch → Bool
 has_rest [] = false
 has_rest (s ∷ stretches) = if is_rest s.entry then true else has_rest stretches
 
-abbrev pub rest_text : List ℕ
-rest_text = codes "all else                                       ---  no entry\n"
+-- the row of all that no entry decides, which has this permission
+abbrev pub rest_text : Perm → List ℕ
+rest_text perm = codes "all else                                       " ++ letters_of perm
+    ++ codes "  no entry\n"
 
--- the row of all that no entry decides, where there is such
-abbrev pub rest_of : List Stretch → List ℕ
-rest_of stretches = if has_rest stretches then rest_text else []
+-- that row, where there is such
+abbrev pub rest_of : Perm → List Stretch → List ℕ
+rest_of perm stretches = if has_rest stretches then rest_text perm else []
 
 abbrev pub named_text : ℕ → List ℕ
 named_text n = if n == 1 then codes " entry: fewest possible; "

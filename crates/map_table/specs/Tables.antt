@@ -3,6 +3,8 @@ use Rattle.std.specs.Prelude.{◌≡◌, ℕ, ◌^◌, List, [], ◌++◌, codes
 use Rattle.pmp_encoding.specs.declared.extent.Extent.{Extent}
 use Rattle.pmp_encoding.specs.declared.limit.Limit.{Limit}
 use Rattle.pmp_encoding.specs.declared.region.Entry.{Entry}
+use Rattle.pmp_encoding.specs.declared.perm.Perm.{Perm}
+use Rattle.pmp_encoding.specs.declared.perm.Perm.TheVariants.{NoAccess}
 use Rattle.pmp_encoding.specs.Views.{View}
 use Rattle.permission_map.specs.Runs.{view_of_runs}
 use Rattle.pmp_match.specs.Lists.{matched_by}
@@ -20,13 +22,15 @@ pub record IsTable (view : View) (entries : List Entry) (limit : Limit) (text : 
     Type 0 where
   pub stretches : List Stretch
   pub are_stretches : AreStretches view (matched_by entries) 0 stretches (2 ^ 56)
-  pub lines : text ≡ head_text ++ rows_text (matched_by entries) stretches ++ rest_of stretches
-      ++ count_text (length entries) limit
+  pub lines : text ≡ head_text ++ rows_text (matched_by entries) stretches
+      ++ rest_of NoAccess stretches ++ count_text (length entries) limit
 
--- the table of what extents give by themselves, that many of them of entries that are not OFF: the
--- same rows of their stretches over the map of no pages, with the permission that each extent gives
-pub record IsExtentTable (extents : List Extent) (on : ℕ) (text : List ℕ) : Type 0 where
+-- the table of what extents give by themselves, where all else has a permission and that many of
+-- them are of entries that are not OFF: the same rows of their stretches over the map of no pages,
+-- with the permission that each extent gives
+pub record IsExtentTable (extents : List Extent) (rest : Perm) (on : ℕ) (text : List ℕ) :
+    Type 0 where
   pub stretches : List Stretch
   pub are_stretches : AreStretches (view_of_runs []) extents 0 stretches (2 ^ 56)
   pub lines : text ≡ head_text ++ rows_text extents (map as_given stretches)
-      ++ rest_of (map as_given stretches) ++ on_text on
+      ++ rest_of rest (map as_given stretches) ++ on_text on

@@ -1,17 +1,15 @@
 //! The rows of a table, and the lines around them.
 
 ghost use Rattle.std.specs.Prelude.{◌≡◌, ◌+◌, ◌++◌, ◌<◌, ◌≤◌, All, OnOk, drop, length};
-ghost use Rattle.map_table.specs.Rows.{IsRow, before_text, count_text, fitting_text, has_rest, named_text, number_text, on_named, on_text, overridden_from, range_text, rest_of, row_by, rows_text};
+ghost use Rattle.map_table.specs.Rows.{IsRow, before_text, count_text, fitting_text, has_rest, named_text, number_text, on_named, on_text, overridden_from, range_text, rest_of, rest_text, row_by, rows_text};
 
 use crate::fields::push_column;
 use crate::overridden::overridden;
 use crate::{ExtentTree, Stretch};
 use permission_map::Memory;
-use pmp_encoding::Limit;
+use pmp_encoding::{Limit, Perm};
 use printed_lines::letters;
 use text_lines::{Line, push_decimal, push_hex, push_text};
-
-const REST: &[u8] = b"all else                                       ---  no entry\n";
 
 /// What a row says of its bytes.
 fn range_line(stretch: &Stretch) -> Line
@@ -118,12 +116,26 @@ fn has_rest(all: &[Stretch]) -> bool
     false
 }
 
-/// Appends the row of all stretches that no entry decides, where there are such.
-pub(crate) fn push_rest(text: &mut Vec<u8>, all: &[Stretch]) -> Result<(), Memory>
-    ensures { OnOk result (text.new.items ≡ text.old.items ++ rest_of all.now) }
+/// The row of all stretches that no entry decides, which have this permission.
+fn rest_line(perm: Perm) -> Line
+    ensures { result ≡ rest_text perm }
+{
+    let mut line = Line::new();
+    push_text(
+        &mut line,
+        b"all else                                       ",
+    );
+    push_text(&mut line, letters(perm).as_bytes());
+    push_text(&mut line, b"  no entry\n");
+    line
+}
+
+/// Appends the row of all stretches that no entry decides, which have this permission, where there are such.
+pub(crate) fn push_rest(text: &mut Vec<u8>, all: &[Stretch], perm: Perm) -> Result<(), Memory>
+    ensures { OnOk result (text.new.items ≡ text.old.items ++ rest_of perm all.now) }
 {
     if has_rest(all) {
-        text.extend_from_slice(REST)?;
+        text.extend_from_slice(rest_line(perm).as_slice())?;
         return Ok(());
     }
     Ok(())

@@ -9,7 +9,7 @@ ghost use Rattle.map_table.specs.Tables.{IsExtentTable, IsTable};
 use crate::rows::{count_line, on_line, push_rest, push_rows};
 use crate::{ExtentTree, Stretch, extents_of, stretches, stretches_by_entries};
 use permission_map::{Memory, PermissionMap};
-use pmp_encoding::{Entry, Limit};
+use pmp_encoding::{Entry, Limit, Perm};
 use pmp_match::Extent;
 use std::alloc::Global;
 
@@ -30,7 +30,7 @@ pub fn table_of(
     let mut text = Vec::new(alloc);
     text.extend_from_slice(HEAD)?;
     push_rows(&mut text, &tree, all.as_slice())?;
-    push_rest(&mut text, all.as_slice())?;
+    push_rest(&mut text, all.as_slice(), Perm::NoAccess)?;
     let count = count_line(entries.len(), limit);
     text.extend_from_slice(count.as_slice())?;
     Ok(text)
@@ -60,10 +60,16 @@ fn all_as_given(alloc: Global, all: &[Stretch]) -> Result<Vec<Stretch>, Memory>
     Ok(rows)
 }
 
-/// The table of what extents give by themselves, where that many are of entries that are not OFF. The only error is out of memory.
-pub fn extent_table(alloc: Global, extents: &[Extent], on: usize) -> Result<Vec<u8>, Memory>
+/// The table of what extents give by themselves, where all else has the permission `rest` and that many extents are of entries
+/// that are not OFF. The only error is out of memory.
+pub fn extent_table(
+    alloc: Global,
+    extents: &[Extent],
+    rest: Perm,
+    on: usize,
+) -> Result<Vec<u8>, Memory>
     requires { All IsWords extents.now }
-    ensures { IfOk result (λ text. IsExtentTable extents.now on text.items) }
+    ensures { IfOk result (λ text. IsExtentTable extents.now rest on text.items) }
 {
     let map = PermissionMap::new(alloc);
     let all = stretches(alloc, &map, extents)?;
@@ -72,7 +78,7 @@ pub fn extent_table(alloc: Global, extents: &[Extent], on: usize) -> Result<Vec<
     let mut text = Vec::new(alloc);
     text.extend_from_slice(HEAD)?;
     push_rows(&mut text, &tree, rows.as_slice())?;
-    push_rest(&mut text, rows.as_slice())?;
+    push_rest(&mut text, rows.as_slice(), rest)?;
     let count = on_line(on);
     text.extend_from_slice(count.as_slice())?;
     Ok(text)

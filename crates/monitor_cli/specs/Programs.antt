@@ -1,8 +1,8 @@
 -- What a task comes to, and what is said of it.
-use Rattle.std.specs.Prelude.{◌≡◌, ℕ, List, Option, Result, Ok, Err, option_map}
+use Rattle.std.specs.Prelude.{◌≡◌, ℕ, List, [], Option, Result, Ok, Err, option_map}
 use Rattle.std.specs.Borrow.{Bor}
 use Rattle.std.specs.Io.KnownBytes.{Appends}
-use Rattle.byte_streams.specs.Writings.{Breaks, IsUnwritten, Writing}
+use Rattle.byte_streams.specs.Writings.{Breaks, IsUnwritten, TakesAll, Writing}
 use Rattle.pmp_encoding.specs.declared.xlen.Xlen.{Xlen}
 use Rattle.program_tasks.specs.declared.options.LintKind.{LintKind}
 use Rattle.program_tasks.specs.declared.options.LintKind.TheVariants as kinds
@@ -12,6 +12,7 @@ use Rattle.program_tasks.specs.declared.task.Task.{Task}
 use Rattle.program_tasks.specs.declared.task.Task.TheVariants as tasks
 use Rattle.command_inputs.specs.declared.trouble.Trouble.{Trouble}
 use Rattle.command_inputs.specs.Troubles.{status_of, trouble_text}
+use Rattle.commands.specs.Answered.{Noting, Said, unsaid}
 use Rattle.commands.specs.Audit.{Audits}
 use Rattle.commands.specs.CertifiedPlan.{WritesNothing, Placing}
 use Rattle.commands.specs.Check.{Checks}
@@ -36,35 +37,45 @@ LintsAs kinds.Registers xlen file platform first second out done =
 LintsAs kinds.Trace xlen file platform first second out done =
     LintsTrace file platform first second out done
 
--- what a task comes to with its options: what its command does not use stays as it was
+-- what a task comes to with its options: what its command does not use stays as it was. Most say
+-- nothing beside their status
 abbrev pub Performs : {R C W : Type 0} → Task → Options → Reading R → Reading R → Placing C
-    → Writing W → Result ℕ Trouble → Type 0
+    → Writing W → Said → Type 0
 Performs (tasks.Run platform trace measure) options first second cert out done =
     Runs options.answers platform trace measure first second out done × WritesNothing cert
 Performs (tasks.Plan map file limit) options first second cert out done =
-    Plans map file options.xlen limit options.at_most options.format
-    (option_map (λ s. s.now) options.name) options.first first cert out done × IsUnread second
+    Noting [] (Plans map file options.xlen limit options.at_most options.format
+    (option_map (λ s. s.now) options.name) options.first first cert out) done × IsUnread second
 Performs (tasks.Judge file trace limit) options first second cert out done =
     JudgesAs options.registers options.answers file trace options.xlen limit first second out done
     × WritesNothing cert
 Performs (tasks.Check map file) options first second cert out done =
-    Checks map file first second out done × WritesNothing cert
+    Noting [] (Checks map file first second out) done × WritesNothing cert
 Performs (tasks.Audit map registers) options first second cert out done =
-    Audits map registers options.xlen options.all first second out done × WritesNothing cert
+    Noting [] (Audits map registers options.xlen options.mode options.all first second out) done
+    × WritesNothing cert
 Performs (tasks.Map registers) options first second cert out done =
-    Maps registers options.xlen first out done × IsUnread second × WritesNothing cert
+    Maps registers options.xlen options.mode first out done × IsUnread second × WritesNothing cert
 Performs (tasks.Lint file platform) options first second cert out done =
-    LintsAs options.kind options.xlen file platform first second out done × WritesNothing cert
+    Noting [] (LintsAs options.kind options.xlen file platform first second out) done
+    × WritesNothing cert
 Performs (tasks.Show map limit) options first second cert out done =
-    ShowsAs options.registers map options.xlen limit options.at_most options.table options.costs
-    first out done × IsUnread second × WritesNothing cert
+    Noting [] (ShowsAs options.registers map options.xlen options.mode limit options.at_most
+    options.table options.costs first out) done × IsUnread second × WritesNothing cert
 Performs (tasks.Measure file layout) options first second cert out done =
-    Measures file layout first out done × IsUnread second × WritesNothing cert
+    Noting [] (Measures file layout first out) done × IsUnread second × WritesNothing cert
 
--- what is written to standard error: nothing where there is no trouble, otherwise its line, which
--- breaks off only where the device does
-pub data Tells {E : Type 0} (err : Writing E) : Result ℕ Trouble → Type 0 where
-  quiet : (status : ℕ) → IsUnwritten err → Tells err (Ok status)
+-- what is said beside a status is written to standard error, whole or up to where the device fails;
+-- and nothing where nothing is said
+pub data SaysNotes {E : Type 0} (err : Writing E) : List ℕ → Type 0 where
+  nothing : IsUnwritten err → SaysNotes err []
+  whole : (notes : List ℕ) → TakesAll notes err → SaysNotes err notes
+  part : (notes : List ℕ) → Breaks notes err → SaysNotes err notes
+
+-- what is written to standard error: what is said beside the status where there is no trouble,
+-- otherwise its line, which breaks off only where the device does
+pub data Tells {E : Type 0} (err : Writing E) : Said → Type 0 where
+  noted : (status : ℕ) (notes : List ℕ) → SaysNotes err notes → Tells err (Ok (status, notes))
   told : (trouble : Trouble) → Appends err.before err.after (trouble_text trouble)
       → Tells err (Err trouble)
   cut : (trouble : Trouble) → Breaks (trouble_text trouble) err → Tells err (Err trouble)
@@ -75,7 +86,7 @@ pub data Tells {E : Type 0} (err : Writing E) : Result ℕ Trouble → Type 0 wh
 -- standard error
 pub record Ends {R C W E : Type 0} (request : Request) (first second : Reading R) (cert : Placing C)
     (out : Writing W) (err : Writing E) (status : ℕ) : Type 0 where
-  pub done : Result ℕ Trouble
+  pub done : Said
   pub performed : Performs request.task request.options first second cert out done
   pub told : Tells err done
-  pub status_is : status ≡ status_of done
+  pub status_is : status ≡ status_of (unsaid done)

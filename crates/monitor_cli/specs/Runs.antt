@@ -1,6 +1,7 @@
 -- What `run` comes to, on the files and streams that are lent for it: a rule for each way in which
 -- it ends.
-use Rattle.std.specs.Prelude.{◌≡◌, ℕ, ◌≤◌, Bool, true, false, List, Option, Some, Result, Ok, Err}
+use Rattle.std.specs.Prelude.{◌≡◌, ℕ, ◌≤◌, Bool, true, false, List, [], Option, Some, Result, Ok}
+use Rattle.std.specs.Prelude.{Err}
 use Rattle.std.specs.Borrow.{Bor}
 use Rattle.std.specs.Io.KnownBytes.{Appends}
 use Rattle.byte_streams.specs.Streams.{WriteFails}
@@ -25,6 +26,7 @@ use Rattle.command_inputs.specs.declared.trouble.Trouble.TheVariants.{Output}
 use Rattle.command_inputs.specs.Troubles.{boot_trouble, run_trouble}
 use Rattle.command_inputs.specs.Inputs.{IsUnread, Reading}
 use Rattle.command_inputs.specs.PlatformInputs.{HasNoPlatform, HasPlatform}
+use Rattle.commands.specs.Answered.{Noting, Said}
 use Rattle.commands.specs.Expected.{IsTold}
 use Rattle.commands.specs.Stops.{Stops}
 use Rattle.monitor_cli.specs.Measurements.{AreMeasures}
@@ -99,16 +101,17 @@ pub data RunsExplaining {R W : Type 0} (booted : Machine) (trace : Bor (List ℕ
 
 -- a trace happens so and its answers are compared with those that its comments say: where one
 -- differs, the first that does is reported after the report and the measurements, and the status is
--- 1
+-- 1; beside it comes which comments look like an answer and are none
 pub data RunsExpecting {R W : Type 0} (does : Meaning Machine) (booted : Machine)
-    (trace : Bor (List ℕ)) (measure : Bool) (second : Reading R) (out : Writing W) : Result ℕ
-    Trouble → Type 0 where
+    (trace : Bor (List ℕ)) (measure : Bool) (second : Reading R) (out : Writing W) : Said
+    → Type 0 where
   compared :
-      (ended : Machine) (report measured difference : Option (List ℕ)) (status : ℕ)
-      → ComparesAll does booted ended second.before second.after out.before report difference
+      (ended : Machine) (report measured difference : Option (List ℕ)) (note : List ℕ)
+      (status : ℕ)
+      → ComparesAll does booted ended second.before second.after out.before report difference note
       → IsMeasured measure ended report measured → IsTold difference measured out.after status
       → second.failed ≡ second.failures → IsWell out
-      → RunsExpecting does booted trace measure second out (Ok status)
+      → RunsExpecting does booted trace measure second out (Ok (status, note))
   unfinished :
       (ended : Machine) (fault : RunFault)
       → Stops does RefusesLine StarvesLine booted ended second.before second.after out.before
@@ -117,15 +120,15 @@ pub data RunsExpecting {R W : Type 0} (does : Meaning Machine) (booted : Machine
       → CountsWrites (Err fault) out.failures out.failed out.stalls out.stalled
       → RunsExpecting does booted trace measure second out (Err (run_trouble trace fault))
   unmeasured :
-      (ended : Machine) (report difference : Option (List ℕ)) (n : ℕ) (text : List ℕ)
+      (ended : Machine) (report difference : Option (List ℕ)) (n : ℕ) (text note : List ℕ)
       → measure ≡ true
-      → ComparesAll does booted ended second.before second.after out.before report difference
+      → ComparesAll does booted ended second.before second.after out.before report difference note
       → n ≤ 64 → AreMeasures (kept_of ended).table n text → TakesPart text report out.after
       → second.failed ≡ second.failures → WriteFails out.failures out.failed out.stalls out.stalled
       → RunsExpecting does booted trace measure second out (Err Output)
   not_told :
-      (ended : Machine) (report measured : Option (List ℕ)) (text : List ℕ)
-      → ComparesAll does booted ended second.before second.after out.before report (Some text)
+      (ended : Machine) (report measured : Option (List ℕ)) (text note : List ℕ)
+      → ComparesAll does booted ended second.before second.after out.before report (Some text) note
       → IsMeasured measure ended report measured → TakesPart text measured out.after
       → second.failed ≡ second.failures
       → WriteFails out.failures out.failed out.stalls out.stalled
@@ -134,19 +137,19 @@ pub data RunsExpecting {R W : Type 0} (does : Meaning Machine) (booted : Machine
 -- a trace happens to a machine; with `--explain` a comment after each answer says what happened,
 -- and the summary comes last; with `--expect` the answers are compared
 abbrev pub RunsTraceAs : {R W : Type 0} → Answers → Machine → Bor (List ℕ) → Bool → Reading R
-    → Writing W → Result ℕ Trouble → Type 0
+    → Writing W → Said → Type 0
 RunsTraceAs answers.Plain booted trace measure second out done =
-    RunsTrace DoesLine booted trace measure second out done
+    Noting [] (RunsTrace DoesLine booted trace measure second out) done
 RunsTraceAs answers.Explained booted trace measure second out done =
-    RunsExplaining booted trace measure second out done
+    Noting [] (RunsExplaining booted trace measure second out) done
 RunsTraceAs answers.Compared booted trace measure second out done =
     RunsExpecting DoesLine booted trace measure second out done
 
 -- `run`: the platform is read and booted, and then the trace happens to its machine
 pub data Runs {R W : Type 0} (answers : Answers) (file trace : Bor (List ℕ)) (measure : Bool)
-    (first second : Reading R) (out : Writing W) : Result ℕ Trouble → Type 0 where
+    (first second : Reading R) (out : Writing W) : Said → Type 0 where
   ran :
-      (platform : PlatformLayout) (booted : Machine) (result : Result ℕ Trouble)
+      (platform : PlatformLayout) (booted : Machine) (result : Said)
       → HasPlatform first platform → IsBooted platform booted
       → RunsTraceAs answers booted trace measure second out result
       → Runs answers file trace measure first second out result

@@ -4,29 +4,45 @@ ghost use Rattle.std.specs.Prelude.{◌≡◌, false};
 ghost use Rattle.byte_streams.specs.Writings.{writing};
 ghost use Rattle.commands.specs.CertifiedPlan.{placing};
 ghost use Rattle.command_inputs.specs.Inputs.{reading};
-ghost use Rattle.monitor_cli.specs.Programs.{Ends, LintsAs, Performs, Tells};
+ghost use Rattle.commands.specs.Answered.{said, unsaid};
+ghost use Rattle.monitor_cli.specs.Programs.{Ends, LintsAs, Performs, SaysNotes, Tells};
 ghost use Rattle.program_tasks.specs.Requests.{alone};
 ghost use Rattle.command_inputs.specs.Troubles.{status_of};
 
 use crate::do_run_as;
-use byte_streams::{Sink, Source};
+use byte_streams::{Sink, Source, write_whole};
 use command_inputs::Trouble;
 use commands::{
-    Asked, CertificateSink, Straight, Table, Whole, do_audit, do_check, do_judge_as, do_lint,
-    do_lint_listing, do_lint_trace, do_map, do_measure, do_plan, do_show_as,
+    Answered, Asked, CertificateSink, Straight, Table, Whole, do_audit, do_check, do_judge_as,
+    do_lint, do_lint_listing, do_lint_trace, do_map, do_measure, do_plan, do_show_as, quiet,
 };
 use pmp_encoding::Limit;
 use program_files::WholeSink;
 use program_tasks::{LintKind, Options, Request, Task};
 use std::alloc::Global;
 
-/// Reports the trouble of a task on standard error, and answers its status.
-fn report<E: Sink>(done: Result<u8, Trouble<'_>>, err: &mut E) -> u8
-    ensures status { result ≡ status_of done.entry }
-    ensures tells { Tells (writing E.contents E.failures E.stalls err.old err.new) done.entry }
+/// Writes what is said beside a status, where something is.
+fn say<E: Sink>(answered: &Answered, err: &mut E)
+    ensures { SaysNotes (writing E.contents E.failures E.stalls err.old err.new)
+        answered.now.notes.items }
+{
+    if answered.notes.is_empty() {
+        return;
+    }
+    let _ = write_whole(err, answered.notes.as_slice());
+}
+
+/// Reports the trouble of a task on standard error, or what it says beside its status, and answers that.
+fn report<E: Sink>(done: Result<Answered, Trouble<'_>>, err: &mut E) -> u8
+    ensures status { result ≡ status_of (unsaid (said done.entry)) }
+    ensures tells { Tells (writing E.contents E.failures E.stalls err.old err.new)
+        (said done.entry) }
 {
     match done {
-        Ok(status) => status,
+        Ok(answered) => {
+            say(&answered, err);
+            answered.status
+        }
         Err(trouble) => {
             let _ = trouble.print(err);
             trouble.status()
@@ -83,6 +99,7 @@ fn plan_asked<'a>(options: &Options<'a>, cert: Option<&'a str>, limit: Limit) ->
 fn table_asked(options: &Options<'_>, limit: Limit) -> Table
     ensures { result ≡ record {
       xlen = options.now.xlen;
+      mode = options.now.mode;
       limit = limit;
       at_most = options.now.at_most;
       format = options.now.table;
@@ -91,6 +108,7 @@ fn table_asked(options: &Options<'_>, limit: Limit) -> Table
 {
     Table {
         xlen: options.xlen,
+        mode: options.mode,
         limit,
         at_most: options.at_most,
         format: options.table,
@@ -106,15 +124,16 @@ fn run_task<'a, R: Source, M, C: CertificateSink<M>, W: Sink>(
     second: &mut R,
     cert: &mut C,
     out: &mut W,
-) -> Result<u8, Trouble<'a>>
+) -> Result<Answered, Trouble<'a>>
     ensures { let source = reading R.remaining R.failures in
         Performs request.now.task request.now.options (source first.old first.new)
         (source second.old second.new)
         (placing C.contents C.failures C.stalls C.stands C.is_apart cert.old cert.new)
-        (writing W.contents W.failures W.stalls out.old out.new) result }
+        (writing W.contents W.failures W.stalls out.old out.new) (said result) }
 {
     let options = &request.options;
-    let (xlen, answers, listed) = (options.xlen, options.answers, options.registers);
+    let (xlen, mode) = (options.xlen, options.mode);
+    let (answers, listed) = (options.answers, options.registers);
     match request.task {
         Task::Run {
             platform,
@@ -127,24 +146,25 @@ fn run_task<'a, R: Source, M, C: CertificateSink<M>, W: Sink>(
             limit,
         } => {
             let asked = plan_asked(options, file, limit);
-            do_plan::<R, M, C, W>(alloc, map, asked, first, cert, out)
+            quiet(do_plan::<R, M, C, W>(alloc, map, asked, first, cert, out))
         }
         Task::Judge { map, trace, limit } => do_judge_as(
             alloc, listed, answers, map, trace, xlen, limit, first, second, out,
         ),
-        Task::Check { map, cert } => do_check(alloc, map, cert, first, second, out),
+        Task::Check { map, cert } => quiet(do_check(alloc, map, cert, first, second, out)),
         Task::Audit { map, registers } => {
-            do_audit(alloc, map, registers, xlen, options.all, first, second, out)
+            let all = options.all;
+            quiet(do_audit(alloc, map, registers, xlen, mode, all, first, second, out))
         }
-        Task::Map { registers } => do_map(alloc, registers, xlen, first, out),
+        Task::Map { registers } => do_map(alloc, registers, xlen, mode, first, out),
         Task::Lint { file, platform } => {
-            lint_as(alloc, options, file, platform, first, second, out)
+            quiet(lint_as(alloc, options, file, platform, first, second, out))
         }
         Task::Show { map, limit } => {
             let asked = table_asked(options, limit);
-            do_show_as(alloc, listed, map, asked, first, out)
+            quiet(do_show_as(alloc, listed, map, asked, first, out))
         }
-        Task::Measure { file, layout } => do_measure(alloc, file, layout, first, out),
+        Task::Measure { file, layout } => quiet(do_measure(alloc, file, layout, first, out)),
     }
 }
 
@@ -169,8 +189,8 @@ fn perform_as<R: Source, M, C: CertificateSink<M>, W: Sink, E: Sink>(
 }
 
 /// Does a task with the options of a command line that names none: reads its inputs, in their order, from `first` and `second`,
-/// writes a certificate straight to `cert`, what it prints to `out` and its one line of trouble to `err`, and answers the
-/// program's status: 0 done, 1 refused by the checker, by `audit` or by `lint`, 2 bad input, 3 a device failed, 4 memory. The
+/// writes a certificate straight to `cert`, what it prints to `out` and its one line of trouble, or what it says beside its
+/// status, to `err`, and answers that status: 0 done, 1 refused by the checker, by `audit` or by `lint`, 2 bad input, 3 a device failed, 4 memory. The
 /// status does not depend on `err`.
 pub fn perform<R: Source, C: Sink, W: Sink, E: Sink>(
     alloc: Global,

@@ -5,12 +5,13 @@ ghost use Rattle.byte_streams.specs.Writings.{writing};
 ghost use Rattle.hart_sim.specs.Machines.{KeepsBanksRight};
 ghost use Rattle.hart_sim.specs.Reports.{DoesLine};
 ghost use Rattle.command_inputs.specs.Inputs.{reading};
+ghost use Rattle.commands.specs.Answered.{said};
 ghost use Rattle.monitor_cli.specs.Runs.{Runs, RunsExpecting, RunsExplaining, RunsTrace, RunsTraceAs};
 
 use crate::measurements::{boot_machine, measure_where};
 use byte_streams::{DeviceFault, Sink, Source};
 use command_inputs::{Trouble, read_platform};
-use commands::tell_first;
+use commands::{Answered, compared, quiet, tell_first};
 use explained_runs::{Ran, explain_run, print_summary};
 use hart_sim::{Machine, run};
 use program_tasks::Answers;
@@ -83,13 +84,18 @@ fn run_expecting<'a, R: Source, W: Sink>(
     measure: bool,
     second: &mut R,
     out: &mut W,
-) -> Result<u8, Trouble<'a>>
+) -> Result<Answered, Trouble<'a>>
     requires kept { KeepsBanksRight machine }
     ensures { RunsExpecting DoesLine machine trace.entry measure
         (reading R.remaining R.failures second.old second.new)
-        (writing W.contents W.failures W.stalls out.old out.new) result }
+        (writing W.contents W.failures W.stalls out.old out.new) (said result) }
 {
-    let Compared { lines, first, end } = compare_lines(machine, second, out);
+    let Compared {
+        lines,
+        first,
+        note,
+        end,
+    } = compare_lines(machine, second, out);
     match end {
         Ok(()) => {}
         Err(fault) => return Err(Trouble::of_run(trace, fault)),
@@ -99,7 +105,7 @@ fn run_expecting<'a, R: Source, W: Sink>(
         Err(DeviceFault) => return Err(Trouble::Output),
     }
     match tell_first(&first, out) {
-        Ok(status) => Ok(status),
+        Ok(status) => Ok(compared(status, &note)),
         Err(DeviceFault) => Err(Trouble::Output),
     }
 }
@@ -112,18 +118,18 @@ fn run_on<'a, R: Source, W: Sink>(
     measure: bool,
     second: &mut R,
     out: &mut W,
-) -> Result<u8, Trouble<'a>>
+) -> Result<Answered, Trouble<'a>>
     requires kept { KeepsBanksRight machine }
     ensures { RunsTraceAs answers machine trace.entry measure
         (reading R.remaining R.failures second.old second.new)
-        (writing W.contents W.failures W.stalls out.old out.new) result }
+        (writing W.contents W.failures W.stalls out.old out.new) (said result) }
 {
     match answers {
         Answers::Plain => {
             let mut running = machine;
-            run_plainly(&mut running, trace, measure, second, out)
+            quiet(run_plainly(&mut running, trace, measure, second, out))
         }
-        Answers::Explained => run_explaining(machine, trace, measure, second, out),
+        Answers::Explained => quiet(run_explaining(machine, trace, measure, second, out)),
         Answers::Compared => run_expecting(machine, trace, measure, second, out),
     }
 }
@@ -138,11 +144,11 @@ pub fn do_run_as<'a, R: Source, W: Sink>(
     first: &mut R,
     second: &mut R,
     out: &mut W,
-) -> Result<u8, Trouble<'a>>
+) -> Result<Answered, Trouble<'a>>
     ensures { let source = reading R.remaining R.failures in
         Runs answers platform.entry trace.entry measure (source first.old first.new)
         (source second.old second.new) (writing W.contents W.failures W.stalls out.old out.new)
-        result }
+        (said result) }
 {
     let platform = read_platform(alloc, platform, first)?;
     let machine = boot_machine(alloc, platform)?;

@@ -3,6 +3,8 @@ use Rattle.std.proofs.Common.{[], ◌∷◌, ◌≡◌, ◌≢◌, ◌∙◌, �
 use Rattle.std.proofs.Common.{sym, true≢false}
 use Rattle.std.specs.Borrow.{Bor}
 use Rattle.std.specs.Str.{bytes_eq}
+use Rattle.pmp_match.specs.declared.access.Mode.{Mode}
+use Rattle.pmp_match.specs.declared.access.Mode.TheVariants.{Machine, Supervisor, User}
 use Rattle.program_tasks.specs.declared.fault.Fault.{Fault}
 use Rattle.program_tasks.specs.declared.task.Subcommand.{Subcommand}
 use Rattle.program_tasks.specs.declared.task.Subcommand.TheVariants as subcommands
@@ -16,7 +18,7 @@ use Rattle.program_tasks.specs.declared.task.Task.TheVariants.{Run, Plan, Judge,
 use Rattle.program_tasks.specs.Faults.{Demand, IsFirst, Lacks, demands_of}
 use Rattle.program_tasks.specs.Layouts.{IsNumber}
 use Rattle.program_tasks.specs.Subcommands.{Text, subcommand_of, subcommand_word}
-use Rattle.program_tasks.specs.Tasks.{HasAnswers, HasKind, HasValues, IsGiven, IsSound, NamesNone, is_identifier, table_format_word}
+use Rattle.program_tasks.specs.Tasks.{HasAnswers, HasKind, HasValues, IsGiven, IsSound, NamesNone, is_identifier, mode_word, table_format_word}
 
 pub same : (x y : Text) → Some x ≡ Some y → x ≡ y
 same x y e = cc
@@ -83,6 +85,12 @@ pub named_well : (value : Option Text) (name : Option (Bor Text)) (word : Text) 
     → IfSome name (λ s. is_identifier s.now ≡ true) → value ≡ Some word → is_identifier word ≢ true → ⊥
 named_well value None word e well is bad = cc
 named_well value (Some name) word e well is bad = bad (rw (same name.now word (sym e ∙ is)) at well)
+
+-- the word of machine mode names no other
+machine_named : (mode : Mode) → mode_word mode ≡ mode_word Machine → mode ≡ Machine
+machine_named Machine e = refl
+machine_named Supervisor e = let other : false ≡ true = ap (λ word. bytes_eq word (codes "m")) e in absurd (true≢false (sym other))
+machine_named User e = let other : false ≡ true = ap (λ word. bytes_eq word (codes "m")) e in absurd (true≢false (sym other))
 
 not_both : (b : Bool) → b ≡ true → b ≡ false → ⊥
 not_both b e f = true≢false (sym e ∙ f)
@@ -153,19 +161,25 @@ met value flag (Show map limit) options v sound = (
           (
             λ lacks. lacks options.xlen v.4,
             (
-              given value _ _ v.5,
+              given value _ _ v.7,
               (
-                λ lacks. lacks options.table v.5,
+                λ lacks. lacks options.mode v.7,
                 (
-                  λ lacks. lacks.1 (v.5 ∙ ap (λ f. Some (table_format_word f)) (sound.0 (v.3.1 lacks.0))),
+                  given value _ _ v.5,
                   (
-                    λ lacks.
-                        let plain = sound.1 (v.6.1 lacks.0) in
-                        elim lacks.1 [
-                          | inl listed ↦ not_both options.registers (v.3.1 listed) plain.0
-                          | inr other ↦ other (v.5 ∙ ap (λ f. Some (table_format_word f)) plain.1)
-                        ],
-                    tt,
+                    λ lacks. lacks options.table v.5,
+                    (
+                      λ lacks. lacks.1 (v.5 ∙ ap (λ f. Some (table_format_word f)) (sound.0 (v.3.1 lacks.0))),
+                      (
+                        λ lacks.
+                            let plain = sound.1 (v.6.1 lacks.0) in
+                            elim lacks.1 [
+                              | inl listed ↦ not_both options.registers (v.3.1 listed) plain.0
+                              | inr other ↦ other (v.5 ∙ ap (λ f. Some (table_format_word f)) plain.1)
+                            ],
+                        (λ lacks. lacks.1 (v.3.0 (sound.2 (machine_named options.mode (same _ _ (sym v.7 ∙ lacks.0))))), tt),
+                      ),
+                    ),
                   ),
                 ),
               ),
@@ -180,10 +194,14 @@ met value flag (Audit map registers) options v sound = (
   given value _ _ v.0,
   (
     given value _ _ v.1,
-    (λ twice. sound (same _ _ (sym v.0 ∙ twice.0), same _ _ (sym v.1 ∙ twice.1)), (given value _ _ v.3, (λ lacks. lacks options.xlen v.3, tt))),
+    (λ twice. sound (same _ _ (sym v.0 ∙ twice.0), same _ _ (sym v.1 ∙ twice.1)), (given value _ _ v.3, (
+      λ lacks. lacks options.xlen v.3,
+      (given value _ _ v.4, (λ lacks. lacks options.mode v.4, tt)),
+    ))),
   ),
 )
-met value flag (Map registers) options v sound = (given value _ _ v.0, (given value _ _ v.1, (λ lacks. lacks options.xlen v.1, tt)))
+met value flag (Map registers) options v sound =
+    (given value _ _ v.0, (given value _ _ v.1, (λ lacks. lacks options.xlen v.1, (given value _ _ v.2, (λ lacks. lacks options.mode v.2, tt)))))
 met value flag (Lint file platform) options v sound = (
   given value _ _ v.0,
   (one_kind_met value flag options.kind v.1, (of_trace_met value flag options.kind v.1, (given value _ _ v.2, (λ lacks. lacks options.xlen v.2, tt)))),

@@ -4,6 +4,8 @@ use Rattle.std.specs.Prelude.{true}
 use Rattle.pmp_encoding.specs.declared.limit.Limit.{Limit}
 use Rattle.pmp_encoding.specs.Limits.{limit_number}
 use Rattle.pmp_encoding.specs.declared.xlen.Xlen.{Xlen}
+use Rattle.pmp_match.specs.declared.access.Mode.{Mode}
+use Rattle.pmp_match.specs.declared.access.Mode.TheVariants.{Machine}
 use Rattle.program_tasks.specs.declared.fault.Fault.{Fault}
 use Rattle.program_tasks.specs.declared.fault.Fault.TheVariants as faults
 use Rattle.program_tasks.specs.declared.options.Format.{Format}
@@ -17,7 +19,7 @@ use Rattle.program_tasks.specs.Hints.{hints_word}
 use Rattle.program_tasks.specs.Layouts.{IsLaidOut, IsNumber, at_zero}
 use Rattle.program_tasks.specs.Subcommands.{Text, subcommand_word}
 use Rattle.program_tasks.specs.Tasks.{BeginsAt, Counts, IsGiven, format_word, table_format_word}
-use Rattle.program_tasks.specs.Tasks.{input_word, is_identifier, limit_word, width_word}
+use Rattle.program_tasks.specs.Tasks.{input_word, is_identifier, limit_word, mode_word, width_word}
 
 -- what is said of a value that an option does not take
 abbrev pub value_text : List ℕ → List ℕ → List ℕ
@@ -42,6 +44,8 @@ fault_text (faults.First word) = value_text word.now
     (codes "' for '--first <K>': no number below that of --entries")
 fault_text (faults.Xlen word) = value_text word.now
     (codes "' for '--xlen <32|64>'\n  [possible values: 32, 64]")
+fault_text (faults.Mode word) = value_text word.now
+    (codes "' for '--mode <m|s|u>'\n  [possible values: m, s, u]")
 fault_text (faults.Hints word) = value_text word.now
     (codes "' for '--hints <auto|always|never>'\n  [possible values: auto, always, never]")
 fault_text faults.InputTwice = codes "standard input, '-', cannot be read twice"
@@ -53,6 +57,8 @@ fault_text faults.NoPicture =
     codes "'--format svg' and '--format json' are for a map, and cannot be used with '--registers'"
 fault_text faults.NoCosts =
     codes "'--costs' is for the text of a map, and cannot be used with '--registers', '--format svg' or '--format json'"
+fault_text faults.NoMachine =
+    codes "'--mode m' is for registers, and cannot be used without '--registers'"
 fault_text (faults.TakesPlace map) = codes "the certificate would take the place of the map '"
     ++ (map.now ++ codes "'")
 fault_text (faults.Number option word) = value_text word.now
@@ -68,6 +74,7 @@ pub data Demand : Type 0 where
   names_format : Demand
   names_table_format : Demand
   names_width : Demand
+  names_mode : Demand
   counts : Demand
   identifies : Demand
   begins_inside : Demand
@@ -79,18 +86,20 @@ pub data Demand : Type 0 where
   of_trace : Demand
   of_map : Demand
   of_text : Demand
+  of_registers : Demand
   numbers : Text → Demand
   has_pages : Demand
   enters_text : Demand
 
 -- the values lack it: the argument of that name has no value; the word of `--entries` names no
 -- limit, that of `--format` no format of a plan or of a table, that of `--xlen` no width, that of
--- `--at-most` no number, that of `--name` is no identifier, that of `--first` names no entry below
--- the limit, that of `--hints` not whether hints are given; the map and that other file are both
--- standard input; the certificate is the map; the file is said to be a listing and a trace; answers
--- are to be explained and to be compared; a platform is named where it is said to be no trace; or
--- of registers another table is asked for than the text, or costs of what is no text of a map; the
--- word of that option is no number; or no enclave has pages like those, or an entry like that
+-- `--mode` no mode, that of `--at-most` no number, that of `--name` is no identifier, that of
+-- `--first` names no entry below the limit, that of `--hints` not whether hints are given; the map
+-- and that other file are both standard input; the certificate is the map; the file is said to be a
+-- listing and a trace; answers are to be explained and to be compared; a platform is named where it
+-- is said to be no trace; of registers another table is asked for than the text, or costs of what
+-- is no text of a map, or machine mode of a map; the word of that option is no number; or no
+-- enclave has pages like those, or an entry like that
 abbrev pub Lacks : (Text → Option Text) → (Text → Option Text) → Demand → Type 0
 Lacks value flag (has name) = value name ≡ None
 Lacks value flag names_limit = (limit : Limit) → value (codes "entries") ≢ Some (limit_word limit)
@@ -99,6 +108,7 @@ Lacks value flag names_format = (format : Format)
 Lacks value flag names_table_format = (format : TableFormat)
     → value (codes "format") ≢ Some (table_format_word format)
 Lacks value flag names_width = (xlen : Xlen) → value (codes "xlen") ≢ Some (width_word xlen)
+Lacks value flag names_mode = (mode : Mode) → value (codes "mode") ≢ Some (mode_word mode)
 Lacks value flag counts = (count : Option ℕ) → ¬ Counts (value (codes "at-most")) count
 Lacks value flag identifies = (word : Text) × (value (codes "name") ≡ Some word)
     × (is_identifier word ≢ true)
@@ -116,6 +126,8 @@ Lacks value flag of_map = IsGiven (flag (codes "registers"))
     × (value (codes "format") ≢ Some (codes "text"))
 Lacks value flag of_text = IsGiven (flag (codes "costs"))
     × (IsGiven (flag (codes "registers")) ⊎ (value (codes "format") ≢ Some (codes "text")))
+Lacks value flag of_registers = (value (codes "mode") ≡ Some (mode_word Machine))
+    × ¬ IsGiven (flag (codes "registers"))
 Lacks value flag (numbers name) = (n : ℕ) → ¬ IsNumber (value name) n
 Lacks value flag has_pages = (layout : Layout) → IsLaidOut value layout
     → ¬ HasCounts (at_zero layout)
@@ -130,6 +142,7 @@ Tells value names_limit (faults.Entries word) = value (codes "entries") ≡ Some
 Tells value names_format (faults.Format word) = value (codes "format") ≡ Some word.now
 Tells value names_table_format (faults.TableFormat word) = value (codes "format") ≡ Some word.now
 Tells value names_width (faults.Xlen word) = value (codes "xlen") ≡ Some word.now
+Tells value names_mode (faults.Mode word) = value (codes "mode") ≡ Some word.now
 Tells value counts (faults.AtMost word) = value (codes "at-most") ≡ Some word.now
 Tells value identifies (faults.Name word) = value (codes "name") ≡ Some word.now
 Tells value begins_inside (faults.First word) = value (codes "first") ≡ Some word.now
@@ -141,6 +154,7 @@ Tells value one_answer fault = fault ≡ faults.TwoAnswers
 Tells value of_trace fault = fault ≡ faults.PlatformAlone
 Tells value of_map fault = fault ≡ faults.NoPicture
 Tells value of_text fault = fault ≡ faults.NoCosts
+Tells value of_registers fault = fault ≡ faults.NoMachine
 Tells value (numbers name) (faults.Number option word) = (option.now ≡ name)
     × (value name ≡ Some word.now)
 Tells value has_pages fault = fault ≡ faults.Pages
@@ -174,11 +188,13 @@ demands_of subcommands.Judge = has (codes "MAP") ∷ has (codes "TRACE") ∷ has
     ∷ names_limit ∷ reads_once (codes "TRACE") ∷ has (codes "xlen") ∷ names_width ∷ one_answer ∷ []
 demands_of subcommands.Check = has (codes "MAP") ∷ has (codes "CERT") ∷ []
 demands_of subcommands.Show = has (codes "MAP") ∷ has (codes "entries") ∷ names_limit ∷ counts
-    ∷ has (codes "xlen") ∷ names_width ∷ has (codes "format") ∷ names_table_format ∷ of_map
-    ∷ of_text ∷ []
+    ∷ has (codes "xlen") ∷ names_width ∷ has (codes "mode") ∷ names_mode ∷ has (codes "format")
+    ∷ names_table_format ∷ of_map ∷ of_text ∷ of_registers ∷ []
 demands_of subcommands.Audit = has (codes "MAP") ∷ has (codes "REGISTERS")
-    ∷ reads_once (codes "REGISTERS") ∷ has (codes "xlen") ∷ names_width ∷ []
-demands_of subcommands.Map = has (codes "REGISTERS") ∷ has (codes "xlen") ∷ names_width ∷ []
+    ∷ reads_once (codes "REGISTERS") ∷ has (codes "xlen") ∷ names_width ∷ has (codes "mode")
+    ∷ names_mode ∷ []
+demands_of subcommands.Map = has (codes "REGISTERS") ∷ has (codes "xlen") ∷ names_width
+    ∷ has (codes "mode") ∷ names_mode ∷ []
 demands_of subcommands.Lint = has (codes "FILE") ∷ one_kind ∷ of_trace ∷ has (codes "xlen")
     ∷ names_width ∷ []
 demands_of subcommands.Measure = has (codes "FILE") ∷ of_layout

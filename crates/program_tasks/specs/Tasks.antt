@@ -7,6 +7,8 @@ use Rattle.pmp_encoding.specs.declared.limit.Limit.TheVariants.{Sixteen, SixtyFo
 use Rattle.pmp_encoding.specs.Limits.{limit_number}
 use Rattle.pmp_encoding.specs.declared.xlen.Xlen.{Xlen}
 use Rattle.pmp_encoding.specs.declared.xlen.Xlen.TheVariants.{Rv32, Rv64}
+use Rattle.pmp_match.specs.declared.access.Mode.{Mode}
+use Rattle.pmp_match.specs.declared.access.Mode.TheVariants.{Machine, Supervisor, User}
 use Rattle.text_lines.specs.Numbers.{number_of}
 use Rattle.program_tasks.specs.declared.options.Format.{Format}
 use Rattle.program_tasks.specs.declared.options.Format.TheVariants as formats
@@ -48,6 +50,12 @@ table_format_word tables.Json = codes "json"
 abbrev pub width_word : Xlen → Text
 width_word Rv32 = codes "32"
 width_word Rv64 = codes "64"
+
+-- the word that names a mode, as in a trace
+abbrev pub mode_word : Mode → Text
+mode_word Machine = codes "m"
+mode_word Supervisor = codes "s"
+mode_word User = codes "u"
 
 -- the number that a word names, where there is one
 abbrev pub Counts : Option Text → Option ℕ → Type 0
@@ -136,14 +144,17 @@ HasValues value flag (Show map limit) options =
     × (value (codes "xlen") ≡ Some (width_word options.xlen))
     × (value (codes "format") ≡ Some (table_format_word options.table))
     × IsFlag (flag (codes "costs")) options.costs
+    × (value (codes "mode") ≡ Some (mode_word options.mode))
 HasValues value flag (Audit map registers) options =
     (value (codes "MAP") ≡ Some map.now)
     × (value (codes "REGISTERS") ≡ Some registers.now)
     × IsFlag (flag (codes "all")) options.all
     × (value (codes "xlen") ≡ Some (width_word options.xlen))
+    × (value (codes "mode") ≡ Some (mode_word options.mode))
 HasValues value flag (Map registers) options =
     (value (codes "REGISTERS") ≡ Some registers.now)
     × (value (codes "xlen") ≡ Some (width_word options.xlen))
+    × (value (codes "mode") ≡ Some (mode_word options.mode))
 HasValues value flag (Lint file platform) options =
     (value (codes "FILE") ≡ Some file.now)
     × HasKind value flag options.kind
@@ -165,10 +176,14 @@ IsOfMap registers format = registers ≡ true → format ≡ tables.Text
 abbrev pub IsOfText : Bool → TableFormat → Bool → Type 0
 IsOfText registers format costs = costs ≡ true → (registers ≡ false) × (format ≡ tables.Text)
 
+-- machine mode is asked for of registers alone
+abbrev pub IsOfRegisters : Bool → Mode → Type 0
+IsOfRegisters registers mode = mode ≡ Machine → registers ≡ true
+
 -- standard input is not both a map and the trace or the registers beside it. A certificate does not
 -- take the place of its map. The name of a plan is an identifier, and its first entry is one that
--- such a hart has. Registers have a table as text alone, and costs are in the text of a map's
--- table alone. What is measured is an enclave
+-- such a hart has. Registers have a table as text alone, costs are in the text of a map's table
+-- alone, and machine mode is asked for of registers alone. What is measured is an enclave
 abbrev pub IsSound : Task → Options → Type 0
 IsSound (Plan map cert limit) options =
     (option_map (λ s. s.now) cert ≢ Some map.now)
@@ -178,6 +193,7 @@ IsSound (Judge map trace limit) options = ¬ ((map.now ≡ input_word) × (trace
 IsSound (Audit map registers) options = ¬ ((map.now ≡ input_word) × (registers.now ≡ input_word))
 IsSound (Show map limit) options = IsOfMap options.registers options.table
     × IsOfText options.registers options.table options.costs
+    × IsOfRegisters options.registers options.mode
 IsSound (Measure file layout) options = IsEnclave layout
 IsSound task options = Unit {0}
 

@@ -1,21 +1,23 @@
-//! What the arguments of a command line mean: a limit, a format, a bound, an entry, a name, a width.
+//! What the arguments of a command line mean: a limit, a format, a bound, an entry, a name, a width, a mode.
 
 ghost use Rattle.std.specs.Prelude.{◌≡◌, ◌≢◌, ◌<◌, ℕ, [], ◌∷◌, IfErr, IfOk, IfSome, Option, None, Some, codes, false, true, option_map};
 ghost use Rattle.std.specs.List.{list_all};
 ghost use Rattle.pmp_encoding.specs.declared.limit.Limit.{Limit};
 ghost use Rattle.pmp_encoding.specs.Limits.{limit_number};
 ghost use Rattle.pmp_encoding.specs.declared.xlen.Xlen.{Xlen};
+ghost use Rattle.pmp_match.specs.declared.access.Mode.{Mode};
 ghost use Rattle.text_lines.specs.Numbers.{number_of};
 ghost use Rattle.program_tasks.specs.declared.options.Format.{Format};
 ghost use Rattle.program_tasks.specs.declared.options.TableFormat.{TableFormat};
 ghost use Rattle.program_tasks.specs.Faults.{Breaks, IsFirst};
-ghost use Rattle.program_tasks.specs.Faults.Demand.{begins_inside, counts, has, identifies, names_limit, names_format, names_table_format, names_width};
-ghost use Rattle.program_tasks.specs.Tasks.{limit_word, format_word, table_format_word, width_word, is_identifier, is_letter, is_letter_or_digit, BeginsAt, Counts};
+ghost use Rattle.program_tasks.specs.Faults.Demand.{begins_inside, counts, has, identifies, names_limit, names_format, names_mode, names_table_format, names_width};
+ghost use Rattle.program_tasks.specs.Tasks.{limit_word, format_word, mode_word, table_format_word, width_word, is_identifier, is_letter, is_letter_or_digit, BeginsAt, Counts};
 
 use crate::fault::Fault;
 use crate::given::Values;
 use crate::options::{Format, TableFormat};
 use pmp_encoding::{Limit, Xlen};
+use pmp_match::Mode;
 use text_lines::number;
 
 /// The limit that a word names.
@@ -84,6 +86,23 @@ fn width_of(word: &str) -> Option<Xlen>
     None
 }
 
+/// The mode that a word names, as the events of a trace do.
+fn mode_of(word: &str) -> Option<Mode>
+    ensures some { IfSome result (λ mode. word.now ≡ mode_word mode) }
+    ensures none { result ≡ None → (mode : Mode) → word.now ≢ mode_word mode }
+{
+    if word == "m" {
+        return Some(Mode::Machine);
+    }
+    if word == "s" {
+        return Some(Mode::Supervisor);
+    }
+    if word == "u" {
+        return Some(Mode::User);
+    }
+    None
+}
+
 /// The value of an argument that has to be there.
 pub(crate) fn value_in<'a, V: Values<'a>>(given: &V, name: &str) -> Result<&'a str, Fault<'a>>
     ensures value { IfOk result (λ word. V.value given.now name.now ≡ Some word.now) }
@@ -148,6 +167,20 @@ pub(crate) fn width_in<'a, V: Values<'a>>(given: &V) -> Result<Xlen, Fault<'a>>
     match width_of(word) {
         Some(xlen) => Ok(xlen),
         None => Err(Fault::Xlen(word)),
+    }
+}
+
+/// The value of `--mode`.
+pub(crate) fn mode_in<'a, V: Values<'a>>(given: &V) -> Result<Mode, Fault<'a>>
+    ensures value { IfOk result (λ mode.
+        V.value given.now (codes "mode") ≡ Some (mode_word mode)) }
+    ensures fault { IfErr result (IsFirst (V.value given.now) (V.flag given.now)
+        (has (codes "mode") ∷ names_mode ∷ [])) }
+{
+    let word = value_in(given, "mode")?;
+    match mode_of(word) {
+        Some(mode) => Ok(mode),
+        None => Err(Fault::Mode(word)),
     }
 }
 

@@ -24,6 +24,8 @@ pub enum Fault<'a> {
     First(&'a str),
     /// `--xlen` has one.
     Xlen(&'a str),
+    /// `--mode` has one.
+    Mode(&'a str),
     /// `--hints` has one.
     Hints(&'a str),
     /// Standard input is named twice.
@@ -38,6 +40,8 @@ pub enum Fault<'a> {
     NoPicture,
     /// Costs are asked for of what is no text of a map.
     NoCosts,
+    /// Machine mode is asked for of a map.
+    NoMachine,
     /// The certificate would take the place of the map of this name.
     TakesPlace(&'a str),
     /// An option that takes a number has another value.
@@ -76,6 +80,9 @@ const NO_ENTRY: &str = "' for '--first <K>': no number below that of --entries";
 /// After that of `--xlen`.
 const NO_WIDTH: &str = "' for '--xlen <32|64>'\n  [possible values: 32, 64]";
 
+/// After that of `--mode`.
+const NO_MODE: &str = "' for '--mode <m|s|u>'\n  [possible values: m, s, u]";
+
 /// After that of `--hints`.
 const NO_HINTS: &str =
     "' for '--hints <auto|always|never>'\n  [possible values: auto, always, never]";
@@ -103,6 +110,9 @@ const NO_PICTURE: &str =
 /// Of costs of what is no text of a map.
 const NO_COSTS: &str =
     "'--costs' is for the text of a map, and cannot be used with '--registers', '--format svg' or '--format json'";
+
+/// Of machine mode by the entries of a map.
+const NO_MACHINE: &str = "'--mode m' is for registers, and cannot be used without '--registers'";
 
 /// Of pages that no enclave has.
 const NO_PAGES: &str =
@@ -140,6 +150,7 @@ impl Fault<'_> {
             Fault::Name(word) => value_text(alloc, word, NO_NAME),
             Fault::First(word) => value_text(alloc, word, NO_ENTRY),
             Fault::Xlen(word) => value_text(alloc, word, NO_WIDTH),
+            Fault::Mode(word) => value_text(alloc, word, NO_MODE),
             Fault::Hints(word) => value_text(alloc, word, NO_HINTS),
             Fault::InputTwice => String::from_str(alloc, INPUT_TWICE),
             Fault::TwoKinds => String::from_str(alloc, TWO_KINDS),
@@ -147,6 +158,7 @@ impl Fault<'_> {
             Fault::PlatformAlone => String::from_str(alloc, PLATFORM_ALONE),
             Fault::NoPicture => String::from_str(alloc, NO_PICTURE),
             Fault::NoCosts => String::from_str(alloc, NO_COSTS),
+            Fault::NoMachine => String::from_str(alloc, NO_MACHINE),
             Fault::TakesPlace(map) => {
                 format!(in alloc; "the certificate would take the place of the map '{map}'")
             }

@@ -5,6 +5,7 @@ ghost use Rattle.program_tasks.specs.Options.{default_options};
 
 use crate::hints::Hints;
 use pmp_encoding::Xlen;
+use pmp_match::Mode;
 
 /// How a plan is printed.
 #[derive(Clone, Copy, PartialEq, Eq)]
@@ -65,6 +66,8 @@ pub struct Options<'a> {
     pub at_most: Option<u64>,
     /// How many bits the hart's registers have.
     pub xlen: Xlen,
+    /// The mode that is asked what it may do by registers.
+    pub mode: Mode,
     /// Whether the file that a task names as a map is a listing of registers.
     pub registers: bool,
     /// What is written of the answers to a trace.
@@ -92,6 +95,7 @@ impl Default for Options<'_> {
             first: 0,
             at_most: None,
             xlen: Xlen::Rv64,
+            mode: Mode::User,
             registers: false,
             answers: Answers::Plain,
             all: false,

@@ -1,13 +1,15 @@
 //! The task that a subcommand with its values is, and how it is done.
 
 ghost use Rattle.std.specs.Prelude.{◌≡◌, ◌≢◌, ◌<◌, ◌↔◌, ◌⊎◌, [], ◌∷◌, IfErr, IfOk, Option, None, Some, codes, true, option_map};
+ghost use Rattle.pmp_match.specs.declared.access.Mode as Mode;
 ghost use Rattle.program_tasks.specs.Faults.{demands_of, Breaks, IsFaultOf, IsFirst};
 ghost use Rattle.program_tasks.specs.Faults.Demand.{of_trace, one_answer, one_kind};
 ghost use Rattle.program_tasks.specs.Subcommands.{word_of};
-ghost use Rattle.program_tasks.specs.Tasks.{input_word, HasAnswers, HasKind, HasValues, IsOfMap, IsOfText, IsRequestOf, IsSound, NamesNone};
+ghost use Rattle.program_tasks.specs.Tasks.{input_word, HasAnswers, HasKind, HasValues, IsOfMap, IsOfRegisters, IsOfText, IsRequestOf, IsSound, NamesNone};
 
 use crate::arguments::{
-    at_most_in, first_in, format_in, limit_in, name_in, table_format_in, value_in, width_in,
+    at_most_in, first_in, format_in, limit_in, mode_in, name_in, table_format_in, value_in,
+    width_in,
 };
 use crate::fault::Fault;
 use crate::given::Values;
@@ -15,6 +17,7 @@ use crate::layout::layout_in;
 use crate::options::{Answers, LintKind, Options, TableFormat};
 use crate::request::Request;
 use crate::task::{Subcommand, Task};
+use pmp_match::Mode;
 
 /// The word for standard input.
 const INPUT: &str = "-";
@@ -185,6 +188,18 @@ fn of_text<'a>(format: TableFormat, registers: bool, costs: bool) -> Result<(), 
     Ok(())
 }
 
+/// Refuses machine mode by the entries of a map.
+fn of_registers<'a>(registers: bool, mode: Mode) -> Result<(), Fault<'a>>
+    ensures is { IfOk result (λ _. IsOfRegisters registers mode) }
+    ensures none { IfErr result (λ _. (mode ≡ Mode.Machine) × (registers ≢ true)) }
+    ensures fault { IfErr result (λ fault. fault ≡ Fault.NoMachine) }
+{
+    if mode == Mode::Machine && !registers {
+        return Err(Fault::NoMachine);
+    }
+    Ok(())
+}
+
 fn show_in<'a, V: Values<'a>>(given: &V, base: Options<'a>) -> Result<Request<'a>, Fault<'a>>
     ensures task { IfOk result (IsRequestOf Subcommand.Show base.entry.hints
         (V.value given.now) (V.flag given.now)) }
@@ -195,16 +210,19 @@ fn show_in<'a, V: Values<'a>>(given: &V, base: Options<'a>) -> Result<Request<'a
     let limit = limit_in(given)?;
     let at_most = at_most_in(given)?;
     let xlen = width_in(given)?;
+    let mode = mode_in(given)?;
     let table = table_format_in(given)?;
     let registers = given.is_given("registers");
     let costs = given.is_given("costs");
     of_map(table, registers)?;
     of_text(table, registers, costs)?;
+    of_registers(registers, mode)?;
     let task = Task::Show { map, limit };
     let options = Options {
         at_most,
         registers,
         xlen,
+        mode,
         table,
         costs,
         ..base
@@ -222,9 +240,15 @@ fn audit_in<'a, V: Values<'a>>(given: &V, base: Options<'a>) -> Result<Request<'
     let registers = value_in(given, "REGISTERS")?;
     once(map, registers)?;
     let xlen = width_in(given)?;
+    let mode = mode_in(given)?;
     let all = given.is_given("all");
     let task = Task::Audit { map, registers };
-    let options = Options { all, xlen, ..base };
+    let options = Options {
+        all,
+        xlen,
+        mode,
+        ..base
+    };
     Ok(Request { task, options })
 }
 
@@ -236,8 +260,9 @@ fn map_in<'a, V: Values<'a>>(given: &V, base: Options<'a>) -> Result<Request<'a>
 {
     let registers = value_in(given, "REGISTERS")?;
     let xlen = width_in(given)?;
+    let mode = mode_in(given)?;
     let task = Task::Map { registers };
-    let options = Options { xlen, ..base };
+    let options = Options { xlen, mode, ..base };
     Ok(Request { task, options })
 }
 

@@ -80,11 +80,11 @@ cut_not view xs i at cut means =
 
 -- ---- the sizes of accesses
 
-data Size (kind : Kind) (size : ℕ) : Type 0 where
+pub data Size (kind : Kind) (size : ℕ) : Type 0 where
   small : IsSmall size → Size kind size
   eight : size ≡ 8 → kind ≢ Fetch → Size kind size
 
-size_of : (kind : Kind) (size : ℕ) → has_size kind size ≡ true → Size kind size
+pub size_of : (kind : Kind) (size : ℕ) → has_size kind size ≡ true → Size kind size
 size_of Fetch size h = ⊎_elim (λ e. small (inr (inl (eqb-true size 2 e)))) (λ e. small (inr (inr (eqb-true size 4 e)))) (or_cases _ _ h)
 size_of Load size h =
     ⊎_elim (λ p. ⊎_elim (λ e. small (inl (eqb-true size 1 e))) (λ e. small (inr (inl (eqb-true size 2 e)))) (or_cases _ _ p))

@@ -6,6 +6,7 @@ pub mod Odd
 pub mod Places
 pub mod Lists
 pub mod Same
+pub mod ByMode
 pub mod EachPage
 pub mod NoMap
 pub mod Meant

@@ -3,15 +3,18 @@ use Rattle.std.proofs.Common.{◌≡◌, ◌≢◌, ◌∙◌, ℕ, ◌*◌, ◌
 use Rattle.std.specs.List.{AllByRecursion}
 use Rattle.pmp_encoding.specs.declared.extent.Extent.{Extent}
 use Rattle.pmp_encoding.specs.Views.{View}
-use Rattle.pmp_match.specs.RegisterDecision.{ExtentsMean, IsWords, RegistersMean}
+use Rattle.pmp_match.specs.declared.access.Mode.{Mode}
+use Rattle.pmp_match.specs.RegisterDecision.{ExtentsMean, IsWords}
 use Rattle.pmp_match.proofs.RegistersEachByte.{each_byte}
-use Rattle.pmp_match.proofs.Matched.{all_defined, each_words, one_list}
+use Rattle.pmp_match.proofs.Matched.{all_defined}
 use Rattle.map_table.specs.declared.stretch.Stretch.{Stretch}
 use Rattle.register_text.specs.declared.listing.Listing.{Listing}
 use Rattle.register_text.specs.SecurityBits.{unknown_bit}
 use Rattle.register_text.specs.Texts.{IsRefusal, reserved, unmodelled}
 use Rattle.register_audit.specs.Findings.{CutsAlone, IsCut, IsFirstDifference}
 use Rattle.register_audit.proofs.Cut.{cut_not}
+use Rattle.register_audit.proofs.ByMode.{are_words, by_means}
+use Rattle.register_audit.specs.Modes.{MeanFor}
 use Rattle.register_audit.specs.Pages.{HasFirstBytes}
 use Rattle.register_audit.specs.Maps.{IsMapOf, IsMapOfExtents, below, cut, mapped, refused, told}
 use Rattle.pmp_encoding.specs.Perms.{bits_of}
@@ -59,16 +62,16 @@ one_or_none None bit is none = cc
 one_or_none (Some other) bit is none = cc
 
 -- what a listing leaves that means nothing means no view
-none_refused : (listing : Listing) (line : List ℕ) → IsRefusal listing line
-    → (unknown_bit listing.mseccfg ≢ None) ⊎ ((view : View) → ¬ RegistersMean listing.registers view)
-none_refused listing line (reserved none found is) =
+none_refused : (mode : Mode) (listing : Listing) (line : List ℕ) → IsRefusal listing line
+    → (unknown_bit listing.mseccfg ≢ None) ⊎ ((view : View) → ¬ MeanFor mode listing.registers view)
+none_refused mode listing line (reserved none found is) =
     inr (λ view m. all_defined listing.registers m.extents m.are_extents found.place is.inside found.value is.value.has)
-none_refused listing line (unmodelled bit is) = inl (λ none. one_or_none (unknown_bit listing.mseccfg) bit is none)
+none_refused mode listing line (unmodelled bit is) = inl (λ none. one_or_none (unknown_bit listing.mseccfg) bit is none)
 
 -- where no map is printed there is none
-pub none_meant : (listing : Listing) (text : List ℕ) (is_map : Bool) → IsMapOf listing text is_map → is_map ≡ false
-    → (unknown_bit listing.mseccfg ≢ None) ⊎ ((view : View) → ¬ RegistersMean listing.registers view)
-none_meant listing text is_map (told none xs are said it of) no_map =
-    inr (λ view m. extents_none xs text is_map view (each_words listing.registers xs are) of no_map
-    (subst (λ (ys : List Extent). ExtentsMean ys view) (one_list listing.registers m.extents xs m.are_extents are) m.means))
-none_meant listing text is_map (refused line is) no_map = none_refused listing line is
+pub none_meant : (mode : Mode) (listing : Listing) (text : List ℕ) (is_map : Bool) → IsMapOf mode listing text is_map → is_map ≡ false
+    → (unknown_bit listing.mseccfg ≢ None) ⊎ ((view : View) → ¬ MeanFor mode listing.registers view)
+none_meant mode listing text is_map (told none given are said it of) no_map =
+    inr (λ view m. extents_none given text is_map view (are_words listing.registers mode given are) of no_map
+    (by_means mode listing.registers view given are m))
+none_meant mode listing text is_map (refused line is) no_map = none_refused mode listing line is

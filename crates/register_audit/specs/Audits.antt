@@ -1,6 +1,7 @@
 -- An audit of a listing.
 use Rattle.std.specs.Prelude.{◌≡◌, ℕ, List, ◌++◌, ◌&&◌, Bool, true, false, Some, None}
 use Rattle.pmp_encoding.specs.Views.{View}
+use Rattle.pmp_match.specs.declared.access.Mode.{Mode}
 use Rattle.pmp_match.specs.declared.registers.Registers.{Registers}
 use Rattle.pmp_encoding.specs.declared.xlen.Xlen.{Xlen}
 use Rattle.register_text.specs.declared.listing.Listing.{Listing}
@@ -14,31 +15,33 @@ use Rattle.register_text.specs.Texts.{notes_text, unknown_bit_text}
 
 -- what is said of a verdict: its line; but where it is a stretch that differs and all are asked
 -- for, a line for each
-pub data IsSaid (view : View) (fewest : ℕ) (all : Bool) (registers : Registers)
+pub data IsSaid (mode : Mode) (view : View) (fewest : ℕ) (all : Bool) (registers : Registers)
     (verdict : Verdict) : List ℕ → Type 0 where
   line : (all && is_difference verdict) ≡ false
-      → IsSaid view fewest all registers verdict (verdict_text fewest registers verdict)
+      → IsSaid mode view fewest all registers verdict (verdict_text mode fewest registers verdict)
   each : (all && is_difference verdict) ≡ true → (text : List ℕ)
-      → AreDifferences view registers text → IsSaid view fewest all registers verdict text
+      → AreDifferences mode view registers text
+      → IsSaid mode view fewest all registers verdict text
 
--- what is said of what a listing leaves and its answer: the verdict on the registers; and a no
--- where mseccfg has a bit that no extension gives, since it might change what the entries mean
-pub data IsAnswer (view : View) (fewest : ℕ) (all : Bool) (listing : Listing) : List ℕ → Bool
-    → Type 0 where
+-- what is said of what a listing leaves and its answer: the verdict on the registers for a mode;
+-- and a no where mseccfg has a bit that no extension gives, since it might change what the entries
+-- mean
+pub data IsAnswer (mode : Mode) (view : View) (fewest : ℕ) (all : Bool) (listing : Listing) :
+    List ℕ → Bool → Type 0 where
   judged :
       unknown_bit listing.mseccfg ≡ None
-      → (verdict : Verdict) → IsVerdict view listing.registers verdict
-      → (text : List ℕ) → IsSaid view fewest all listing.registers verdict text
-      → IsAnswer view fewest all listing text (is_meant verdict)
+      → (verdict : Verdict) → IsVerdict mode view listing.registers verdict
+      → (text : List ℕ) → IsSaid mode view fewest all listing.registers verdict text
+      → IsAnswer mode view fewest all listing text (is_meant verdict)
   unmodelled : (bit : ℕ) → unknown_bit listing.mseccfg ≡ Some bit
-      → IsAnswer view fewest all listing (unknown_bit_text listing.mseccfg bit) false
+      → IsAnswer mode view fewest all listing (unknown_bit_text listing.mseccfg bit) false
 
 -- the text is what is said of the listing of registers of that width, and after it comments on
 -- what is passed over
-pub record IsAudit (view : View) (xlen : Xlen) (fewest : ℕ) (all : Bool) (listing text : List ℕ)
-    (means : Bool) : Type 0 where
+pub record IsAudit (mode : Mode) (view : View) (xlen : Xlen) (fewest : ℕ) (all : Bool)
+    (listing text : List ℕ) (means : Bool) : Type 0 where
   pub leaves : Listing
   pub listed_as : listed xlen listing ≡ Some leaves
   pub said : List ℕ
-  pub answer : IsAnswer view fewest all leaves said means
+  pub answer : IsAnswer mode view fewest all leaves said means
   pub lines : text ≡ said ++ notes_text leaves

@@ -3,10 +3,11 @@ use Rattle.std.specs.Prelude.{◌≡◌, ◌≢◌, ℕ, ◌^◌, List, [], ◌�
 use Rattle.pmp_encoding.specs.declared.extent.Extent.{Extent}
 use Rattle.pmp_encoding.specs.Views.{View}
 use Rattle.pmp_match.specs.declared.registers.Registers.{Registers}
-use Rattle.pmp_match.specs.RegisterMatching.{AreExtents}
+use Rattle.pmp_match.specs.declared.access.Mode.{Mode}
 use Rattle.map_table.specs.declared.stretch.Stretch.{Stretch}
 use Rattle.map_table.specs.Stretches.{AreStretches}
 use Rattle.register_audit.specs.Findings.{agrees}
+use Rattle.register_audit.specs.Modes.{AreGiven}
 use Rattle.register_audit.specs.Texts.{stretch_text}
 
 -- of a list of stretches those that do not agree, in its order
@@ -21,13 +22,14 @@ abbrev pub differences_text : List Stretch → List ℕ
 differences_text [] = []
 differences_text (s ∷ odd) = stretch_text s ++ differences_text odd
 
--- the text is a line for each stretch of the space on which registers give another permission than
--- a view
-pub record AreDifferences (view : View) (registers : Registers) (text : List ℕ) : Type 0 where
-  pub extents : List Extent
-  pub are_extents : AreExtents registers extents
+-- the text is a line for each stretch of the space on which registers give a mode another
+-- permission than a view
+pub record AreDifferences (mode : Mode) (view : View) (registers : Registers) (text : List ℕ) :
+    Type 0 where
+  pub given : List Extent
+  pub are_given : AreGiven mode registers given
   pub all : List Stretch
-  pub stretches : AreStretches view extents 0 all (2 ^ 56)
+  pub stretches : AreStretches view given 0 all (2 ^ 56)
   pub odd : List Stretch
   pub are_odd : AreOdd all odd
   pub text_is : text ≡ differences_text odd

@@ -6,6 +6,7 @@ pub mod Differences
 pub mod Audits
 pub mod Tables
 pub mod Decision
+pub mod Modes
 pub mod Judgement
 pub mod Answers
 pub mod Listings

@@ -1,5 +1,5 @@
 -- The registers that a listing leaves, or why they judge nothing.
-use Rattle.std.specs.Prelude.{◌≡◌, List, ℕ, ◌++◌, Some, None}
+use Rattle.std.specs.Prelude.{◌≡◌, List, ℕ, Some, None}
 use Rattle.pmp_encoding.specs.declared.extent.Extent.{Extent}
 use Rattle.pmp_match.specs.declared.registers.Registers.{Registers}
 use Rattle.pmp_match.specs.RegisterMatching.{AreExtents}
@@ -12,25 +12,25 @@ use Rattle.register_audit.specs.declared.listing_rules.Ruled.{Ruled}
 use Rattle.register_audit.specs.declared.listing_rules.Ruled.TheVariants as ruled
 
 -- a listing of registers of that width leaves these, without a reserved value and with no bit
--- of mseccfg that no extension gives
-pub record HasRules (xlen : Xlen) (listing : List ℕ) (registers : Registers) : Type 0 where
+-- of mseccfg that no extension gives; the notes are the comments on what is passed over
+pub record HasRules (xlen : Xlen) (listing notes : List ℕ) (registers : Registers) :
+    Type 0 where
   pub leaves : Listing
   pub listed_as : listed xlen listing ≡ Some leaves
   pub modelled : unknown_bit leaves.mseccfg ≡ None
   pub registers_are : registers ≡ leaves.registers
   pub extents : List Extent
   pub are_extents : AreExtents leaves.registers extents
+  pub notes_are : notes ≡ notes_text leaves
 
--- the text is the line that says why what a listing leaves judges nothing, and after it comments
--- on what is passed over
-pub record IsRefused (xlen : Xlen) (listing text : List ℕ) : Type 0 where
+-- the line says why what a listing leaves judges nothing, and the notes are such comments
+pub record IsRefused (xlen : Xlen) (listing notes line : List ℕ) : Type 0 where
   pub leaves : Listing
   pub listed_as : listed xlen listing ≡ Some leaves
-  pub line : List ℕ
   pub is_line : IsRefusal leaves line
-  pub lines : text ≡ line ++ notes_text leaves
+  pub notes_are : notes ≡ notes_text leaves
 
--- what a listing has
-abbrev pub IsRuled : Xlen → List ℕ → Ruled → Type 0
-IsRuled xlen listing (ruled.Rules registers) = HasRules xlen listing registers
-IsRuled xlen listing (ruled.Refused text) = IsRefused xlen listing text.items
+-- what a listing has, and what is said of it beside
+abbrev pub IsRuled : Xlen → List ℕ → List ℕ → Ruled → Type 0
+IsRuled xlen listing notes (ruled.Rules registers) = HasRules xlen listing notes registers
+IsRuled xlen listing notes (ruled.Refused line) = IsRefused xlen listing notes line

@@ -3,23 +3,23 @@ use Rattle.std.specs.Prelude.{◌≡◌, ◌+◌, ◌^◌, ◌<◌, ⊤, List, B
 use Rattle.pmp_encoding.specs.declared.extent.Extent.{Extent}
 use Rattle.pmp_encoding.specs.Views.{View}
 use Rattle.pmp_match.specs.declared.registers.Registers.{Registers}
-use Rattle.pmp_match.specs.RegisterDecision.{RegistersMean}
-use Rattle.pmp_match.specs.RegisterMatching.{AreExtents}
+use Rattle.pmp_match.specs.declared.access.Mode.{Mode}
 use Rattle.pmp_match.specs.Reserved.{IsFirstReserved}
 use Rattle.register_audit.specs.declared.verdict.Verdict.{Verdict}
 use Rattle.register_audit.specs.declared.verdict.Verdict.TheVariants as verdicts
 use Rattle.register_audit.specs.Registers.{count_on}
 use Rattle.register_audit.specs.Findings.{CutsAlone, IsFirstDifference}
+use Rattle.register_audit.specs.Modes.{AreGiven, MeanFor}
 
--- what a verdict says is so
-abbrev pub IsVerdict : View → Registers → Verdict → Type 0
-IsVerdict view registers (verdicts.Means count) = RegistersMean registers view
+-- what a verdict for a mode says is so
+abbrev pub IsVerdict : Mode → View → Registers → Verdict → Type 0
+IsVerdict mode view registers (verdicts.Means count) = MeanFor mode registers view
     × (count_on registers.cfgs ≡ count)
-IsVerdict view registers (verdicts.Differs stretch) =
-    (extents : List Extent) × AreExtents registers extents × IsFirstDifference view extents stretch
-IsVerdict view registers (verdicts.Cuts entry at) =
-    (extents : List Extent) × AreExtents registers extents × CutsAlone view extents entry at
-IsVerdict view registers (verdicts.NoMeaning found) = IsFirstReserved registers found
+IsVerdict mode view registers (verdicts.Differs stretch) =
+    (given : List Extent) × AreGiven mode registers given × IsFirstDifference view given stretch
+IsVerdict mode view registers (verdicts.Cuts entry at) =
+    (given : List Extent) × AreGiven mode registers given × CutsAlone view given entry at
+IsVerdict mode view registers (verdicts.NoMeaning found) = IsFirstReserved registers found
 
 -- whether a verdict is yes
 abbrev pub is_meant : Verdict → Bool

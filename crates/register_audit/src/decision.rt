@@ -12,7 +12,7 @@ use pmp_match::{Access, Extent, Mode, Registers, holds, machine_default, machine
 use trace_answers::Decider;
 
 /// What the entry of a place, which matches these addresses, gives a mode.
-fn perm_in(registers: &Registers, mode: Mode, place: usize, extent: &Extent) -> Perm
+pub(crate) fn perm_in(registers: &Registers, mode: Mode, place: usize, extent: &Extent) -> Perm
     requires { place < 64 }
     ensures { result ≡ perm_in registers.now mode place extent.now }
 {
@@ -23,7 +23,7 @@ fn perm_in(registers: &Registers, mode: Mode, place: usize, extent: &Extent) -> 
 }
 
 /// What a mode may do where no entry has a byte of an access.
-fn default_perm(registers: &Registers, mode: Mode) -> Perm
+pub(crate) fn default_perm(registers: &Registers, mode: Mode) -> Perm
     ensures { result ≡ default_perm registers.now mode }
 {
     match mode {

@@ -9,10 +9,11 @@ ghost use Rattle.register_audit.specs.Differences.{AreDifferences, AreOdd, diffe
 ghost use Rattle.register_audit.specs.Findings.{agrees};
 
 use crate::finding::is_odd;
+use crate::modes::given_by;
 use crate::texts::stretch_line;
 use map_table::{Stretch, stretches};
 use permission_map::{Memory, PermissionMap};
-use pmp_match::{Registers, extents_of};
+use pmp_match::{Mode, Registers, extents_of};
 use std::alloc::Global;
 
 /// Appends the line of each of these stretches on which a map and registers differ.
@@ -29,21 +30,23 @@ fn push_odd(text: &mut Vec<u8>, all: &[Stretch]) -> Result<(), Memory>
     Ok(())
 }
 
-/// A line for each stretch on which registers without a reserved value give another permission than the map. The only error is
-/// out of memory.
+/// A line for each stretch on which registers without a reserved value give a mode another permission than the map. The only
+/// error is out of memory.
 pub(crate) fn differences_of(
     alloc: Global,
+    mode: Mode,
     map: &PermissionMap,
     registers: &Registers,
 ) -> Result<Vec<u8>, Memory>
     requires { (extents : List Extent) × AreExtents registers.now extents }
     ensures { IfOk result (λ text.
-        AreDifferences (view_of_runs map.now) registers.now text.items) }
+        AreDifferences mode (view_of_runs map.now) registers.now text.items) }
 {
     let Ok(extents) = extents_of(registers) else {
         unreachable!();
     };
-    let all = stretches(alloc, map, extents.as_slice())?;
+    let given = given_by(alloc, mode, registers, &extents)?;
+    let all = stretches(alloc, map, given.as_slice())?;
     let mut text = Vec::new(alloc);
     push_odd(&mut text, all.as_slice())?;
     Ok(text)

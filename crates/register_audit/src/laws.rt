@@ -10,12 +10,15 @@ ghost use Rattle.pmp_match.specs.declared.access.Mode.TheVariants.{Machine};
 ghost use Rattle.pmp_match.specs.declared.cause.Cause.{Cause};
 ghost use Rattle.pmp_match.specs.Judgement.{Judges};
 ghost use Rattle.pmp_match.specs.declared.registers.Registers.{Registers};
-ghost use Rattle.pmp_match.specs.RegisterDecision.{Permits};
+ghost use Rattle.pmp_match.specs.RegisterDecision.{Permits, RegistersMean};
 ghost use Rattle.pmp_match.specs.RegisterMatching.{AreExtents};
 ghost use Rattle.pmp_match.specs.Registers.{pairs_of};
 ghost use Rattle.pmp_match.specs.Smepmp.{security_of};
 ghost use Rattle.register_audit.specs.Decision.{RegistersAllow};
 ghost use Rattle.register_audit.specs.Judgement.{RegistersJudge};
+ghost use Rattle.register_audit.specs.Modes.{MeanFor};
+ghost use Rattle.pmp_encoding.specs.Views.{View};
+ghost use Rattle.pmp_match.specs.declared.access.Mode.{Mode};
 
 /// Registers that hold a list of NA4 and NAPOT entries judge each access as the list does, where the hart's address registers
 /// reach it: of supervisor and user mode whatever `mseccfg` is, and of machine mode where MML and MMWP are 0. Such a list has no
@@ -33,4 +36,10 @@ pub fn permits_law()
     ensures { (registers : Registers) (xs : List Extent) → AreExtents registers xs
         → (a : Access) → a.mode ≢ Machine
         → RegistersAllow registers a ↔ Permits xs a }
+{}
+
+/// For supervisor and user mode registers mean a view exactly where their extents mean it.
+pub fn mean_law()
+    ensures { (mode : Mode) (registers : Registers) (view : View) → mode ≢ Machine
+        → MeanFor mode registers view ↔ RegistersMean registers view }
 {}

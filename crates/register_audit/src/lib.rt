@@ -14,10 +14,13 @@
 //!   Protection) [`rules_in`] reads them from a listing. Of registers that hold a list of NA4 and NAPOT entries they say what the
 //!   list says, and of supervisor and user mode what `audit` goes by ([`list_law`], [`permits_law`]).
 //!
+//! - `modes`: what the entries give a mode, by which the audit, the table and the map are those of machine mode too. For
+//!   supervisor and user mode they say what [`permits_law`] says, for each mode what an access comes to ([`mean_law`]).
+//!
 //! Where registers mean nothing, each of these writes or answers the line that says why: an entry with a reserved value, or Smepmp.
 //!
 //! ```rust
-//! let means = audit(alloc, &map, 3, Xlen::Rv64, listing, false, &mut out)?;
+//! let means = audit(alloc, &map, 3, Mode::User, Xlen::Rv64, listing, false, &mut out)?;
 //! // means the map: 5 entries where 3 are enough
 //! ```
 #![tactic(auto)]
@@ -34,6 +37,7 @@ mod listing_audit;
 mod listing_rules;
 mod map;
 mod map_texts;
+mod modes;
 mod pages;
 mod rules;
 mod table;
@@ -42,10 +46,10 @@ mod verdict;
 
 pub use fault::{ListingFault, MapOfFault};
 pub use finding::{Finding, compare};
-pub use laws::{list_law, permits_law};
+pub use laws::{list_law, mean_law, permits_law};
 pub use listing_audit::audit;
-pub use listing_rules::{Ruled, rules_in};
-pub use map::print_map_of;
+pub use listing_rules::{ListingRules, Ruled, rules_in};
+pub use map::{MapAnswer, print_map_of};
 pub use pmp_match::{Registers, Reserved, ReservedAt};
 pub use rules::Rules;
 pub use table::print_registers;

@@ -3,11 +3,11 @@
 ghost use Rattle.std.specs.Prelude.{◌≡◌, ◌≢◌, ◌⊎◌, ◌-◌, ◌^◌, ◌<◌, ◌++◌, ◌&&◌, ℕ, Bool, Err, Ok, Some, List, IfOk, length, true, false, None};
 ghost use Rattle.byte_streams.specs.Writings.{writing, Breaks, TakesAll};
 ghost use Rattle.permission_map.specs.Runs.{view_of_runs};
-ghost use Rattle.pmp_match.specs.RegisterDecision.{RegistersMean};
 ghost use Rattle.register_text.specs.declared.listing.Listing.{Listing};
 ghost use Rattle.register_text.specs.Listings.{IsFirstUnknown, listed};
 ghost use Rattle.register_audit.specs.declared.fault.ListingFault as ListingFault;
 ghost use Rattle.register_audit.specs.Audits.{IsAnswer, IsAudit, IsSaid};
+ghost use Rattle.register_audit.specs.Modes.{MeanFor};
 ghost use Rattle.register_text.specs.SecurityBits.{unknown_bit};
 ghost use Rattle.register_text.specs.Texts.{notes_text};
 ghost use Rattle.register_audit.specs.Verdicts.{IsVerdict, is_difference, is_meant};
@@ -19,7 +19,7 @@ use crate::verdict::{Verdict, verdict_of};
 use byte_streams::{Sink, write_whole};
 use permission_map::{Memory, PermissionMap};
 use pmp_encoding::Xlen;
-use pmp_match::Registers;
+use pmp_match::{Mode, Registers};
 use register_text::{Listing, listing_of, push_notes, text_of_line, unknown_bit, unknown_bit_line};
 use std::alloc::Global;
 
@@ -48,19 +48,20 @@ fn text_of(
     alloc: Global,
     map: &PermissionMap,
     fewest: u64,
+    mode: Mode,
     registers: &Registers,
     verdict: &Verdict,
     all: bool,
 ) -> Result<Vec<u8>, Memory>
-    requires { IsVerdict (view_of_runs map.now) registers.now verdict.now }
-    ensures { IfOk result (λ text. IsSaid (view_of_runs map.now) fewest all registers.now
+    requires { IsVerdict mode (view_of_runs map.now) registers.now verdict.now }
+    ensures { IfOk result (λ text. IsSaid mode (view_of_runs map.now) fewest all registers.now
         verdict.now text.items) }
 {
     if is_each(all, verdict) {
-        let text = differences_of(alloc, map, registers)?;
+        let text = differences_of(alloc, mode, map, registers)?;
         return Ok(text);
     }
-    let text = text_of_line(alloc, &verdict_line(fewest, registers, verdict))?;
+    let text = text_of_line(alloc, &verdict_line(mode, fewest, registers, verdict))?;
     Ok(text)
 }
 
@@ -69,10 +70,11 @@ fn answer_of(
     alloc: Global,
     map: &PermissionMap,
     fewest: u64,
+    mode: Mode,
     listing: &Listing,
     all: bool,
 ) -> Result<Answer, Memory>
-    ensures { IfOk result (λ answer. IsAnswer (view_of_runs map.now) fewest all listing.now
+    ensures { IfOk result (λ answer. IsAnswer mode (view_of_runs map.now) fewest all listing.now
         answer.text.items answer.means) }
 {
     if let Some(bit) = unknown_bit(listing.mseccfg) {
@@ -80,22 +82,23 @@ fn answer_of(
         return Ok(Answer { text, means: false });
     }
     let registers = &listing.registers;
-    let verdict = verdict_of(alloc, map, registers)?;
-    let text = text_of(alloc, map, fewest, registers, &verdict, all)?;
+    let verdict = verdict_of(alloc, mode, map, registers)?;
+    let text = text_of(alloc, map, fewest, mode, registers, &verdict, all)?;
     Ok(Answer {
         text,
         means: is_meant(&verdict),
     })
 }
 
-/// Reads a listing of registers of that width and writes, in one line, whether they mean the map, and where they do not first,
-/// or with `all` in a line for each stretch that differs; and after it comments on what is passed over. `fewest` is how many
+/// Reads a listing of registers of that width and writes, in one line, whether they mean the map for a mode, and where they do
+/// not first, or with `all` in a line for each stretch that differs; and after it comments on what is passed over. `fewest` is how many
 /// entries are enough for the map. Where a line is not understood or memory is refused, nothing is written; where the device
 /// failed, or took none of some bytes, a beginning of the text was written, not all of it.
 pub fn audit<W: Sink>(
     alloc: Global,
     map: &PermissionMap,
     fewest: u64,
+    mode: Mode,
     xlen: Xlen,
     listing: &[u8],
     all: bool,
@@ -103,28 +106,28 @@ pub fn audit<W: Sink>(
 ) -> Result<bool, ListingFault>
     requires short { length listing.now < 2 ^ 64 - 1 }
     ensures written { IfOk result (λ means.
-        (text : List ℕ) × IsAudit (view_of_runs map.now) xlen fewest all listing.now text means
+        (text : List ℕ) × IsAudit mode (view_of_runs map.now) xlen fewest all listing.now text means
         × TakesAll text (writing W.contents W.failures W.stalls out.old out.new)) }
     ensures means { result ≡ Ok true
         → (leaves : Listing) × (listed xlen listing.now ≡ Some leaves)
         × (unknown_bit leaves.mseccfg ≡ None)
-        × RegistersMean leaves.registers (view_of_runs map.now) }
+        × MeanFor mode leaves.registers (view_of_runs map.now) }
     ensures differs { result ≡ Ok false
         → (leaves : Listing) × (listed xlen listing.now ≡ Some leaves)
         × (unknown_bit leaves.mseccfg ≢ None
-        ⊎ ¬ RegistersMean leaves.registers (view_of_runs map.now)) }
+        ⊎ ¬ MeanFor mode leaves.registers (view_of_runs map.now)) }
     ensures line { (n : ℕ) → result ≡ Err (ListingFault.Line n)
         → IsFirstUnknown xlen listing.now n × (out.new ≡ out.old) }
     ensures untouched { result ≡ Err ListingFault.Memory → out.new ≡ out.old }
     ensures broken { result ≡ Err ListingFault.Device → (text : List ℕ) × (means : Bool)
-        × IsAudit (view_of_runs map.now) xlen fewest all listing.now text means
+        × IsAudit mode (view_of_runs map.now) xlen fewest all listing.now text means
         × Breaks text (writing W.contents W.failures W.stalls out.old out.new) }
 {
     let listing = match listing_of(xlen, listing) {
         Ok(listing) => listing,
         Err(number) => return Err(ListingFault::Line(number)),
     };
-    let Ok(mut answer) = answer_of(alloc, map, fewest, &listing, all) else {
+    let Ok(mut answer) = answer_of(alloc, map, fewest, mode, &listing, all) else {
         return Err(ListingFault::Memory);
     };
     let Ok(()) = push_notes(&mut answer.text, &listing) else {

@@ -1,17 +1,14 @@
 //! The rules of a listing.
 
-ghost use Rattle.std.specs.Prelude.{◌≡◌, ◌≢◌, ℕ, ◌-◌, ◌^◌, ◌<◌, ◌++◌, Err, IfOk, List, Some, length};
+ghost use Rattle.std.specs.Prelude.{◌≡◌, ℕ, ◌-◌, ◌^◌, ◌<◌, IfErr, IfOk, List, Some, length};
 ghost use Rattle.register_text.specs.Listings.{IsFirstUnknown, listed};
 ghost use Rattle.register_text.specs.Texts.{notes_text};
 ghost use Rattle.pmp_encoding.specs.declared.xlen.Xlen.{Xlen};
-ghost use Rattle.register_audit.specs.declared.fault.ListingFault as ListingFault;
 ghost use Rattle.register_audit.specs.Listings.{IsRuled};
 
-use crate::fault::ListingFault;
 use crate::rules::Rules;
 use pmp_encoding::Xlen;
-use register_text::{Listing, extents_in, listing_of, push_notes, text_of_line};
-use std::alloc::{AllocError, Global};
+use register_text::{Listing, ListingNotes, extents_in, listing_of, notes_of};
 use text_lines::Line;
 
 /// What a listing has.
@@ -19,48 +16,41 @@ use text_lines::Line;
 pub enum Ruled {
     /// Registers that judge accesses.
     Rules(Rules),
-    /// Others, and the text that says why they judge none.
-    Refused(Vec<u8>),
+    /// Others, and the line that says why they judge none.
+    Refused(Line),
 }
 
-/// A line on a listing, and the comments on what is passed over of it. The only error is out of memory.
-fn text_of(alloc: Global, line: &Line, listing: &Listing) -> Result<Vec<u8>, AllocError>
-    ensures { IfOk result (λ text. text.items ≡ line.now ++ notes_text listing.now) }
-{
-    let mut text = text_of_line(alloc, line)?;
-    push_notes(&mut text, listing)?;
-    Ok(text)
+/// What a listing has, and what is said of it beside.
+#[derive(Drop)]
+pub struct ListingRules {
+    /// What it has.
+    pub ruled: Ruled,
+    /// The comments on what is passed over.
+    pub notes: ListingNotes,
 }
 
-/// The rules of what a listing leaves. The only error is out of memory.
-fn ruled_by(alloc: Global, listing: &Listing) -> Result<Ruled, AllocError>
+/// The rules of what a listing leaves.
+fn ruled_by(listing: &Listing) -> Ruled
     ensures { (xlen : Xlen) (bytes : List ℕ) → listed xlen bytes ≡ Some listing.now
-        → IfOk result (IsRuled xlen bytes) }
+        → IsRuled xlen bytes (notes_text listing.now) result }
 {
     match extents_in(listing) {
-        Ok(extents) => Ok(Ruled::Rules(Rules::by(&listing.registers, extents))),
-        Err(line) => {
-            let text = text_of(alloc, &line, listing)?;
-            Ok(Ruled::Refused(text))
-        }
+        Ok(extents) => Ruled::Rules(Rules::by(&listing.registers, extents)),
+        Err(line) => Ruled::Refused(line),
     }
 }
 
-/// The rules of the registers of that width that a listing leaves, or the text that says why they judge nothing: an entry with a reserved
-/// value, or a bit of `mseccfg` that is not known.
-pub fn rules_in(alloc: Global, xlen: Xlen, listing: &[u8]) -> Result<Ruled, ListingFault>
+/// The rules of the registers of that width that a listing leaves, or the line that says why they judge nothing: an entry with a
+/// reserved value, or a bit of `mseccfg` that is not known. The error is the number of the first line that is not understood.
+pub fn rules_in(xlen: Xlen, listing: &[u8]) -> Result<ListingRules, u64>
     requires { length listing.now < 2 ^ 64 - 1 }
-    ensures ruled { IfOk result (IsRuled xlen listing.now) }
-    ensures line { (n : ℕ) → result ≡ Err (ListingFault.Line n)
-        → IsFirstUnknown xlen listing.now n }
-    ensures unwritten { result ≢ Err ListingFault.Device }
+    ensures ruled { IfOk result (λ rules.
+        IsRuled xlen listing.now rules.notes.items rules.ruled) }
+    ensures line { IfErr result (IsFirstUnknown xlen listing.now) }
 {
-    let leaves = match listing_of(xlen, listing) {
-        Ok(leaves) => leaves,
-        Err(number) => return Err(ListingFault::Line(number)),
-    };
-    match ruled_by(alloc, &leaves) {
-        Ok(ruled) => Ok(ruled),
-        Err(_) => Err(ListingFault::Memory),
-    }
+    let leaves = listing_of(xlen, listing)?;
+    Ok(ListingRules {
+        ruled: ruled_by(&leaves),
+        notes: notes_of(&leaves),
+    })
 }

@@ -5,7 +5,7 @@ ghost use Rattle.byte_streams.specs.Writings.{writing, Breaks, TakesAll};
 ghost use Rattle.pmp_encoding.specs.Views.{View};
 ghost use Rattle.permission_map.specs.declared.runs.Run.{Run};
 ghost use Rattle.permission_map.specs.Runs.{AreRuns, view_of_runs};
-ghost use Rattle.pmp_match.specs.RegisterDecision.{IsWords, RegistersMean};
+ghost use Rattle.pmp_match.specs.RegisterDecision.{IsWords};
 ghost use Rattle.register_text.specs.declared.listing.Listing.{Listing};
 ghost use Rattle.register_text.specs.Listings.{IsFirstUnknown, listed};
 ghost use Rattle.register_text.specs.SecurityBits.{unknown_bit};
@@ -16,16 +16,18 @@ ghost use Rattle.register_audit.specs.declared.fault.NoMapReason as NoMapReason;
 ghost use Rattle.register_audit.specs.Maps.{AreTooFine, IsMapFile, IsMapOf, IsMapOfExtents};
 ghost use Rattle.register_audit.specs.Pages.{IsTooFine};
 ghost use Rattle.register_audit.specs.MapTexts.{map_text};
+ghost use Rattle.register_audit.specs.Modes.{MeanFor};
 
 use crate::fault::{ListingFault, MapOfFault, NoMapReason};
 use crate::map_texts::{below_line, cut_line, map_text};
+use crate::modes::given_by;
 use crate::pages::first_bytes;
 use crate::{Finding, compare};
 use byte_streams::{Sink, write_whole};
 use permission_map::Memory;
 use pmp_encoding::Xlen;
-use pmp_match::Extent;
-use register_text::{Listing, extents_in, listing_of, push_notes, text_of_line};
+use pmp_match::{Extent, Mode};
+use register_text::{Listing, ListingNotes, extents_in, listing_of, notes_of, text_of_line};
 use std::alloc::Global;
 
 /// What is said of registers, and whether it is a map.
@@ -65,10 +67,10 @@ fn said_of_extents(alloc: Global, extents: &[Extent]) -> Result<Said, NoMapReaso
     }
 }
 
-/// What is said of what a listing leaves.
-fn said_of(alloc: Global, listing: &Listing) -> Result<Said, NoMapReason>
-    ensures said { IfOk result (λ said. IsMapOf listing.now said.text.items said.is_map) }
-    ensures many { result ≡ Err NoMapReason.TooManyRanges → AreTooFine listing.now }
+/// What is said of what a listing leaves, for a mode.
+fn said_of(alloc: Global, mode: Mode, listing: &Listing) -> Result<Said, NoMapReason>
+    ensures said { IfOk result (λ said. IsMapOf mode listing.now said.text.items said.is_map) }
+    ensures many { result ≡ Err NoMapReason.TooManyRanges → AreTooFine mode listing.now }
 {
     let extents = match extents_in(listing) {
         Ok(extents) => extents,
@@ -80,66 +82,69 @@ fn said_of(alloc: Global, listing: &Listing) -> Result<Said, NoMapReason>
             });
         }
     };
-    let said = said_of_extents(alloc, extents.as_slice())?;
+    let given = given_by(alloc, mode, &listing.registers, &extents)?;
+    let said = said_of_extents(alloc, given.as_slice())?;
     Ok(said)
 }
 
-/// The same with the comments on what is passed over.
-fn with_comment(alloc: Global, listing: &Listing) -> Result<Said, NoMapReason>
-    ensures said { IfOk result (λ all. (text : List ℕ) × IsMapOf listing.now text all.is_map
-        × (all.text.items ≡ text ++ notes_text listing.now)) }
-    ensures many { result ≡ Err NoMapReason.TooManyRanges → AreTooFine listing.now }
-{
-    let mut all = said_of(alloc, listing)?;
-    push_notes(&mut all.text, listing)?;
-    Ok(all)
+/// Whether registers have a map, and what is said of their listing beside it.
+#[derive(Drop)]
+pub struct MapAnswer {
+    /// Whether there is a map.
+    pub is_map: bool,
+    /// The comments on what is passed over.
+    pub notes: ListingNotes,
 }
 
-/// Reads a listing of registers of that width, and writes the map that they mean, as the lines of a map file; or one line that
-/// says why no map of whole pages is what supervisor and user mode may do under them. After it come comments on what is passed
-/// over. The answer is whether there is a map. Where a line is not understood, there are too many ranges or memory is refused,
-/// nothing is written; where the device failed, or took none of some bytes, a beginning of the text was written.
+/// Reads a listing of registers of that width, and writes the map that they mean for a mode, as the lines of a map file; or one
+/// line that says why no map of whole pages is what the mode may do under them. Where a line is not understood, there are too
+/// many ranges or memory is refused, nothing is written; where the device failed, or took none of some bytes, a beginning of the
+/// text was written.
 pub fn print_map_of<W: Sink>(
     alloc: Global,
+    mode: Mode,
     xlen: Xlen,
     listing: &[u8],
     out: &mut W,
-) -> Result<bool, MapOfFault>
+) -> Result<MapAnswer, MapOfFault>
     requires { length listing.now < 2 ^ 64 - 1 }
-    ensures written { IfOk result (λ is_map. (text : List ℕ)
-        × IsMapFile xlen listing.now text is_map
+    ensures written { IfOk result (λ answer. (text : List ℕ)
+        × IsMapFile mode xlen listing.now text answer.notes.items answer.is_map
         × TakesAll text (writing W.contents W.failures W.stalls out.old out.new)) }
-    ensures means { result ≡ Ok true → (leaves : Listing)
+    ensures means { IfOk result (λ answer. answer.is_map ≡ true → (leaves : Listing)
         × (listed xlen listing.now ≡ Some leaves) × (unknown_bit leaves.mseccfg ≡ None)
-        × (runs : List Run) × AreRuns runs × RegistersMean leaves.registers (view_of_runs runs)
-        × TakesAll (map_text runs ++ notes_text leaves)
-        (writing W.contents W.failures W.stalls out.old out.new) }
-    ensures none { result ≡ Ok false → (leaves : Listing)
+        × (runs : List Run) × AreRuns runs × MeanFor mode leaves.registers (view_of_runs runs)
+        × TakesAll (map_text runs) (writing W.contents W.failures W.stalls out.old out.new)) }
+    ensures none { IfOk result (λ answer. answer.is_map ≡ false → (leaves : Listing)
         × (listed xlen listing.now ≡ Some leaves)
         × (unknown_bit leaves.mseccfg ≢ None
-        ⊎ ((view : View) → ¬ RegistersMean leaves.registers view)) }
+        ⊎ ((view : View) → ¬ MeanFor mode leaves.registers view))) }
     ensures line { (n : ℕ) → result ≡ Err (MapOfFault.Listing (ListingFault.Line n))
         → IsFirstUnknown xlen listing.now n × (out.new ≡ out.old) }
     ensures many { result ≡ Err MapOfFault.TooManyRanges
-        → (leaves : Listing) × (listed xlen listing.now ≡ Some leaves) × AreTooFine leaves
+        → (leaves : Listing) × (listed xlen listing.now ≡ Some leaves) × AreTooFine mode leaves
         × (out.new ≡ out.old) }
     ensures untouched { result ≡ Err (MapOfFault.Listing ListingFault.Memory)
         → out.new ≡ out.old }
     ensures broken { result ≡ Err (MapOfFault.Listing ListingFault.Device)
-        → (text : List ℕ) × (is_map : Bool) × IsMapFile xlen listing.now text is_map
+        → (text notes : List ℕ) × (is_map : Bool)
+        × IsMapFile mode xlen listing.now text notes is_map
         × Breaks text (writing W.contents W.failures W.stalls out.old out.new) }
 {
     let listing = match listing_of(xlen, listing) {
         Ok(listing) => listing,
         Err(number) => return Err(MapOfFault::Listing(ListingFault::Line(number))),
     };
-    let all = match with_comment(alloc, &listing) {
-        Ok(all) => all,
+    let said = match said_of(alloc, mode, &listing) {
+        Ok(said) => said,
         Err(NoMapReason::TooManyRanges) => return Err(MapOfFault::TooManyRanges),
         Err(NoMapReason::Memory) => return Err(MapOfFault::Listing(ListingFault::Memory)),
     };
-    let Ok(()) = write_whole(out, all.text.as_slice()) else {
+    let Ok(()) = write_whole(out, said.text.as_slice()) else {
         return Err(MapOfFault::Listing(ListingFault::Device));
     };
-    Ok(all.is_map)
+    Ok(MapAnswer {
+        is_map: said.is_map,
+        notes: notes_of(&listing),
+    })
 }

@@ -8,11 +8,14 @@ ghost use Rattle.register_audit.specs.declared.fault.ListingFault as ListingFaul
 ghost use Rattle.register_audit.specs.Tables.{IsRegisterTable, IsShown};
 
 use crate::count_on;
+use crate::decision::default_perm;
 use crate::fault::ListingFault;
+use crate::modes::entries_given;
 use byte_streams::{Sink, write_whole};
 use map_table::extent_table;
 use permission_map::Memory;
 use pmp_encoding::Xlen;
+use pmp_match::Mode;
 use register_text::{Listing, extents_in, listing_of, push_notes, text_of_line};
 use std::alloc::Global;
 
@@ -23,9 +26,9 @@ struct Shown {
     meant: bool,
 }
 
-/// What is said of what a listing leaves. The only error is out of memory.
-fn said_of(alloc: Global, listing: &Listing) -> Result<Shown, Memory>
-    ensures { IfOk result (λ shown. IsShown listing.now shown.text.items shown.meant) }
+/// What is said of what a listing leaves, for a mode. The only error is out of memory.
+fn said_of(alloc: Global, mode: Mode, listing: &Listing) -> Result<Shown, Memory>
+    ensures { IfOk result (λ shown. IsShown mode listing.now shown.text.items shown.meant) }
 {
     let extents = match extents_in(listing) {
         Ok(extents) => extents,
@@ -34,46 +37,51 @@ fn said_of(alloc: Global, listing: &Listing) -> Result<Shown, Memory>
             return Ok(Shown { text, meant: false });
         }
     };
-    let on = count_on(&listing.registers);
-    let text = extent_table(alloc, extents.as_slice(), on)?;
+    let registers = &listing.registers;
+    let given = entries_given(alloc, mode, registers, &extents)?;
+    let rest = default_perm(registers, mode);
+    let on = count_on(registers);
+    let text = extent_table(alloc, given.as_slice(), rest, on)?;
     Ok(Shown { text, meant: true })
 }
 
 /// The same with the comments on what is passed over. The only error is out of memory.
-fn with_comment(alloc: Global, listing: &Listing) -> Result<Shown, Memory>
-    ensures { IfOk result (λ all. (text : List ℕ) × IsShown listing.now text all.meant
+fn with_comment(alloc: Global, mode: Mode, listing: &Listing) -> Result<Shown, Memory>
+    ensures { IfOk result (λ all. (text : List ℕ) × IsShown mode listing.now text all.meant
         × (all.text.items ≡ text ++ notes_text listing.now)) }
 {
-    let mut all = said_of(alloc, listing)?;
+    let mut all = said_of(alloc, mode, listing)?;
     push_notes(&mut all.text, listing)?;
     Ok(all)
 }
 
-/// Reads a listing of registers of that width, and writes the table of what they give to supervisor and user mode, or the line
-/// that says why they mean nothing; and after it comments on what is passed over. The answer is whether they mean something. Where a line is not understood or memory is refused, nothing is written; where the device failed, or took none of
-/// some bytes, a beginning of the text was written, not all of it.
+/// Reads a listing of registers of that width, and writes the table of what they give a mode, or the line that says why they
+/// mean nothing; and after it comments on what is passed over. The answer is whether they mean something. Where a line is not
+/// understood or memory is refused, nothing is written; where the device failed, or took none of some bytes, a beginning of the
+/// text was written, not all of it.
 pub fn print_registers<W: Sink>(
     alloc: Global,
+    mode: Mode,
     xlen: Xlen,
     listing: &[u8],
     out: &mut W,
 ) -> Result<bool, ListingFault>
     requires { length listing.now < 2 ^ 64 - 1 }
     ensures written { IfOk result (λ meant. (text : List ℕ)
-        × IsRegisterTable xlen listing.now text meant
+        × IsRegisterTable mode xlen listing.now text meant
         × TakesAll text (writing W.contents W.failures W.stalls out.old out.new)) }
     ensures line { (n : ℕ) → result ≡ Err (ListingFault.Line n)
         → IsFirstUnknown xlen listing.now n × (out.new ≡ out.old) }
     ensures untouched { result ≡ Err ListingFault.Memory → out.new ≡ out.old }
     ensures broken { result ≡ Err ListingFault.Device → (text : List ℕ) × (meant : Bool)
-        × IsRegisterTable xlen listing.now text meant
+        × IsRegisterTable mode xlen listing.now text meant
         × Breaks text (writing W.contents W.failures W.stalls out.old out.new) }
 {
     let listing = match listing_of(xlen, listing) {
         Ok(listing) => listing,
         Err(number) => return Err(ListingFault::Line(number)),
     };
-    let Ok(all) = with_comment(alloc, &listing) else {
+    let Ok(all) = with_comment(alloc, mode, &listing) else {
         return Err(ListingFault::Memory);
     };
     let Ok(()) = write_whole(out, all.text.as_slice()) else {

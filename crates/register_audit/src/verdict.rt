@@ -6,9 +6,10 @@ ghost use Rattle.register_audit.specs.Registers.{count_on, one_on};
 ghost use Rattle.register_audit.specs.Verdicts.{IsVerdict};
 
 use crate::finding::{Finding, compare};
+use crate::modes::given_by;
 use map_table::Stretch;
 use permission_map::{Memory, PermissionMap};
-use pmp_match::{Registers, ReservedAt, extents_of};
+use pmp_match::{Mode, Registers, ReservedAt, extents_of};
 use std::alloc::Global;
 
 /// Whether registers mean a map, and where they do not.
@@ -51,19 +52,21 @@ pub fn count_on(registers: &Registers) -> usize
     count
 }
 
-/// What the registers say of a map. The only error is out of memory.
+/// What the registers say of a map for a mode. The only error is out of memory.
 pub fn verdict_of(
     alloc: Global,
+    mode: Mode,
     map: &PermissionMap,
     registers: &Registers,
 ) -> Result<Verdict, Memory>
-    ensures { IfOk result (IsVerdict (view_of_runs map.now) registers.now) }
+    ensures { IfOk result (IsVerdict mode (view_of_runs map.now) registers.now) }
 {
     let extents = match extents_of(registers) {
         Ok(extents) => extents,
         Err(found) => return Ok(Verdict::NoMeaning(found)),
     };
-    match compare(alloc, map, extents.as_slice())? {
+    let given = given_by(alloc, mode, registers, &extents)?;
+    match compare(alloc, map, given.as_slice())? {
         Finding::Means => Ok(Verdict::Means {
             count: count_on(registers),
         }),

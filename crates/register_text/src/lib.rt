@@ -6,7 +6,7 @@
 //!
 //! - `listing`: [`listing_of`] answers the registers of a hart of that width, `mseccfg`, and the first line that is passed over;
 //!   or the number of the first line that is not understood. [`is_listing`] says whether there is none.
-//! - `register_lines`: [`line_sets`] answers what one line of registers sets, a [`Setting`].
+//! - `register_lines`: [`line_sets`] answers what one line of registers sets, a [`Setting`], by `register_settings`.
 //! - `lines`: [`is_boot_log`] says whether some line of a text is on a region, and [`log_says`] which [`RegionEntry`] a line of a
 //!   log sets, that it says nothing, or that it is not understood. A region is an aligned block of 2^k bytes, or the whole
 //!   space (`block`); its letters say what supervisor and user mode may do there (`letters`).
@@ -29,6 +29,7 @@ mod listing;
 mod log;
 mod names;
 mod register_lines;
+mod register_settings;
 mod security_bits;
 mod setting;
 mod texts;
@@ -43,4 +44,6 @@ pub use pmp_match::Registers;
 pub use register_lines::line_sets;
 pub use security_bits::unknown_bit;
 pub use setting::Setting;
-pub use texts::{push_notes, reserved_line, text_of_line, unknown_bit_line};
+pub use texts::{
+    ListingNotes, notes_of, push_notes, reserved_line, text_of_line, unknown_bit_line,
+};

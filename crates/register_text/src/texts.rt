@@ -5,6 +5,8 @@ ghost use Rattle.register_text.specs.Texts.{foreign_bit_text, notes_text, passed
 
 use crate::listing::Listing;
 use crate::security_bits::foreign_bit;
+use arrayvec::ArrayVec;
+use lint_texts::append;
 use pmp_match::{Registers, Reserved, ReservedAt};
 use std::alloc::{AllocError, Global};
 use text_lines::{Line, push_decimal, push_hex, push_text};
@@ -88,12 +90,27 @@ fn foreign_bit_line(bit: Option<u8>) -> Line
     line
 }
 
+/// What is said of a listing beside the answer.
+pub type ListingNotes = ArrayVec<u8, 256>;
+
+/// The comments on what is passed over of a listing.
+pub fn notes_of(listing: &Listing) -> ListingNotes
+    ensures { result.items ≡ notes_text listing.now }
+{
+    let mut notes = ArrayVec::new();
+    append(&mut notes, passed_line(listing.passed).as_slice());
+    append(
+        &mut notes,
+        foreign_bit_line(foreign_bit(listing.mseccfg)).as_slice(),
+    );
+    notes
+}
+
 /// Appends the comments on what is passed over of a listing. The only error is out of memory.
 pub fn push_notes(text: &mut Vec<u8>, listing: &Listing) -> Result<(), AllocError>
     ensures { IfOk result (λ _. text.new.items ≡ text.old.items ++ notes_text listing.now) }
 {
-    text.extend_from_slice(passed_line(listing.passed).as_slice())?;
-    text.extend_from_slice(foreign_bit_line(foreign_bit(listing.mseccfg)).as_slice())?;
+    text.extend_from_slice(notes_of(listing).as_slice())?;
     Ok(())
 }
 

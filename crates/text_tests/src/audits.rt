@@ -3,6 +3,7 @@
 use byte_streams::fakes::PieceSink;
 use map_text::map_of;
 use pmp_encoding::Xlen;
+use pmp_match::Mode;
 use register_audit::{ListingFault, audit};
 use std::alloc::Global;
 use std::process::Abort;
@@ -22,7 +23,16 @@ fn expect_audit(
 ) {
     let map = map_of(alloc, PAGE).expect(rt, "a map");
     let mut out = PieceSink::new(7, failing);
-    let answer = audit(alloc, &map, 1, Xlen::Rv64, listing, false, &mut out);
+    let answer = audit(
+        alloc,
+        &map,
+        1,
+        Mode::User,
+        Xlen::Rv64,
+        listing,
+        false,
+        &mut out,
+    );
     assert!(rt; answer == wanted);
     assert!(rt; out.written() == written);
 }

@@ -4,8 +4,7 @@ use byte_streams::fakes::{PieceSink, PieceSource};
 use hart_trace::judge_lines;
 use pmp_encoding::Xlen;
 use pmp_match::{Access, Cause, Kind, Mode, Security};
-use register_audit::{Registers, Reserved, ReservedAt, Ruled, Rules, rules_in};
-use std::alloc::Global;
+use register_audit::{ListingRules, Registers, Reserved, ReservedAt, Ruled, Rules, rules_in};
 use std::process::Abort;
 
 /// A page at 0x80000000, as an address register of NAPOT.
@@ -203,27 +202,28 @@ fn judges_trace(rt: &impl Abort, rules: &Rules, wanted: &str) {
     assert!(rt; sink.written() == wanted.as_bytes(), "{wanted}");
 }
 
-/// The trace is judged by the registers of a listing so, or this text says why it is not.
-fn answers(rt: &impl Abort, alloc: Global, listing: &[u8], wanted: &str) {
-    match rules_in(alloc, Xlen::Rv64, listing) {
-        Ok(Ruled::Rules(rules)) => judges_trace(rt, &rules, wanted),
-        Ok(Ruled::Refused(text)) => assert!(rt; text.as_slice() == wanted.as_bytes(), "{wanted}"),
-        Err(_) => panic!(rt; "no listing: {wanted}"),
+/// The trace is judged by the registers of a listing so, or this line says why it is not, and this is said beside it.
+fn answers(rt: &impl Abort, listing: &[u8], wanted: &str, notes: &str) {
+    let ListingRules { ruled, notes: said } = rules_in(Xlen::Rv64, listing).expect(rt, "a listing");
+    match ruled {
+        Ruled::Rules(rules) => judges_trace(rt, &rules, wanted),
+        Ruled::Refused(line) => assert!(rt; line.as_slice() == wanted.as_bytes(), "{wanted}"),
     }
+    assert!(rt; said.as_slice() == notes.as_bytes(), "{wanted}");
 }
 
 #[test]
 fn a_listing_judges_a_trace_or_says_why_not(rt: HostRuntime) {
     answers(
         &rt,
-        rt.alloc(),
         b"pmpaddr0 0x400\npmpaddr1 0x800\npmpcfg0 0xb00\nmstatus 0x0\n",
         "1 fault 5\n2 ok\n3 ok\n4 fault 1\n",
+        "# lines of other registers are passed over, line 4 first\n",
     );
     answers(
         &rt,
-        rt.alloc(),
-        b"mstatus 0x0\n0 0x1a 0x400\n",
-        "pair 0 0x1a 0x0000000000000400: W without R\n# lines of other registers are passed over, line 1 first\n",
+        b"0 0x1a 0x400\n",
+        "pair 0 0x1a 0x0000000000000400: W without R\n",
+        "",
     );
 }

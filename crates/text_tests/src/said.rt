@@ -4,6 +4,7 @@ use byte_streams::fakes::PieceSink;
 use file_lints::{Taker, lint_platform, lint_trace};
 use map_lint::lint;
 use pmp_encoding::Xlen;
+use pmp_match::Mode;
 use register_audit::{print_map_of, print_registers};
 use std::alloc::Global;
 use std::process::Abort;
@@ -29,8 +30,10 @@ fn answer_of(alloc: Global, reader: Reader, bytes: &[u8], out: &mut PieceSink) -
         Reader::MapLint => lint(alloc, "m", bytes, out).ok(),
         Reader::PlatformLint => lint_platform(alloc, "p", bytes, out).ok(),
         Reader::TraceLint(taker) => lint_trace(alloc, "t", bytes, taker, out).ok(),
-        Reader::Table => print_registers(alloc, Xlen::Rv64, bytes, out).ok(),
-        Reader::Map => print_map_of(alloc, Xlen::Rv64, bytes, out).ok(),
+        Reader::Table => print_registers(alloc, Mode::User, Xlen::Rv64, bytes, out).ok(),
+        Reader::Map => print_map_of(alloc, Mode::User, Xlen::Rv64, bytes, out)
+            .ok()
+            .map(|answer| answer.is_map),
     }
 }
 
@@ -84,7 +87,7 @@ const ROWS: &[Row<'static>] = &[
         Reader::Map,
         b"pmpcfg0 0x0900\npmpaddr0 0x400\npmpaddr1 0x800\nmtvec 1\n",
         true,
-        "0x0000000000001000 0x0000000000001000 r\n# lines of other registers are passed over, line 4 first\n",
+        "0x0000000000001000 0x0000000000001000 r\n",
     ),
 ];
 

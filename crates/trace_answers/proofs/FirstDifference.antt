@@ -9,6 +9,9 @@ use Rattle.text_lines.proofs.Mapped.{Follows, mapped}
 use Rattle.trace_answers.specs.declared.comparison.Comparing.{Comparing}
 use Rattle.trace_answers.specs.Comments.{answer_agrees}
 use Rattle.trace_answers.specs.Comparisons.{agreeing, difference_text, first_with, ComparesAll, IsFirstDifference}
+use Rattle.trace_answers.specs.Mistaken.{listed_text, mistaken_text}
+use Rattle.trace_answers.specs.Notes.{count_with, numbers_with}
+use Rattle.trace_answers.proofs.NotedLines.{AreNoted, none_noted, noted_more}
 
 -- the text of the first difference
 abbrev pub text_in : Option (ArrayVec ℕ 384 (Unit {0})) → Option (List ℕ)
@@ -18,6 +21,8 @@ abbrev pub comparing : {L : Type 0} → Meaning L → Meaning (Comparing L)
 comparing does = λ old n line said new.
     does old.lines n line said new.lines × (new.number ≡ min (old.number + 1) (2 ^ 64 - 1))
     × (text_in new.first ≡ first_with (text_in old.first) new.number line said)
+    × (new.mistaken.numbers.items ≡ numbers_with old.mistaken.numbers.items new.number line)
+    × (new.mistaken.count ≡ count_with old.mistaken.count line)
 
 -- what some lines came to, by the first difference among them
 abbrev pub Found : {S : Type 0} → Meaning S → S → List (List ℕ) → List (List ℕ) → S → Option (List ℕ) → Type 0
@@ -104,27 +109,33 @@ next_number now new len few e is = omega (arith, few, e, is)
 less_by_one : (n : ℕ) → n + 1 < 2 ^ 64 → n < 2 ^ 64
 less_by_one n few = omega arith
 
--- lines that were compared: their number, and the first difference among them
+-- what was noted of some lines
+abbrev NotesOf : {L : Type 0} → List (List ℕ) → Comparing L → Type 0
+NotesOf lines now = AreNoted lines now.mistaken.numbers.items now.mistaken.count
+
+-- lines that were compared: their number, the first difference among them, and those that were noted
 pub found :
     {L : Type 0} (does : Meaning L) {old new : Comparing L} {lines answers : List (List ℕ)} → Does (comparing does) old lines answers new → old.number ≡ 0
-    → text_in old.first ≡ None → length lines < 2 ^ 64
-    → (new.number ≡ length lines) × Found does old.lines lines answers new.lines (text_in new.first)
-found does {old} none number first few = (number, rw first none)
-found does {old} (silent {lines} {answers} {mid} done line short new is) number first few =
+    → text_in old.first ≡ None → NotesOf [] old → length lines < 2 ^ 64
+    → (new.number ≡ length lines) × Found does old.lines lines answers new.lines (text_in new.first) × NotesOf lines new
+found does {old} none number first noted few = (number, rw first none, noted)
+found does {old} (silent {lines} {answers} {mid} done line short new is) number first noted few =
     let less = fewer lines line few in
-    let m = found does done number first (less_by_one (length lines) less) in
+    let m = found does done number first noted (less_by_one (length lines) less) in
     let n = next_number mid.number new.number (length lines) less m.0 is.1 in (
       one_longer lines line new.number n,
       rw is.2 (more_silent does old.lines mid.lines new.lines lines answers line new.number
           (text_in mid.first) short m.1 is.0),
+      noted_more lines line _ _ _ _ new.number less n m.2 is.3 is.4,
     )
-found does {old} (answer {lines} {answers} {mid} done line short new said is) number first few =
+found does {old} (answer {lines} {answers} {mid} done line short new said is) number first noted few =
     let less = fewer lines line few in
-    let m = found does done number first (less_by_one (length lines) less) in
+    let m = found does done number first noted (less_by_one (length lines) less) in
     let n = next_number mid.number new.number (length lines) less m.0 is.1 in (
       one_longer lines line new.number n,
       rw is.2 (more_answered does old.lines mid.lines new.lines lines answers line said new.number
           (text_in mid.first) short n m.1 is.0),
+      noted_more lines line _ _ _ _ new.number less n m.2 is.3 is.4,
     )
 
 -- an input has no more lines than bytes
@@ -140,28 +151,24 @@ few_lines input (line ∷ lines) h =
 few_enough : (n m : ℕ) → n ≤ m → m ≤ 2 ^ 40 → n < 2 ^ 64
 few_enough n m h k = omega arith
 
+-- what is said of lines that were noted
+note_is : (lines : List (List ℕ)) (numbers : List ℕ) (count : ℕ) → AreNoted lines numbers count → listed_text numbers (count - 8) ≡ mistaken_text lines
+note_is lines numbers count are = rw (are.numbers_are, are.count_is) refl
+
 -- all of an input was compared
 pub compared_all :
     {L : Type 0} (does : Meaning L) (old new : Comparing L) (before after held holds : Option (List ℕ)) → old.number ≡ 0 → text_in old.first ≡ None
-    → DoesAll (comparing does) old new before after held holds → ComparesAll does old.lines new.lines before after held holds (text_in new.first)
-compared_all {L} does old new before after held holds number first d =
-    packed (text_in new.first) (found does d.done number first (few_enough _ _ (few_lines d.input d.lines d.are_lines) d.few)).1
+    → old.mistaken.numbers.items ≡ [] → old.mistaken.count ≡ 0
+    → DoesAll (comparing does) old new before after held holds
+    → ComparesAll does old.lines new.lines before after held holds (text_in new.first) (listed_text new.mistaken.numbers.items (new.mistaken.count - 8))
+compared_all {L} does old new before after held holds number first numbers count d =
+    let all = found does d.done number first (rw (numbers, count) none_noted) (few_enough _ _ (few_lines d.input d.lines d.are_lines) d.few) in
+    packed (text_in new.first) all.1 (note_is d.lines _ _ all.2)
   where
     packed : (text : Option (List ℕ)) → Found does old.lines d.lines d.answers new.lines text
-        → ComparesAll does old.lines new.lines before after held holds text
-    packed None is = record {
-      input = d.input;
-      lines = d.lines;
-      answers = d.answers;
-      consumed = d.consumed;
-      at_end = d.at_end;
-      few = d.few;
-      are_lines =
-          d.are_lines;
-      done = is;
-      written = d.written;
-    }
-    packed (Some text) is = (
+        → listed_text new.mistaken.numbers.items (new.mistaken.count - 8) ≡ mistaken_text d.lines
+        → ComparesAll does old.lines new.lines before after held holds text (listed_text new.mistaken.numbers.items (new.mistaken.count - 8))
+    packed None is note = (
       record {
         input = d.input;
         lines = d.lines;
@@ -170,11 +177,25 @@ compared_all {L} does old new before after held holds number first d =
         at_end = d.at_end;
         few = d.few;
         are_lines = d.are_lines;
-        done =
-            is.0;
+        done = is;
+        written = d.written;
+      },
+      note,
+    )
+    packed (Some text) is note = (
+      record {
+        input = d.input;
+        lines = d.lines;
+        answers = d.answers;
+        consumed = d.consumed;
+        at_end = d.at_end;
+        few = d.few;
+        are_lines = d.are_lines;
+        done = is.0;
         written = d.written;
       },
       is.1,
+      note,
     )
 
 -- what is compared is interpreted
@@ -207,20 +228,25 @@ mapped_first holds f does other follows old lines text h d =
 -- what was compared in one state was in another that it is mapped to
 pub mapped_compared :
     {S T : Type 0} (holds : S → Type 0) (f : S → T) (does : Meaning S) (other : Meaning T) → Follows holds f does other
-    → (old new : S) (before after held holds_now : Option (List ℕ)) (first : Option (List ℕ)) → holds old
-    → ComparesAll does old new before after held holds_now first → ComparesAll other (f old) (f new) before after held holds_now first
-mapped_compared holds f does other follows old new before after held holds_now None h d = record {
-  input = d.input;
-  lines = d.lines;
-  answers = d.answers;
-  consumed = d.consumed;
-  at_end = d.at_end;
-  few = d.few;
-  are_lines = d.are_lines;
-  done = (mapped holds f (agreeing does) (agreeing other) (λ s n line said t h is. let u = follows s n line said t h is.0 in (u.0, (u.1, is.1))) h d.done).1;
-  written = d.written;
-}
-mapped_compared holds f does other follows old new before after held holds_now (Some text) h d =
+    → (old new : S) (before after held holds_now : Option (List ℕ)) (first : Option (List ℕ)) (note : List ℕ) → holds old
+    → ComparesAll does old new before after held holds_now first note → ComparesAll other (f old) (f new) before after held holds_now first note
+mapped_compared holds f does other follows old new before after held holds_now None note h d =
+    let all = d.0 in (
+      record {
+        input = all.input;
+        lines = all.lines;
+        answers = all.answers;
+        consumed = all.consumed;
+        at_end = all.at_end;
+        few = all.few;
+        are_lines = all.are_lines;
+        done = (mapped holds f (agreeing does) (agreeing other) (λ s n line said t h is. let u = follows s n line said t h is.0 in (u.0, (u.1, is.1))) h
+            all.done).1;
+        written = all.written;
+      },
+      d.1,
+    )
+mapped_compared holds f does other follows old new before after held holds_now (Some text) note h d =
     let all = d.0 in (
       record {
         input = all.input;
@@ -234,4 +260,5 @@ mapped_compared holds f does other follows old new before after held holds_now (
         written = all.written;
       },
       mapped_first holds f does other follows old all.lines text h d.1,
+      d.2,
     )

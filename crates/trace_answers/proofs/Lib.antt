@@ -3,3 +3,4 @@ pub mod FirstFound
 mod Addresses
 pub mod Judged
 mod Behind
+mod NotedLines

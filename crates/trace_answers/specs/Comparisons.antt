@@ -7,6 +7,7 @@ use Rattle.text_lines.specs.LineLoop.{Meaning, Does, DoesAll}
 use Rattle.text_lines.specs.Words.{is_allowed}
 use Rattle.lint_texts.specs.Lines.{unended}
 use Rattle.trace_answers.specs.Comments.{agrees, answer_agrees, comment_of}
+use Rattle.trace_answers.specs.Mistaken.{mistaken_text}
 
 -- the comment of a line as it is shown: up to its first byte that is not visible, and at most 128
 -- bytes
@@ -41,13 +42,16 @@ pub record IsFirstDifference {S : Type 0} (does : Meaning S) (old : S) (lines : 
   pub told : text ≡ difference_text (length before + 1) (without_return line) answer
 
 -- all of the input was read, and each of its lines interpreted and answered: each comment agrees
--- with the answer, or the first that does not is reported
+-- with the answer, or the first that does not is reported. The note names the lines whose comments
+-- look like an answer and are none
 abbrev pub ComparesAll : {S : Type 0} → Meaning S → S → S → Option (List ℕ) → Option (List ℕ)
-    → Option (List ℕ) → Option (List ℕ) → Option (List ℕ) → Type 0
-ComparesAll does old new before after held holds None =
-    DoesAll (agreeing does) old new before after held holds
-ComparesAll does old new before after held holds (Some text) =
+    → Option (List ℕ) → Option (List ℕ) → Option (List ℕ) → List ℕ → Type 0
+ComparesAll does old new before after held holds None note =
+    (all : DoesAll (agreeing does) old new before after held holds)
+    × (note ≡ mistaken_text all.lines)
+ComparesAll does old new before after held holds (Some text) note =
     (all : DoesAll does old new before after held holds) × IsFirstDifference does old all.lines text
+    × (note ≡ mistaken_text all.lines)
 
 -- the first difference, with one more line, which has this number: it stays where there is one
 abbrev pub first_with : Option (List ℕ) → ℕ → List ℕ → Option (List ℕ) → Option (List ℕ)

@@ -3,3 +3,5 @@ pub mod Comparisons
 pub mod Explained
 pub mod Deciders
 pub mod Reasons
+pub mod Mistaken
+pub mod Notes

@@ -15,7 +15,7 @@ fn is_digit(byte: u8) -> bool
 }
 
 /// Whether a byte may occur in a word of an answer.
-fn is_spoken(byte: u8) -> bool
+pub(crate) fn is_spoken(byte: u8) -> bool
     ensures { result ≡ is_spoken byte }
 {
     is_digit(byte) || (byte >= b'a' && byte <= b'z') || byte == b'-'
@@ -49,7 +49,7 @@ fn are_alike(word: &[u8], other: &[u8]) -> bool
 }
 
 /// Whether a word begins with a digit.
-fn is_numbered(word: &[u8]) -> bool
+pub(crate) fn is_numbered(word: &[u8]) -> bool
     ensures { result ≡ is_numbered word.now }
 {
     match word {
@@ -66,7 +66,7 @@ fn is_kind(word: &[u8]) -> bool
 }
 
 /// Whether words are those of an answer.
-fn says_answer(mut words: Words<'_>) -> bool
+pub(crate) fn says_answer(mut words: Words<'_>) -> bool
     ensures { result ≡ says_answer (spoken_words words.entry.rest.now) }
 {
     let Some(first) = words.next_word() else {
@@ -110,7 +110,7 @@ pub(crate) fn comment_of(line: &[u8]) -> &[u8]
 }
 
 /// What comes after the `#`.
-fn remark_of(line: &[u8]) -> &[u8]
+pub(crate) fn remark_of(line: &[u8]) -> &[u8]
     ensures { result.now ≡ remark_of line.now }
 {
     match comment_of(line) {

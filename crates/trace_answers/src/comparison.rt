@@ -6,15 +6,18 @@ ghost use Rattle.trace_answers.specs.Comparisons.{first_with, ComparesAll};
 
 use crate::comments::agrees;
 use crate::difference::{Difference, difference, numbered};
+use crate::note::{CommentNote, Mistaken};
 use byte_streams::{Sink, Source};
 use text_lines::{Interpreter, Line, LineRefusal, RunFault, interpret_lines};
 
-/// What interprets the lines, how many they were, and the first difference.
+/// What interprets the lines, how many they were, the first difference, and the lines whose comments look like an answer and are
+/// none.
 #[derive(Drop)]
 struct Comparing<I> {
     lines: I,
     number: u64,
     first: Option<Difference>,
+    mistaken: Mistaken,
 }
 
 /// Notes the first difference, with one more line: what follows the number of its answer, after `count` others.
@@ -43,11 +46,14 @@ fn note(
 impl<I: Interpreter> Interpreter for Comparing<I> {
     ghost use Rattle.std.specs.Prelude.{◌≡◌, ◌+◌, ◌-◌, ◌^◌, min, option_map};
     ghost use Rattle.trace_answers.specs.Comparisons.{first_with};
+    ghost use Rattle.trace_answers.specs.Notes.{count_with, numbers_with};
 
     ghost does = { λ old n line said new. I.does old.lines n line said new.lines
         × (new.number ≡ min (old.number + 1) (2 ^ 64 - 1))
         × (option_map (λ d. d.items) new.first
-        ≡ first_with (option_map (λ d. d.items) old.first) new.number line said) };
+        ≡ first_with (option_map (λ d. d.items) old.first) new.number line said)
+        × (new.mistaken.numbers.items ≡ numbers_with old.mistaken.numbers.items new.number line)
+        × (new.mistaken.count ≡ count_with old.mistaken.count line) };
 
     ghost refuses = { λ now line. I.refuses now.lines line };
 
@@ -67,21 +73,31 @@ impl<I: Interpreter> Interpreter for Comparing<I> {
         };
         self.number = self.number.saturating_add(1);
         note(&mut self.first, self.number, line, answered, count, answer);
+        self.mistaken.look_at(self.number, line);
         Ok(answered)
     }
 }
 
 impl<I> Comparing<I> {
-    ghost use Rattle.std.specs.Prelude.{◌≡◌};
+    ghost use Rattle.std.specs.Prelude.{◌≡◌, ◌-◌};
+    ghost use Rattle.trace_answers.specs.Mistaken.{listed_text};
 
     /// What came of them, where they ended so.
     fn ended(self, end: Result<(), RunFault>) -> Compared<I>
         ensures lines { result.lines ≡ self.lines }
         ensures first { result.first ≡ self.first }
+        ensures note { result.note.items
+            ≡ listed_text self.mistaken.numbers.items (self.mistaken.count - 8) }
         ensures end { result.end ≡ end }
     {
+        let note = self.mistaken.note();
         let Comparing { lines, first, .. } = self;
-        Compared { lines, first, end }
+        Compared {
+            lines,
+            first,
+            note,
+            end,
+        }
     }
 }
 
@@ -92,11 +108,14 @@ pub struct Compared<I> {
     pub lines: I,
     /// What is said of the first that differs.
     pub first: Option<Difference>,
+    /// What is said of the comments that look like answers and are none.
+    pub note: CommentNote,
     /// How they ended.
     pub end: Result<(), RunFault>,
 }
 
 /// Interprets the lines of an input as `interpret_lines` does, and compares the answer of each with the one that its comment says.
+/// Which comments look like an answer and are none is said of all lines together.
 pub fn compare_lines<I: Interpreter, R: Source, W: Sink>(
     lines: I,
     source: &mut R,
@@ -106,7 +125,7 @@ pub fn compare_lines<I: Interpreter, R: Source, W: Sink>(
         → IfOk result.end (λ _.
         ComparesAll I.does lines result.lines (R.remaining source.old)
         (R.remaining source.new) (W.contents sink.old) (W.contents sink.new)
-        (option_map (λ d. d.items) result.first)) }
+        (option_map (λ d. d.items) result.first) result.note.items) }
     ensures line { I.keeps lines → (n : ℕ) → result.end ≡ Err (RunFault.Line n)
         → StopsAt n I.does I.refuses lines result.lines (R.remaining source.old)
         (R.remaining source.new) (W.contents sink.old) (W.contents sink.new) }
@@ -132,6 +151,7 @@ pub fn compare_lines<I: Interpreter, R: Source, W: Sink>(
         lines,
         number: 0,
         first: None,
+        mistaken: Mistaken::none(),
     };
     let end = interpret_lines(&mut comparing, source, sink);
     comparing.ended(end)

@@ -6,7 +6,6 @@ ghost use Rattle.hart_trace.specs.Answers.{answered_by, is_no_access};
 ghost use Rattle.trace_answers.specs.Comparisons.{ComparesAll};
 
 use crate::comparison::{Compared, compare_lines};
-use crate::difference::Difference;
 use byte_streams::{Sink, Source};
 use hart_trace::{AccessJudge, LineJudge};
 use text_lines::RunFault;
@@ -16,29 +15,39 @@ pub fn compare_judged<J: AccessJudge, R: Source, W: Sink>(
     by: &J,
     source: &mut R,
     sink: &mut W,
-) -> (Option<Difference>, Result<(), RunFault>)
-    ensures all { IfOk result.1 (λ _.
+) -> Compared<()>
+    ensures all { IfOk result.end (λ _.
         ComparesAll (answered_by (J.outcomes by.now)) tt tt (R.remaining source.old)
         (R.remaining source.new) (W.contents sink.old) (W.contents sink.new)
-        (option_map (λ d. d.items) result.0)) }
-    ensures line { (n : ℕ) → result.1 ≡ Err (RunFault.Line n)
+        (option_map (λ d. d.items) result.first) result.note.items) }
+    ensures line { (n : ℕ) → result.end ≡ Err (RunFault.Line n)
         → StopsAt n (answered_by (J.outcomes by.now)) is_no_access tt tt
         (R.remaining source.old) (R.remaining source.new) (W.contents sink.old)
         (W.contents sink.new) }
-    ensures too_long { result.1 ≡ Err RunFault.TooLong
+    ensures too_long { result.end ≡ Err RunFault.TooLong
         → StopsTooLong (answered_by (J.outcomes by.now)) tt tt (R.remaining source.old)
         (R.remaining source.new) (W.contents sink.old) (W.contents sink.new) }
-    ensures read { result.1 ≡ Err RunFault.Read
+    ensures read { result.end ≡ Err RunFault.Read
         → StopsReading (answered_by (J.outcomes by.now)) tt tt (R.remaining source.old)
         (R.remaining source.new) (W.contents sink.old) (W.contents sink.new) }
-    ensures write { result.1 ≡ Err RunFault.Write
+    ensures write { result.end ≡ Err RunFault.Write
         → StopsWriting (answered_by (J.outcomes by.now)) tt tt (R.remaining source.old)
         (R.remaining source.new) (W.contents sink.old) (W.contents sink.new) }
-    ensures no_memory { result.1 ≡ Err RunFault.Memory → ⊥ }
-    ensures reads { CountsReads result.1 (R.failures source.old) (R.failures source.new) }
-    ensures writes { CountsWrites result.1 (W.failures sink.old)
+    ensures no_memory { result.end ≡ Err RunFault.Memory → ⊥ }
+    ensures reads { CountsReads result.end (R.failures source.old) (R.failures source.new) }
+    ensures writes { CountsWrites result.end (W.failures sink.old)
         (W.failures sink.new) (W.stalls sink.old) (W.stalls sink.new) }
 {
-    let Compared { first, end, .. } = compare_lines(LineJudge { by }, source, sink);
-    (first, end)
+    let Compared {
+        first,
+        note,
+        end,
+        ..
+    } = compare_lines(LineJudge { by }, source, sink);
+    Compared {
+        lines: (),
+        first,
+        note,
+        end,
+    }
 }

@@ -4,6 +4,7 @@ use command_line::{
     Answers, Format, Hints, LintKind, Options, TableFormat, Task, request_of_words,
 };
 use pmp_encoding::{Limit, Xlen};
+use pmp_match::Mode;
 use std::alloc::Global;
 use std::process::Abort;
 
@@ -17,6 +18,7 @@ pub const PLAIN: Options<'static> = Options {
     first: 0,
     at_most: None,
     xlen: Xlen::Rv64,
+    mode: Mode::User,
     registers: false,
     answers: Answers::Plain,
     all: false,
@@ -157,10 +159,11 @@ const OF_TWO_FILES: &[Row<'static>] = &[
         PLAIN,
     ),
     (
-        &["pmpmon", "map", "b", "--xlen", "32"],
+        &["pmpmon", "map", "b", "--xlen", "32", "--mode", "m"],
         Task::Map { registers: "b" },
         Options {
             xlen: Xlen::Rv32,
+            mode: Mode::Machine,
             ..PLAIN
         },
     ),

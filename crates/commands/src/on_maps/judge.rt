@@ -1,25 +1,28 @@
 //! `judge`: the accesses of a trace, by the entries of a map, or by registers as they are.
 
-ghost use Rattle.std.specs.Prelude.{◌-◌, ◌^◌, ◌<◌};
+ghost use Rattle.std.specs.Prelude.{◌-◌, ◌^◌, ◌<◌, []};
 ghost use Rattle.byte_streams.specs.Writings.{writing};
 ghost use Rattle.hart_trace.specs.Answers.{answered_by};
 ghost use Rattle.trace_answers.specs.Explained.{explaining};
 ghost use Rattle.trace_answers.specs.Reasons.{on_access};
 ghost use Rattle.command_inputs.specs.Inputs.{reading};
+ghost use Rattle.commands.specs.Answered.{said};
 ghost use Rattle.commands.specs.Judge.{Judges, JudgesAs, JudgesByRegisters, JudgesExpecting, JudgesTrace, JudgesTraceAs};
 
+use crate::answered::{Answered, noted, notes_of};
 use crate::certified_plan::bank_in;
 use crate::expected::tell_first;
-use crate::listing_trouble::listing_trouble;
+use arrayvec::ArrayVec;
 use byte_streams::{DeviceFault, Sink, Source, write_whole};
 use command_inputs::{REGISTER_BYTES, Trouble, bytes_in, map_in};
 use hart_trace::{AccessJudge, judge_lines};
 use pmp_encoding::{Limit, Xlen};
 use pmp_match::Segments;
 use program_tasks::Answers;
-use register_audit::{Ruled, rules_in};
+use register_audit::{ListingRules, Ruled, rules_in};
+use register_text::ListingNotes;
 use std::alloc::Global;
-use trace_answers::{Deciders, compare_judged, explain_judged};
+use trace_answers::{Compared, Deciders, compare_judged, explain_judged};
 
 /// Judges a trace.
 #[inline(never)]
@@ -63,42 +66,53 @@ fn judge_explaining<'a, J: AccessJudge, D: Deciders, R: Source, W: Sink>(
 #[inline(never)]
 fn judge_expecting<'a, J: AccessJudge, R: Source, W: Sink>(
     by: &J,
+    notes: &ListingNotes,
     trace: &'a str,
     second: &mut R,
     out: &mut W,
-) -> Result<u8, Trouble<'a>>
-    ensures { JudgesExpecting (answered_by (J.outcomes by.now)) trace.entry
+) -> Result<Answered, Trouble<'a>>
+    ensures { JudgesExpecting (answered_by (J.outcomes by.now)) notes.now.items trace.entry
         (reading R.remaining R.failures second.old second.new)
-        (writing W.contents W.failures W.stalls out.old out.new) result }
+        (writing W.contents W.failures W.stalls out.old out.new) (said result) }
 {
-    let (first, end) = compare_judged(by, second, out);
+    let Compared {
+        first,
+        note,
+        end,
+        ..
+    } = compare_judged(by, second, out);
     match end {
         Ok(()) => {}
         Err(fault) => return Err(Trouble::of_run(trace, fault)),
     }
     match tell_first(&first, out) {
-        Ok(status) => Ok(status),
+        Ok(status) => Ok(Answered {
+            status,
+            notes: notes_of(notes, &note),
+        }),
         Err(DeviceFault) => Err(Trouble::Output),
     }
 }
 
-/// Judges a trace, and writes of the answers what is asked for.
+/// Judges a trace, and writes of the answers what is asked for; beside the status comes what is said of the listing.
 fn judge_by<'a, J: AccessJudge, D: Deciders, R: Source, W: Sink>(
     by: &J,
     deciders: &D,
     answers: Answers,
+    notes: &ListingNotes,
     trace: &'a str,
     second: &mut R,
     out: &mut W,
-) -> Result<u8, Trouble<'a>>
-    ensures { JudgesTraceAs answers (J.outcomes by.now) (D.decides deciders.now) trace.entry
+) -> Result<Answered, Trouble<'a>>
+    ensures { JudgesTraceAs answers (J.outcomes by.now) (D.decides deciders.now)
+        notes.now.items trace.entry
         (reading R.remaining R.failures second.old second.new)
-        (writing W.contents W.failures W.stalls out.old out.new) result }
+        (writing W.contents W.failures W.stalls out.old out.new) (said result) }
 {
     match answers {
-        Answers::Plain => judge_plainly(by, trace, second, out),
-        Answers::Explained => judge_explaining(by, deciders, trace, second, out),
-        Answers::Compared => judge_expecting(by, trace, second, out),
+        Answers::Plain => noted(notes, judge_plainly(by, trace, second, out)),
+        Answers::Explained => noted(notes, judge_explaining(by, deciders, trace, second, out)),
+        Answers::Compared => judge_expecting(by, notes, trace, second, out),
     }
 }
 
@@ -114,17 +128,25 @@ fn do_judge<'a, R: Source, W: Sink>(
     first: &mut R,
     second: &mut R,
     out: &mut W,
-) -> Result<u8, Trouble<'a>>
+) -> Result<Answered, Trouble<'a>>
     ensures { let source = reading R.remaining R.failures in
         Judges answers map.entry trace.entry xlen limit (source first.old first.new)
         (source second.old second.new) (writing W.contents W.failures W.stalls out.old out.new)
-        result }
+        (said result) }
 {
     let file = map;
     let map = map_in(alloc, file, first)?;
     let bank = bank_in(alloc, file, &map, xlen, limit)?;
     let segments = Segments::of(&bank);
-    judge_by(&segments, &bank, answers, trace, second, out)
+    judge_by(
+        &segments,
+        &bank,
+        answers,
+        &ArrayVec::new(),
+        trace,
+        second,
+        out,
+    )
 }
 
 /// Takes registers as they are and judges a trace by them. The status is 1 where they judge nothing.
@@ -138,20 +160,28 @@ fn do_judge_registers<'a, R: Source, W: Sink>(
     first: &mut R,
     second: &mut R,
     out: &mut W,
-) -> Result<u8, Trouble<'a>>
+) -> Result<Answered, Trouble<'a>>
     ensures { let source = reading R.remaining R.failures in
         JudgesByRegisters answers registers.entry trace.entry xlen (source first.old first.new)
         (source second.old second.new) (writing W.contents W.failures W.stalls out.old out.new)
-        result }
+        (said result) }
 {
     let listing = bytes_in(alloc, registers, first, REGISTER_BYTES)?;
-    match rules_in(alloc, xlen, listing.as_slice()) {
-        Ok(Ruled::Rules(rules)) => judge_by(&rules, &rules, answers, trace, second, out),
-        Ok(Ruled::Refused(text)) => match write_whole(out, text.as_slice()) {
-            Ok(()) => Ok(1),
+    let ListingRules { ruled, notes } = match rules_in(xlen, listing.as_slice()) {
+        Ok(rules) => rules,
+        Err(line) => {
+            return Err(Trouble::NotUnderstood {
+                file: registers,
+                line,
+            });
+        }
+    };
+    match ruled {
+        Ruled::Rules(rules) => judge_by(&rules, &rules, answers, &notes, trace, second, out),
+        Ruled::Refused(line) => match write_whole(out, line.as_slice()) {
+            Ok(()) => noted(&notes, Ok(1)),
             Err(DeviceFault) => Err(Trouble::Output),
         },
-        Err(fault) => Err(listing_trouble(registers, fault)),
     }
 }
 
@@ -167,11 +197,11 @@ pub fn do_judge_as<'a, R: Source, W: Sink>(
     first: &mut R,
     second: &mut R,
     out: &mut W,
-) -> Result<u8, Trouble<'a>>
+) -> Result<Answered, Trouble<'a>>
     ensures { let source = reading R.remaining R.failures in
         JudgesAs registers answers file.entry trace.entry xlen limit (source first.old first.new)
         (source second.old second.new) (writing W.contents W.failures W.stalls out.old out.new)
-        result }
+        (said result) }
 {
     if registers {
         return do_judge_registers(alloc, answers, file, trace, xlen, first, second, out);

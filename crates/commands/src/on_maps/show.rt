@@ -14,6 +14,7 @@ use map_lint::push_line_costs;
 use map_table::{json_table, picture, table_of};
 use permission_map::{Memory, PermissionMap};
 use pmp_encoding::{Entry, Limit, Xlen};
+use pmp_match::Mode;
 use program_tasks::TableFormat;
 use register_audit::print_registers;
 use std::alloc::Global;
@@ -23,6 +24,8 @@ use std::alloc::Global;
 pub struct Table {
     /// How many bits the hart's registers have.
     pub xlen: Xlen,
+    /// The mode that registers bind.
+    pub mode: Mode,
     /// How many entries the hart has.
     pub limit: Limit,
     /// How many entries the plan may have.
@@ -94,6 +97,7 @@ fn do_show<'a, R: Source, W: Sink>(
         at_most,
         format,
         costs,
+        ..
     } = asked;
     let bytes = bytes_in(alloc, file, first, MAP_BYTES)?;
     let map = map_by(alloc, file, bytes.as_slice())?;
@@ -114,21 +118,22 @@ fn do_show<'a, R: Source, W: Sink>(
     }
 }
 
-/// Prints what registers mean as such a table, and answers the status 0, or 1 where they mean nothing.
+/// Prints what registers give a mode as such a table, and answers the status 0, or 1 where they mean nothing.
 #[inline(never)]
 fn do_show_registers<'a, R: Source, W: Sink>(
     alloc: Global,
     registers: &'a str,
     xlen: Xlen,
+    mode: Mode,
     first: &mut R,
     out: &mut W,
 ) -> Result<u8, Trouble<'a>>
-    ensures { ShowsRegisters registers.entry xlen
+    ensures { ShowsRegisters registers.entry xlen mode
         (reading R.remaining R.failures first.old first.new)
         (writing W.contents W.failures W.stalls out.old out.new) result }
 {
     let listing = bytes_in(alloc, registers, first, REGISTER_BYTES)?;
-    match print_registers(alloc, xlen, listing.as_slice(), out) {
+    match print_registers(alloc, mode, xlen, listing.as_slice(), out) {
         Ok(meant) => Ok(answer_status(meant)),
         Err(fault) => Err(listing_trouble(registers, fault)),
     }
@@ -143,13 +148,13 @@ pub fn do_show_as<'a, R: Source, W: Sink>(
     first: &mut R,
     out: &mut W,
 ) -> Result<u8, Trouble<'a>>
-    ensures { ShowsAs registers file.entry asked.xlen asked.limit asked.at_most
+    ensures { ShowsAs registers file.entry asked.xlen asked.mode asked.limit asked.at_most
         asked.format asked.costs
         (reading R.remaining R.failures first.old first.new)
         (writing W.contents W.failures W.stalls out.old out.new) result }
 {
     if registers {
-        return do_show_registers(alloc, file, asked.xlen, first, out);
+        return do_show_registers(alloc, file, asked.xlen, asked.mode, first, out);
     }
     do_show(alloc, file, asked, first, out)
 }

@@ -24,7 +24,7 @@ returns-in-Err-measure_where g c =
     let w = c.in-Err-measure_where.ensures in
     let b = w.broken in
     let writes = rw ended at e.writes in
-    unmeasured _ _ _ b.0 b.2 w.asked (rw ended at e.all c.requires.kept) b.1 b.3 b.4.part (rw ended at e.reads) (rw (writes.0, writes.1) at b.4.fails)
+    unmeasured _ _ _ b.0 b.2 _ w.asked (rw ended at e.all c.requires.kept) b.1 b.3 b.4.part (rw ended at e.reads) (rw (writes.0, writes.1) at b.4.fails)
 
 pub returns-in-Ok-tell_first : goal.returns-in-Ok-tell_first
 returns-in-Ok-tell_first g c =
@@ -33,8 +33,8 @@ returns-in-Ok-tell_first g c =
     let before = rw ended at e.writes in
     let m = c.in-Ok-measure_where.ensures in
     let w = c.in-Ok-tell_first.ensures in
-    compared _ _ _ _ _ (rw ended at e.all c.requires.kept) m.measured w.told (rw ended at e.reads)
-    (w.well.0 ∙ m.well.0 ∙ before.0, w.well.1 ∙ m.well.1 ∙ before.1)
+    rw (c.compared.ensures.status, c.compared.ensures.notes) (compared _ _ _ _ _ _ (rw ended at e.all c.requires.kept) m.measured w.told (rw ended at e.reads)
+    (w.well.0 ∙ m.well.0 ∙ before.0, w.well.1 ∙ m.well.1 ∙ before.1))
 
 pub returns : goal.returns
 returns g c =
@@ -43,5 +43,5 @@ returns g c =
     let before = rw ended at e.writes in
     let m = c.in-Ok-measure_where.ensures in
     let b = c.in-Err-tell_first.ensures.broken in
-    not_told _ _ _ b.0 (rw (ended, b.1) at e.all c.requires.kept) m.measured b.2.part (rw ended at e.reads)
+    not_told _ _ _ b.0 _ (rw (ended, b.1) at e.all c.requires.kept) m.measured b.2.part (rw ended at e.reads)
     (rw (m.well.0 ∙ before.0, m.well.1 ∙ before.1) at b.2.fails)

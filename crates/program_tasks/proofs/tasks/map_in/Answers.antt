@@ -1,6 +1,7 @@
-use Rattle.std.proofs.Common.{inr}
+use Rattle.std.proofs.Common.{[], ◌∷◌, codes, inr}
 use Rattle.program_tasks.specs.declared.task.Subcommand.TheVariants as subcommands
-use Rattle.program_tasks.specs.Faults.{IsFirst, demands_of}
+use Rattle.program_tasks.specs.Faults.{IsFirst, demands_of, has, names_mode, names_width}
+use Rattle.program_tasks.proofs.Firsts.{longer, moded_wrongly}
 use Rattle.program_tasks.proofs.Refused.{given}
 use Rattle.program_tasks.proofs.Passed.{handed_on}
 use Rattle.program_tasks.proofs.tasks.map_in.Goals as goal
@@ -10,4 +11,12 @@ returns-in_err-xlen-clause-fault g c =
     let value = g.V.Values.value c.args.given.now in
     let flag = g.V.Values.flag c.args.given.now in
     handed_on c.from_residual-in_err-xlen.result c.in_err-xlen.field-0.0 (IsFirst value flag (demands_of subcommands.Map)) c.from_residual-in_err-xlen.ensures.1
-    (inr (given value _ _ c.in_ok-registers.ensures.value, c.in_err-xlen.ensures.fault))
+    (inr (given value _ _ c.in_ok-registers.ensures.value,
+    longer value flag (has (codes "xlen") ∷ names_width ∷ []) (has (codes "mode") ∷ names_mode ∷ []) _ c.in_err-xlen.ensures.fault))
+
+pub returns-in_err-mode-clause-fault : goal.returns-in_err-mode-clause-fault
+returns-in_err-mode-clause-fault g c =
+    let value = g.V.Values.value c.args.given.now in
+    let flag = g.V.Values.flag c.args.given.now in
+    handed_on c.from_residual-in_err-mode.result c.in_err-mode.field-0.0 (IsFirst value flag (demands_of subcommands.Map)) c.from_residual-in_err-mode.ensures.1
+    (inr (given value _ _ c.in_ok-registers.ensures.value, moded_wrongly value flag _ _ c.in_ok-xlen.ensures.value c.in_err-mode.ensures.fault))

@@ -1,7 +1,8 @@
 -- The registers have extents, so that none of their values is reserved.
-use Rattle.std.proofs.Common.{◌^◌}
+use Rattle.std.proofs.Common.{◌^◌, refl}
 use Rattle.permission_map.specs.Runs.{view_of_runs}
-use Rattle.pmp_match.proofs.Matched.{all_defined, all_words}
+use Rattle.pmp_match.proofs.Matched.{all_defined}
+use Rattle.register_audit.proofs.ByMode.{all_given}
 use Rattle.register_audit.proofs.Odd.{ends}
 use Rattle.register_audit.proofs.differences.differences_of.Goals as goal
 
@@ -11,8 +12,9 @@ unreachable-requires c =
     all_defined c.args.registers.now c.requires.0 c.requires.1 c.in_default.field-0.place is.inside c.in_default.field-0.value is.value.has
 
 pub stretches-requires : goal.stretches-requires
-stretches-requires c = rw c.as_slice.ensures (all_words c.args.registers.now c.in-Ok.extents c.in-Ok.ensures.extents)
+stretches-requires c = rw (c.as_slice.ensures.value, c.in_ok-given.ensures)
+    (all_given c.args.registers.now c.args.mode _ (c.in-Ok.extents, c.in-Ok.ensures.extents, refl))
 
 pub push_odd-requires : goal.push_odd-requires
-push_odd-requires c = rw c.as_slice-2.ensures.value (ends (view_of_runs c.args.map.now) c.in-Ok.extents (2 ^ 56) c.in_ok-all.all.items
-    (rw c.as_slice.ensures at c.in_ok-all.ensures))
+push_odd-requires c = rw c.as_slice-2.ensures.value (ends (view_of_runs c.args.map.now) c.in_ok-given.given.items (2 ^ 56)
+    c.in_ok-all.all.items (rw c.as_slice.ensures.value at c.in_ok-all.ensures))

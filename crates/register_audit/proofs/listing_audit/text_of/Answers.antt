@@ -6,7 +6,8 @@ use Rattle.register_audit.proofs.listing_audit.text_of.Goals as goal
 
 pub differences_of-requires : goal.differences_of-requires
 differences_of-requires c =
-    extents_given (view_of_runs c.args.map.now) c.args.registers.now c.args.all c.args.verdict.now c.requires (sym c.is_each.ensures ∙ c.if-is_each.true)
+    extents_given c.args.mode (view_of_runs c.args.map.now) c.args.registers.now c.args.all c.args.verdict.now c.requires
+    (sym c.is_each.ensures ∙ c.if-is_each.true)
 
 pub returns-then-is_each : goal.returns-then-is_each
 returns-then-is_each c = each (sym c.is_each.ensures ∙ c.if-is_each.true) c.in_ok-text.text.items c.in_ok-text.ensures

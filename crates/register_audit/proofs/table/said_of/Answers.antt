@@ -1,13 +1,19 @@
 -- The extents of the registers are of whole words.
-use Rattle.pmp_match.proofs.Matched.{all_words}
+use Rattle.register_audit.proofs.ByMode.{all_entries}
 use Rattle.register_audit.specs.Tables.{refused, shown}
 use Rattle.register_audit.proofs.table.said_of.Goals as goal
 
 pub extent_table-requires : goal.extent_table-requires
-extent_table-requires c = rw c.as_slice.ensures (all_words c.args.listing.now.registers c.in-Ok.extents c.in-Ok.ensures.extents)
+extent_table-requires c = rw (c.as_slice.ensures.value, c.in_ok-given.ensures)
+    (all_entries c.args.listing.now.registers c.args.mode c.in-Ok.extents c.in-Ok.ensures.extents)
 
 pub returns-in-Err : goal.returns-in-Err
 returns-in-Err c = rw c.in_ok-text-in-Err.ensures (refused _ c.in-Err.ensures.refused)
 
 pub returns : goal.returns
-returns c = shown c.in-Ok.ensures.modelled c.in-Ok.extents c.in-Ok.ensures.extents _ (rw (c.as_slice.ensures, c.count_on-on.ensures) at c.in_ok-text.ensures)
+returns c = shown c.in-Ok.ensures.modelled c.in-Ok.extents c.in-Ok.ensures.extents _ (rw (
+  c.as_slice.ensures.value,
+  c.in_ok-given.ensures,
+  c.default_perm-rest.ensures,
+  c.count_on-on.ensures,
+) at c.in_ok-text.ensures)

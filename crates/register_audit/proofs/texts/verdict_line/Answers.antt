@@ -7,7 +7,7 @@ pub returns-in-Differs : goal.returns-in-Differs
 returns-in-Differs c = rw c.in-Differs.is c.stretch_line.ensures
 
 pub returns-in-Cuts : goal.returns-in-Cuts
-returns-in-Cuts c = rw c.in-Cuts.is (c.cut_line.ensures c.args.fewest c.args.registers.now)
+returns-in-Cuts c = rw c.in-Cuts.is (c.cut_line.ensures c.args.mode c.args.fewest c.args.registers.now)
 
 pub returns-in-NoMeaning : goal.returns-in-NoMeaning
 returns-in-NoMeaning c = rw c.in-NoMeaning.is c.reserved_line.ensures

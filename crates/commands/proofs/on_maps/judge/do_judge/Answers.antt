@@ -20,5 +20,5 @@ returns-in_err-bank g c =
     ])
 
 pub returns : goal.returns
-returns g c = judges.Judges.judged _ c.in_ok-bank.bank c.judge_by.result c.in_ok-map.ensures.made c.in_ok-bank.ensures.loaded
-    (rw c.of-segments.ensures at c.judge_by.ensures)
+returns g c = judges.Judges.judged _ c.in_ok-bank.bank _ c.in_ok-map.ensures.made c.in_ok-bank.ensures.loaded
+    (rw (c.of-segments.ensures, c.new.ensures) at c.judge_by.ensures)

@@ -21,13 +21,14 @@ returns-in-Ok-tell_first g c =
     let ended = c.in-Ok.is in
     let w = c.in-Ok-tell_first.ensures.well in
     let before = rw ended at c.compare_judged-first.ensures.writes in
-    compared _ _ _ (rw ended at c.compare_judged-first.ensures.all) c.in-Ok-tell_first.ensures.told (rw ended at c.compare_judged-first.ensures.reads)
-    (w.0 ∙ before.0, w.1 ∙ before.1)
+    let reads = rw ended at c.compare_judged-first.ensures.reads in
+    rw c.notes_of.ensures (compared _ _ _ _ (rw ended at c.compare_judged-first.ensures.all) c.in-Ok-tell_first.ensures.told reads
+    (w.0 ∙ before.0, w.1 ∙ before.1))
 
 pub returns-in-Err-tell_first : goal.returns-in-Err-tell_first
 returns-in-Err-tell_first g c =
     let ended = c.in-Ok.is in
     let b = c.in-Err-tell_first.ensures.broken in
     let writes = rw ended at c.compare_judged-first.ensures.writes in
-    not_told _ b.0 (rw (ended, b.1) at c.compare_judged-first.ensures.all) b.2.part (rw ended at c.compare_judged-first.ensures.reads)
+    not_told _ b.0 _ (rw (ended, b.1) at c.compare_judged-first.ensures.all) b.2.part (rw ended at c.compare_judged-first.ensures.reads)
     (rw (writes.0, writes.1) at b.2.fails)

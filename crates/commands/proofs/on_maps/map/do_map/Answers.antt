@@ -13,7 +13,8 @@ returns-in_err-listing g c =
 pub returns-in-Ok : goal.returns-in-Ok
 returns-in-Ok g c =
     let w = rw c.as_slice.ensures.value at c.in-Ok.ensures.written in
-    rw c.answer_status.ensures (maps.Maps.told _ w.0 c.in-Ok.is_map c.in_ok-listing.ensures.whole w.1 w.2)
+    rw (c.noted.ensures, c.answer_status.ensures) (maps.Maps.told _ w.0 c.in-Ok.answer.notes.items c.in-Ok.answer.is_map
+    c.in_ok-listing.ensures.whole w.1 w.2)
 
 pub returns-in-Err-TooManyRanges : goal.returns-in-Err-TooManyRanges
 returns-in-Err-TooManyRanges g c =
@@ -33,5 +34,5 @@ returns g c =
           (c.in-Err-Listing.ensures.untouched (of_listing ∙ ap (λ f. Err (Listing f)) memory.0)))
       | inr (inr device) ↦
           let w = rw c.as_slice.ensures.value at c.in-Err-Listing.ensures.broken (of_listing ∙ ap (λ f. Err (Listing f)) device.0) in
-          rw (trouble ∙ device.1) (maps.Maps.no_output _ w.0 w.1 c.in_ok-listing.ensures.whole w.2 w.3)
+          rw (trouble ∙ device.1) (maps.Maps.no_output _ w.0 w.1 w.2 c.in_ok-listing.ensures.whole w.3 w.4)
     ]
