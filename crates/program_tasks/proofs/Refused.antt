@@ -194,10 +194,16 @@ met value flag (Audit map registers) options v sound = (
   given value _ _ v.0,
   (
     given value _ _ v.1,
-    (λ twice. sound (same _ _ (sym v.0 ∙ twice.0), same _ _ (sym v.1 ∙ twice.1)), (given value _ _ v.3, (
-      λ lacks. lacks options.xlen v.3,
-      (given value _ _ v.4, (λ lacks. lacks options.mode v.4, tt)),
-    ))),
+    (
+      λ twice. sound (same _ _ (sym v.0 ∙ twice.0), same _ _ (sym v.1 ∙ twice.1)),
+      (
+        given value _ _ v.3,
+        (
+          λ lacks. lacks options.xlen v.3,
+          (given value _ _ v.4, (λ lacks. lacks options.mode v.4, tt)),
+        ),
+      ),
+    ),
   ),
 )
 met value flag (Map registers) options v sound =

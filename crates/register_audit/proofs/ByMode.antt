@@ -113,8 +113,11 @@ module _ (registers : Registers) (a : Access) (aligned : IsAligned a) (inside : 
   -- what the whole space lets through
   last_is : (perm : Perm) → lets_through (everywhere registers.xlen perm ∷ []) (as_mode User a) ≡ holds perm a.kind
   last_is perm =
-      rw (test_from_Meets (everywhere registers.xlen perm) (as_mode User a) (met_somewhere perm), le-leb 0 a.address (omega arith),
-      le-leb (a.address + a.size) (space_end registers.xlen) ends_inside) refl
+      rw (
+        test_from_Meets (everywhere registers.xlen perm) (as_mode User a) (met_somewhere perm),
+        le-leb 0 a.address (omega arith),
+        le-leb (a.address + a.size) (space_end registers.xlen) ends_inside,
+      ) refl
 
   granted : (place : ℕ) (x : Extent) → ContainsAll x a × LetsThrough registers a place x
       → grants (with_perm x (perm_in registers a.mode place x)) (as_mode User a) ≡ true

@@ -11,8 +11,10 @@ returns-in_err-xlen-clause-fault g c =
     let value = g.V.Values.value c.args.given.now in
     let flag = g.V.Values.flag c.args.given.now in
     handed_on c.from_residual-in_err-xlen.result c.in_err-xlen.field-0.0 (IsFirst value flag (demands_of subcommands.Map)) c.from_residual-in_err-xlen.ensures.1
-    (inr (given value _ _ c.in_ok-registers.ensures.value,
-    longer value flag (has (codes "xlen") ∷ names_width ∷ []) (has (codes "mode") ∷ names_mode ∷ []) _ c.in_err-xlen.ensures.fault))
+    (inr (
+      given value _ _ c.in_ok-registers.ensures.value,
+      longer value flag (has (codes "xlen") ∷ names_width ∷ []) (has (codes "mode") ∷ names_mode ∷ []) _ c.in_err-xlen.ensures.fault,
+    ))
 
 pub returns-in_err-mode-clause-fault : goal.returns-in_err-mode-clause-fault
 returns-in_err-mode-clause-fault g c =
