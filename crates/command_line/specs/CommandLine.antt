@@ -278,7 +278,8 @@ second_of id rows = option_and_then (λ values. slice_get values 1) (all_of id r
 -- the value that a name has in rows: the first of the argument of that name, but the size of
 -- `--monitor` is its second
 abbrev pub value_of : List Row → Text → Option Text
-value_of rows name = if bytes_eq name size_name then second_of base_name rows else first_of name rows
+value_of rows name =
+    if bytes_eq name size_name then second_of base_name rows else first_of name rows
 
 -- the request is the subcommand that was entered, with the values of its rows
 abbrev pub IsRequest : Option (Text × List Row) → Request → Type 0

@@ -24,7 +24,8 @@ use Rattle.commands.specs.Boards.{PrintsBoard}
 pub data MapsListing {W : Type 0} (file : Bor (List ℕ)) (xlen : Xlen) (mode : Mode)
     (listing : List ℕ) (out : Writing W) : Said → Type 0 where
   told : (text notes : List ℕ) (is_map : Bool) → IsMapFile mode xlen listing text notes is_map
-      → TakesAll text out → MapsListing file xlen mode listing out (Ok (answer_status is_map, notes))
+      → TakesAll text out
+      → MapsListing file xlen mode listing out (Ok (answer_status is_map, notes))
   no_memory : IsUnwritten out → MapsListing file xlen mode listing out (Err Memory)
   too_many : (leaves : Listing) → listed xlen listing ≡ Some leaves → AreTooFine mode leaves
       → IsUnwritten out → MapsListing file xlen mode listing out (Err (TooManyRanges file))
@@ -40,7 +41,8 @@ pub data MapsTree {W : Type 0} (file : Bor (List ℕ)) (mode : Mode) (bytes : Li
   of_board : (done : Said) → mode ≢ Machine
       → Noting [] (PrintsBoard file (IsMapOfTree bytes) (IsNoMap bytes) out) done
       → MapsTree file mode bytes out done
-  no_registers : mode ≡ Machine → IsUnwritten out → MapsTree file mode bytes out (Err (NoRegisters file))
+  no_registers : mode ≡ Machine → IsUnwritten out
+      → MapsTree file mode bytes out (Err (NoRegisters file))
 
 -- `map`: a file is read, which is a device tree where its bytes begin as one does, and a listing of
 -- registers otherwise

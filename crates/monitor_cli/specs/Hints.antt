@@ -173,9 +173,9 @@ pub data HasSourceHints {R : Type 0} (xlen : Xlen) (name : List ℕ) (source : R
       → HasSourceHints xlen name source (Some (size_hint files.ListingOrTree name))
 
 -- the hints of a task: those of its first input that is not what it should be, or that is a map or
--- a platform which needs more entries than it may. A certificate and the tree of a platform have none
--- but of their size, and the file of an enclave none; a trace is for the harts of its platform in `run`, and otherwise for
--- `judge`
+-- a platform which needs more entries than it may. A certificate and the tree of a platform have
+-- none but of their size, and the file of an enclave none; a trace is for the harts of its platform
+-- in `run`, and otherwise for `judge`
 abbrev pub HasTaskHints : {R : Type 0} → Task → Options → Reading R → Reading R → Option (List ℕ)
     → Type 0
 HasTaskHints (tasks.Run platform trace measure) options first second hints =

@@ -3,11 +3,11 @@ use Rattle.std.specs.Prelude.{ℕ, ◌≡◌, ◌<◌, ◌≤◌, ◌+◌, ◌%�
 use Rattle.text_lines.specs.Numbers.{number_of}
 use Rattle.program_tasks.specs.Subcommands.{Text}
 
--- the names of the two values of `--monitor`: its base has the option's, and its size the one that
--- usage calls it by
+-- the name of the base among the two values of `--monitor`, which is that of the option
 abbrev pub base_name : Text
 base_name = codes "monitor"
 
+-- that of the size, which is the one that usage calls it by
 abbrev pub size_name : Text
 size_name = codes "SIZE"
 
