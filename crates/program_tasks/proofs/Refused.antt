@@ -1,5 +1,5 @@
 -- The first demand that values lack leaves no sound task.
-use Rattle.std.proofs.Common.{[], ◌∷◌, ◌≡◌, ◌≢◌, ◌∙◌, ℕ, List, Option, Some, None, Bool, true, false, IfSome, ap, codes, find, inl, inr, option_map, refl, subst}
+use Rattle.std.proofs.Common.{[], ◌∷◌, ◌≡◌, ◌≢◌, ◌∙◌, ◌⊎◌, ℕ, List, Option, Some, None, Bool, true, false, IfSome, ap, codes, find, inl, inr, option_map, refl, subst}
 use Rattle.std.proofs.Common.{sym, true≢false}
 use Rattle.std.specs.Borrow.{Bor}
 use Rattle.std.specs.Str.{bytes_eq}
