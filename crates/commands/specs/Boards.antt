@@ -11,7 +11,7 @@ use Rattle.command_inputs.specs.Troubles.{board_trouble}
 -- reason, and nothing is printed
 pub data PrintsBoard {W : Type 0} (file : Bor (List ℕ)) (IsText : List ℕ → Type 0)
     (IsNone : BoardTextFault → Type 0) (out : Writing W) : Result ℕ Trouble → Type 0 where
-  told : (text : List ℕ) → IsText text → TakesAll text out
+  has_text : (text : List ℕ) → IsText text → TakesAll text out
       → PrintsBoard file IsText IsNone out (Ok 0)
   no_text : (fault : BoardTextFault) → IsNone fault → IsUnwritten out
       → PrintsBoard file IsText IsNone out (Err (board_trouble file fault))
