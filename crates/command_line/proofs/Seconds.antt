@@ -2,10 +2,16 @@
 use Rattle.std.proofs.Common.{◌≡◌, ◌∙◌, List, [], ◌∷◌, Option, Some, None, ap, map, option_map, refl, sym}
 use Rattle.std.specs.Prelude.{option_and_then, slice_get}
 use Rattle.std.specs.Borrow.{Bor}
+use Rattle.std.specs.Slice.{IsItemAt}
+use Rattle.std.proofs.lemmas.Option.{slice_get_past, slice_get_read}
 use Rattle.clap.specs.Words.{Text}
 
--- the second of some texts
-pub at_second : (texts : List (Bor Text)) → option_map (λ s. s.now) (slice_get texts 1) ≡ slice_get (map (λ s. s.now) texts) 1
+-- what is lent of the second of some texts
+pub of_item : (texts : List (Bor Text)) (lent : Option (Bor (Bor Text))) → IsItemAt texts 1 lent → option_map (λ x. x.now) lent ≡ slice_get texts 1
+of_item texts None is = sym (slice_get_past texts 1 is.3)
+of_item texts (Some x) is = sym (slice_get_read texts _ 1 x.now refl is.3.0 is.1)
+
+at_second : (texts : List (Bor Text)) → option_map (λ s. s.now) (slice_get texts 1) ≡ slice_get (map (λ s. s.now) texts) 1
 at_second [] = refl
 at_second (a ∷ []) = refl
 at_second (a ∷ b ∷ texts) = refl

@@ -1,7 +1,7 @@
 //! The values of a subcommand, as `clap` found them.
 
 ghost use Rattle.std.specs.Prelude.{◌≡◌, option_map};
-ghost use Rattle.clap.specs.Words.{found_of, one_of, rows_of};
+ghost use Rattle.clap.specs.Words.{first_of, found_of, one_of, rows_of};
 ghost use Rattle.command_line.specs.CommandLine.{second_of, value_of};
 
 use clap::ArgMatches;
@@ -19,6 +19,14 @@ impl<'m, 'a> Found<'m, 'a> {
         ensures { result.matches ≡ matches.entry }
     {
         Found { matches }
+    }
+
+    /// The first value of the argument of that name.
+    fn first(&self, name: &str) -> Option<&'a str>
+        ensures { option_map (λ s. s.now) result
+            ≡ first_of name.now (rows_of (found_of self.now.matches.now)) }
+    {
+        self.matches.get_str(name)
     }
 
     /// The second value of the argument of that name.
@@ -42,7 +50,7 @@ impl<'a> Values<'a> for Found<'_, 'a> {
         if name == SIZE_NAME {
             return self.second("monitor");
         }
-        self.matches.get_str(name)
+        self.first(name)
     }
 
     fn is_given(&self, name: &str) -> bool {
