@@ -1,6 +1,7 @@
 //! `map`: the map that registers mean, or that of a board.
 
-ghost use Rattle.std.specs.Prelude.{◌≡◌, ◌-◌, ◌^◌, ◌<◌, length};
+ghost use Rattle.std.specs.Prelude.{◌≡◌, ◌↔◌, ◌-◌, ◌^◌, ◌<◌, length, true};
+ghost use Rattle.pmp_match.specs.declared.access.Mode as Mode;
 ghost use Rattle.byte_streams.specs.Writings.{writing};
 ghost use Rattle.command_inputs.specs.Inputs.{reading};
 ghost use Rattle.commands.specs.Answered.{said};
@@ -37,6 +38,13 @@ fn map_listing<'a, W: Sink>(
     }
 }
 
+/// Whether a mode is machine mode.
+fn is_machine(mode: Mode) -> bool
+    ensures { (result ≡ true) ↔ (mode ≡ Mode.Machine) }
+{
+    mode == Mode::Machine
+}
+
 /// Prints the map of a board's device tree, of which machine mode is not asked.
 fn map_tree<'a, W: Sink>(
     alloc: Global,
@@ -48,7 +56,7 @@ fn map_tree<'a, W: Sink>(
     ensures { MapsTree file.entry mode bytes.now
         (writing W.contents W.failures W.stalls out.old out.new) (said result) }
 {
-    if mode == Mode::Machine {
+    if is_machine(mode) {
         return Err(Trouble::NoRegisters { file });
     }
     quiet(print_map_of_tree(alloc, file, bytes, out))

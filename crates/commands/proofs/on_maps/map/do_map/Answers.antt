@@ -11,9 +11,9 @@ returns-in_err-bytes g c =
 pub returns-then-is_tree : goal.returns-then-is_tree
 returns-then-is_tree g c =
     maps.Maps.of_tree _ _ c.in_ok-bytes.ensures.whole (rw c.as_slice.ensures.value at (sym c.is_tree.ensures ∙ c.if-is_tree.true))
-    (rw c.as_slice-2.ensures.value at c.map_tree.ensures)
+    (rw c.as_slice-then-is_tree.ensures.value at c.map_tree.ensures)
 
 pub returns : goal.returns
 returns g c =
     maps.Maps.of_listing _ _ c.in_ok-bytes.ensures.whole (rw c.as_slice.ensures.value at (sym c.is_tree.ensures ∙ c.if-is_tree.false))
-    (rw c.as_slice-3.ensures.value at c.map_listing.ensures)
+    (rw c.as_slice-2.ensures.value at c.map_listing.ensures)

@@ -15,8 +15,8 @@ returns-in-Err-TooManyRanges g c =
     let fine = c.in-Err-TooManyRanges.ensures.many (ap (λ f. Err f) c.in-Err-TooManyRanges.field-0-is) in
     maps.MapsListing.too_many fine.0 fine.1 fine.2 fine.3
 
-pub returns : goal.returns
-returns g c =
+pub returns-in-Err-Listing : goal.returns-in-Err-Listing
+returns-in-Err-Listing g c =
     let of_listing = ap (λ f. Err f) c.in-Err-Listing.field-0-is in
     let trouble = c.listing_trouble.ensures in
     elim (by_fault c.args.file c.in-Err-Listing.fault) [
