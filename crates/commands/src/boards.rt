@@ -9,7 +9,7 @@ ghost use Rattle.commands.specs.Boards.{PrintsBoard};
 ghost use Rattle.commands.specs.Platform.{PrintsPlatform};
 
 use board_texts::{map_text_of, platform_text_of};
-use byte_streams::{DeviceFault, Sink, Source, write_whole};
+use byte_streams::{Sink, Source, write_whole};
 use command_inputs::{Trouble, bytes_in};
 use std::alloc::Global;
 
@@ -30,10 +30,8 @@ pub(crate) fn print_map_of_tree<'a, W: Sink>(
         Ok(text) => text,
         Err(fault) => return Err(Trouble::of_board(file, fault)),
     };
-    match write_whole(out, text.as_slice()) {
-        Ok(()) => Ok(0),
-        Err(DeviceFault) => Err(Trouble::Output),
-    }
+    write_whole(out, text.as_slice())?;
+    Ok(0)
 }
 
 /// Prints its platform, with the monitor where it is given.
@@ -52,10 +50,8 @@ fn print_platform_of_tree<'a, W: Sink>(
         Ok(text) => text,
         Err(fault) => return Err(Trouble::of_board(file, fault)),
     };
-    match write_whole(out, text.as_slice()) {
-        Ok(()) => Ok(0),
-        Err(DeviceFault) => Err(Trouble::Output),
-    }
+    write_whole(out, text.as_slice())?;
+    Ok(0)
 }
 
 /// Prints the platform of a board's device tree, with the monitor where its base and size are given, and answers the status 0.
