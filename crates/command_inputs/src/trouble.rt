@@ -219,7 +219,11 @@ impl<'a> Trouble<'a> {
             Trouble::NotAPlatform { file } => about(*file, ": not a platform\n", err),
             Trouble::NoBoardText { file, fault } => about_board(*file, fault, err),
             Trouble::NoRegisters { file } => {
-                about(*file, ": a device tree, and '--mode m' is for registers\n", err)
+                about(
+                    *file,
+                    ": a device tree, and '--mode m' is for registers\n",
+                    err,
+                )
             }
             Trouble::TooFar { file } => about(*file, ": too far: 34 bits\n", err),
             Trouble::NeedsEntries { needed } => {

@@ -265,12 +265,7 @@ fn needed_arg<'a>(alloc: Global, name: &'a str, value: &'a str, help: &'a str) -
 }
 
 /// An option with as many values as there are names for them.
-fn values_arg<'a>(
-    alloc: Global,
-    name: &'a str,
-    values: &'a [&'a str],
-    help: &'a str,
-) -> Arg<'a>
+fn values_arg<'a>(alloc: Global, name: &'a str, values: &'a [&'a str], help: &'a str) -> Arg<'a>
     ensures rule { rule_of result ≡ values_rule name.entry.now (length values.entry.now) }
     ensures local { result.global ≡ false }
 {

@@ -14,7 +14,8 @@ use byte_streams::{Sink, Source, write_whole};
 use command_inputs::Trouble;
 use commands::{
     Answered, Asked, CertificateSink, Straight, Table, Whole, do_audit, do_check, do_judge_as,
-    do_lint, do_lint_listing, do_lint_trace, do_map, do_measure, do_plan, do_platform, do_show_as, quiet,
+    do_lint, do_lint_listing, do_lint_trace, do_map, do_measure, do_plan, do_platform, do_show_as,
+    quiet,
 };
 use pmp_encoding::Limit;
 use program_files::WholeSink;

@@ -266,7 +266,6 @@ met value flag (Measure file layout) options v sound =
         ),
       ),
     )
-
 met value flag (Platform board monitor) options v sound = (
   given value _ _ v.0,
   (

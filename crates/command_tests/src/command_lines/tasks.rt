@@ -182,7 +182,14 @@ const PLATFORMS: &[Row<'static>] = &[
         PLAIN,
     ),
     (
-        &["pmpmon", "platform", "--monitor", "0x80000000", "524288", "-"],
+        &[
+            "pmpmon",
+            "platform",
+            "--monitor",
+            "0x80000000",
+            "524288",
+            "-",
+        ],
         Task::Platform {
             board: "-",
             monitor: Some((0x80000000, 0x80000)),
@@ -190,7 +197,14 @@ const PLATFORMS: &[Row<'static>] = &[
         PLAIN,
     ),
     (
-        &["pmpmon", "platform", "b", "--monitor", "0", "0x100000000000000"],
+        &[
+            "pmpmon",
+            "platform",
+            "b",
+            "--monitor",
+            "0",
+            "0x100000000000000",
+        ],
         Task::Platform {
             board: "b",
             monitor: Some((0, 1 << 56)),

@@ -152,7 +152,11 @@ fn a_failing_device_ends_each_command_with_its_text(rt: HostRuntime) {
             (&["pmpmon", "audit", "m", "s"], MAP, LISTING),
             (&["pmpmon", "show", "m"], MAP, b""),
             (&["pmpmon", "map", "m"], LISTING, b""),
-            (&["pmpmon", "platform", "m", "--monitor", "0x80000000", "4096"], BOARD, b""),
+            (
+                &["pmpmon", "platform", "m", "--monitor", "0x80000000", "4096"],
+                BOARD,
+                b"",
+            ),
             (&["pmpmon", "lint", "m"], IDLE, b""),
         ],
     );

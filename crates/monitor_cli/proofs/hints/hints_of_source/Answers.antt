@@ -9,7 +9,7 @@ use Rattle.monitor_cli.proofs.hints.hints_of_source.Goals as goal
 pub returns-in-Bytes-then-is_tree : goal.returns-in-Bytes-then-is_tree
 returns-in-Bytes-then-is_tree g c =
     let had = rw c.in-Bytes.is at c.in_ok-bytes.ensures in
-    hints.HasSourceHints.of_tree c.in-Bytes.bytes.items had (rw c.as_slice.ensures.value at (c.is_tree.ensures) )
+    hints.HasSourceHints.of_tree c.in-Bytes.bytes.items had (rw c.as_slice.ensures.value at (c.is_tree.ensures))
 
 pub returns-in-Bytes : goal.returns-in-Bytes
 returns-in-Bytes g c =
