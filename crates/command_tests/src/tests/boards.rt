@@ -17,7 +17,7 @@ const PLATFORM: &str =
 /// Of each input nothing is printed, and this is said.
 fn all_refused(rt: &impl Abort, alloc: Global, rows: &[(&[&str], &[u8], &str)]) {
     for (words, first, said) in rows {
-        ends(rt, alloc, words, (first, b""), 2, b"", said.as_bytes());
+        ends(rt, alloc, words, (*first, b""), 2, b"", said.as_bytes());
     }
 }
 
