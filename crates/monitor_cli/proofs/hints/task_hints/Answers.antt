@@ -19,8 +19,8 @@ returns-in-Map g c =
     (reading remaining failures c.args.first.now c.hints_of_source.new.source) hints)
     (λ hints. option_map (λ text. text.items) hints) c.hints_of_source.result c.hints_of_source.ensures refl)
 
-pub returns : goal.returns
-returns g c =
+pub returns-in-Platform : goal.returns-in-Platform
+returns-in-Platform g c =
     let second = c.args.second.now in
     let remaining = g.R.Source.remaining in
     let failures = g.R.Source.failures in
