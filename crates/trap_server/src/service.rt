@@ -128,7 +128,7 @@ fn keep_words(monitor: &Monitor, hosts: &mut HostWords, trap: &Trap)
 
 /// Takes the digest of the pages of a creation that passes its checks, which are asked for and read; of another call there is
 /// none, and nothing is asked for.
-#[inline(never)]
+#[inline(always)]
 fn measure_pages<R: Source, W: Sink>(
     monitor: &Monitor,
     trap: &Trap,
