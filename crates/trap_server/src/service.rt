@@ -127,8 +127,8 @@ fn keep_words(monitor: &Monitor, hosts: &mut HostWords, trap: &Trap)
 }
 
 /// Takes the digest of the pages of a creation that passes its checks, which are asked for and read; of another call there is
-/// none, and nothing is asked for.
-#[inline(always)]
+/// none, and nothing is asked for. It is not inlined: so a trap is in memory, and its registers are copied from there at once.
+#[inline(never)]
 fn measure_pages<R: Source, W: Sink>(
     monitor: &Monitor,
     trap: &Trap,
