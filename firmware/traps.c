@@ -77,6 +77,7 @@ uint64_t next_trap(void)
 {
     struct action action;
     struct world *world;
+    struct caller *caller;
     check_stack();
     for (;;) {
         leave_monitor();
@@ -89,8 +90,9 @@ uint64_t next_trap(void)
         stop_harts();
     if (action.kind < ENCLAVE_CALL)
         return TAG_CALL;
-    callers[this_hart()].stop_cause = world->cause;
-    callers[this_hart()].stop_value = world->value;
+    caller = &callers[this_hart()];
+    caller->stop_cause = world->cause;
+    caller->stop_value = world->value;
     return action.kind == ENCLAVE_CALL ? TAG_CALL : TAG_STOP;
 }
 
