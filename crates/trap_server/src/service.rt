@@ -139,7 +139,8 @@ fn measure_pages<R: Source, W: Sink>(
     requires hart { trap.now.hart < 4 }
     requires call { trap.now.event ≡ TrapEvent.Call }
     ensures digest { TakesDigest result taken.new.bytes (state_by monitor.now) trap.now
-        (R.remaining source.old) (R.remaining source.new) (W.contents sink.old) (W.contents sink.new) }
+        (R.remaining source.old) (R.remaining source.new)
+        (W.contents sink.old) (W.contents sink.new) }
     ensures reads { CountsReads result (R.failures source.old) (R.failures source.new) }
     ensures writes { CountsWrites result (W.failures sink.old) (W.failures sink.new)
         (W.stalls sink.old) (W.stalls sink.new) }
