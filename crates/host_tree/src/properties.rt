@@ -1,0 +1,105 @@
+//! The properties of a node as the host has them.
+
+ghost use Rattle.std.specs.Prelude.{◌≡◌, ◌++◌, ◌∷◌, OnOk, IfOk, List, [], map, drop};
+ghost use Rattle.device_tree.specs.Pieces.{Part, Setting, has, parts_of};
+ghost use Rattle.tree_writer.specs.Written.{HasWritten, setting};
+ghost use Rattle.host_tree.specs.Settings.{host_settings, host_value, left_setting, left_settings, names_extensions, status_of};
+
+use crate::extensions::open_names;
+use crate::fault::HostTreeFault;
+use crate::put::put_property;
+use device_tree::{Piece, PlacedPiece};
+use std::alloc::Global;
+use tree_writer::TreeWriter;
+
+/// Whether a property of that name names a hart's extensions.
+fn names_extensions(name: &[u8]) -> bool
+    ensures { result ≡ names_extensions name.now }
+{
+    name == b"riscv,isa".as_slice() || name == b"riscv,isa-extensions".as_slice()
+}
+
+/// Writes a property, of a hart without the extensions that are closed.
+fn put_host_value(
+    alloc: Global,
+    writer: &mut TreeWriter,
+    name: &[u8],
+    value: &[u8],
+    is_hart: bool,
+) -> Result<(), HostTreeFault>
+    ensures { OnOk result ((parts : List Part) → HasWritten writer.old parts
+        → HasWritten writer.new
+        (parts ++ has (setting name.now (host_value is_hart name.now value.now)) ∷ [])) }
+{
+    if is_hart && names_extensions(name) {
+        let open = open_names(alloc, value)?;
+        return put_property(writer, name, open.as_slice());
+    }
+    put_property(writer, name, value)
+}
+
+/// Writes what is left of a property.
+fn put_left(
+    alloc: Global,
+    writer: &mut TreeWriter,
+    name: &[u8],
+    value: &[u8],
+    is_hart: bool,
+    is_closed: bool,
+) -> Result<(), HostTreeFault>
+    ensures { OnOk result ((parts : List Part) → HasWritten writer.old parts
+        → HasWritten writer.new
+        (parts ++ map has (left_setting is_hart is_closed (setting name.now value.now)))) }
+{
+    if is_closed && name == b"status".as_slice() {
+        return Ok(());
+    }
+    put_host_value(alloc, writer, name, value, is_hart)
+}
+
+/// Writes the status of a node that is closed.
+fn put_status(writer: &mut TreeWriter, is_closed: bool) -> Result<(), HostTreeFault>
+    ensures { OnOk result ((parts : List Part) → HasWritten writer.old parts
+        → HasWritten writer.new (parts ++ map has (status_of is_closed))) }
+{
+    if is_closed {
+        return put_property(writer, b"status".as_slice(), b"disabled\0".as_slice());
+    }
+    Ok(())
+}
+
+/// Writes what is left of properties.
+fn put_all_left<'a>(
+    alloc: Global,
+    writer: &mut TreeWriter,
+    properties: &'a [PlacedPiece<'a>],
+    is_hart: bool,
+    is_closed: bool,
+) -> Result<(), HostTreeFault>
+    ensures { OnOk result ((parts : List Part) (own : List Setting)
+        → parts_of properties.now ≡ map has own → HasWritten writer.old parts
+        → HasWritten writer.new (parts ++ map has (left_settings is_hart is_closed own))) }
+{
+    for placed in properties {
+        if let Piece::Has(name, value) = placed.piece {
+            put_left(alloc, writer, name, value, is_hart, is_closed)?;
+        }
+    }
+    Ok(())
+}
+
+/// Writes the properties of a node as the host has them.
+pub(crate) fn put_properties<'a>(
+    alloc: Global,
+    writer: &mut TreeWriter,
+    properties: &'a [PlacedPiece<'a>],
+    is_hart: bool,
+    is_closed: bool,
+) -> Result<(), HostTreeFault>
+    ensures { OnOk result ((parts : List Part) (own : List Setting)
+        → parts_of properties.now ≡ map has own → HasWritten writer.old parts
+        → HasWritten writer.new (parts ++ map has (host_settings is_hart is_closed own))) }
+{
+    put_status(writer, is_closed)?;
+    put_all_left(alloc, writer, properties, is_hart, is_closed)
+}

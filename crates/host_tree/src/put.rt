@@ -1,0 +1,45 @@
+//! Parts of a tree, written.
+
+ghost use Rattle.std.specs.Prelude.{◌++◌, ◌∷◌, OnOk, List, []};
+ghost use Rattle.device_tree.specs.Pieces.{Part, begins, ends, has};
+ghost use Rattle.tree_writer.specs.Written.{HasWritten, setting};
+
+use crate::fault::HostTreeFault;
+use tree_writer::TreeWriter;
+
+/// Writes the beginning of a node.
+pub(crate) fn put_begin(writer: &mut TreeWriter, name: &[u8]) -> Result<(), HostTreeFault>
+    ensures { OnOk result ((parts : List Part) → HasWritten writer.old parts
+        → HasWritten writer.new (parts ++ begins name.now ∷ [])) }
+{
+    match writer.begin_node(name) {
+        Ok(()) => Ok(()),
+        Err(fault) => Err(HostTreeFault::NotWritten(fault)),
+    }
+}
+
+/// Writes a property.
+pub(crate) fn put_property(
+    writer: &mut TreeWriter,
+    name: &[u8],
+    value: &[u8],
+) -> Result<(), HostTreeFault>
+    ensures { OnOk result ((parts : List Part) → HasWritten writer.old parts
+        → HasWritten writer.new (parts ++ has (setting name.now value.now) ∷ [])) }
+{
+    match writer.property(name, value) {
+        Ok(()) => Ok(()),
+        Err(fault) => Err(HostTreeFault::NotWritten(fault)),
+    }
+}
+
+/// Writes the end of a node.
+pub(crate) fn put_end(writer: &mut TreeWriter) -> Result<(), HostTreeFault>
+    ensures { OnOk result ((parts : List Part) → HasWritten writer.old parts
+        → HasWritten writer.new (parts ++ ends ∷ [])) }
+{
+    match writer.end_node() {
+        Ok(()) => Ok(()),
+        Err(fault) => Err(HostTreeFault::NotWritten(fault)),
+    }
+}

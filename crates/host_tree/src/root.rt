@@ -1,0 +1,102 @@
+//! The children of the root, and among them `/reserved-memory`.
+
+ghost use Rattle.std.specs.Prelude.{◌≡◌, ◌≤◌, ◌++◌, IfOk, OnOk, List, length};
+ghost use Rattle.device_tree.specs.Pieces.{Part, parts_of};
+ghost use Rattle.device_tree.specs.Nodes.{BeginsNoNode, Nodes, parts_of_nodes};
+ghost use Rattle.board_ranges.specs.declared.kinds.Place.TheVariants.{BelowRoot};
+ghost use Rattle.board_ranges.specs.Windows.{same};
+ghost use Rattle.tree_writer.specs.Written.{HasWritten};
+ghost use Rattle.host_tree.specs.HostNodes.{HostNodes};
+ghost use Rattle.host_tree.specs.HostTrees.{portion_of};
+ghost use Rattle.host_tree.specs.Ranges.{AllFit, with_ranges};
+
+use crate::fault::HostTreeFault;
+use crate::own_node::put_head;
+use crate::parent::put_parent;
+use crate::put::put_end;
+use crate::reserved::{Reserved, put_ranges};
+use crate::share::Share;
+use crate::walk::put_nodes;
+use board_ranges::{Cells, Head, Place, Way, after_end, head_of, inner_of};
+use device_tree::PlacedPiece;
+use std::alloc::Global;
+use tree_writer::TreeWriter;
+
+/// Writes a child of the root but for its end, and answers the pieces from there on.
+fn put_child<'a>(
+    alloc: Global,
+    share: &Share<'_>,
+    head: &Head<'a>,
+    cells: &Cells,
+    writer: &mut TreeWriter,
+) -> Result<&'a [PlacedPiece<'a>], HostTreeFault> {
+    let bus = (cells, &Way::Same);
+    put_head(alloc, share, head, Place::BelowRoot, bus, writer)?;
+    let inner = match inner_of(alloc, head.name, head.properties, Place::BelowRoot, bus) {
+        Ok(inner) => inner,
+        Err(reason) => return Err(HostTreeFault::NotUnderstood(reason)),
+    };
+    put_nodes(
+        alloc,
+        share,
+        head.inner,
+        inner.place,
+        (&inner.cells, &inner.way),
+        writer,
+    )
+}
+
+/// Writes the children of the root as the host has them, with ranges that are reserved.
+pub(crate) fn put_children<'a>(
+    alloc: Global,
+    share: &Share<'_>,
+    pieces: &'a [PlacedPiece<'a>],
+    cells: &Cells,
+    ranges: &[Reserved],
+    writer: &mut TreeWriter,
+) -> Result<(), HostTreeFault>
+    ensures fit { OnOk result (AllFit cells.now ranges.now) }
+    ensures ok { OnOk result ((nodes : Nodes) (behind : List Part)
+        → parts_of pieces.now ≡ parts_of_nodes nodes ++ behind → BeginsNoNode behind
+        → (made : Nodes) × HostNodes (portion_of share.now) BelowRoot cells.now same nodes made
+        × ((parts : List Part) → HasWritten writer.old parts → HasWritten writer.new
+        (parts ++ parts_of_nodes (with_ranges cells.now ranges.now made)))) }
+{
+    let mut rest = pieces;
+    'nodes: loop {
+        let Some(head) = head_of(rest) else {
+            return put_parent(alloc, writer, cells, ranges);
+        };
+        let behind = match put_child(alloc, share, &head, cells, writer) {
+            Ok(behind) => behind,
+            Err(fault) => return Err(fault),
+        };
+        if head.name == b"reserved-memory".as_slice() {
+            return put_last(alloc, share, behind, cells, ranges, writer);
+        }
+        match put_end(writer) {
+            Ok(()) => {}
+            Err(fault) => return Err(fault),
+        }
+        rest = after_end(behind);
+    }
+}
+
+/// Writes ranges and the end of `/reserved-memory`, and the nodes behind it.
+fn put_last<'a>(
+    alloc: Global,
+    share: &Share<'_>,
+    pieces: &'a [PlacedPiece<'a>],
+    cells: &Cells,
+    ranges: &[Reserved],
+    writer: &mut TreeWriter,
+) -> Result<(), HostTreeFault> {
+    put_ranges(alloc, writer, cells, ranges)?;
+    put_end(writer)?;
+    let bus = (cells, &Way::Same);
+    let later = after_end(pieces);
+    match put_nodes(alloc, share, later, Place::BelowRoot, bus, writer) {
+        Ok(_) => Ok(()),
+        Err(fault) => Err(fault),
+    }
+}
