@@ -1,1 +1,10 @@
-
+mod FirstZero
+mod Numbers
+mod Texts
+mod Fronts
+mod FiveWords
+mod Laid
+mod Adding
+mod OneHost
+mod Ranged
+mod Chains

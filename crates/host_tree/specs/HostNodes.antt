@@ -1,7 +1,7 @@
 -- The nodes of a tree as the host has them.
-use Rattle.std.specs.Prelude.{◌≡◌, ℕ, List, [], Option, None, Some, codes, map}
-use Rattle.device_tree.specs.Pieces.{Part, Setting, has}
-use Rattle.device_tree.specs.Nodes.{Nodes, no_nodes, node}
+use Rattle.std.specs.Prelude.{◌≡◌, ℕ, List, [], ◌∷◌, ◌++◌, Option, None, Some, codes, map}
+use Rattle.device_tree.specs.Pieces.{Part, Setting, begins, has}
+use Rattle.device_tree.specs.Nodes.{BeginsNoNode, Nodes, no_nodes, node, parts_of_nodes}
 use Rattle.board_ranges.specs.declared.cells.Cells.{Cells}
 use Rattle.board_ranges.specs.declared.kinds.Kind.{Kind}
 use Rattle.board_ranges.specs.declared.kinds.Place.{Place}
@@ -11,6 +11,8 @@ use Rattle.board_ranges.specs.Windows.{Path}
 use Rattle.board_ranges.specs.Properties.{value_in}
 use Rattle.board_ranges.specs.Meaning.{AreCells, IsInnerWay, has_type, inner_place, live_kind}
 use Rattle.board_ranges.specs.Meaning.{path_or}
+use Rattle.host_tree.specs.declared.writer.TreeWriter.{TreeWriter}
+use Rattle.host_tree.specs.Written.{Adds}
 use Rattle.host_tree.specs.Shares.{is_closed}
 use Rattle.host_tree.specs.Settings.{host_settings}
 
@@ -47,3 +49,15 @@ pub data HostNodes (host : Portion) : Place → Cells → Path → Nodes → Nod
       → HostNodes host place cells way later behind
       → HostNodes host place cells way (node name properties children later)
       (node name (node_settings host place way rows properties) inside behind)
+
+-- of a node of this name, with these parts as properties, before parts that begin with its children,
+-- all was written as the host has it but for its end, and these parts are behind its children
+abbrev pub IsChild : Portion → Place → Cells → Path → List ℕ → List Part → List Part → List Part
+    → TreeWriter → TreeWriter → Type 0
+IsChild host place cells way name properties inner behind old new = (own : List Setting)
+    (children : Nodes) (rest : List Part) → properties ≡ map has own
+    → inner ≡ parts_of_nodes children ++ rest → BeginsNoNode rest
+    → (behind ≡ rest) × (made : List Setting) × (inside : Nodes)
+    × ((later more : Nodes) → HostNodes host place cells way later more
+    → HostNodes host place cells way (node name own children later) (node name made inside more))
+    × Adds old new (begins name ∷ (map has made ++ parts_of_nodes inside))

@@ -1,3 +1,5 @@
+pub mod Written
+pub mod Header
 pub mod Shares
 pub mod Extensions
 pub mod Settings

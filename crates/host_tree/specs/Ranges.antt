@@ -5,7 +5,7 @@ use Rattle.std.specs.Prelude.{List, [], ◌∷◌, ◌++◌, codes, bytes_eq}
 use Rattle.byteorder.specs.Endian.{big_bytes}
 use Rattle.device_tree.specs.Pieces.{Setting}
 use Rattle.device_tree.specs.Nodes.{Nodes, no_nodes, node}
-use Rattle.tree_writer.specs.Written.{setting}
+use Rattle.host_tree.specs.Written.{setting}
 use Rattle.board_ranges.specs.declared.cells.Cells.{Cells}
 use Rattle.board_ranges.specs.declared.rows.Extent.{Extent}
 use Rattle.host_tree.specs.declared.reserved.Purpose.{Purpose}

@@ -2,7 +2,7 @@
 use Rattle.std.specs.Prelude.{ℕ, Bool, ◌&&◌, ◌||◌, cond, bytes_eq}
 use Rattle.std.specs.Prelude.{List, [], ◌∷◌, ◌++◌, codes}
 use Rattle.device_tree.specs.Pieces.{Setting}
-use Rattle.tree_writer.specs.Written.{setting}
+use Rattle.host_tree.specs.Written.{setting}
 use Rattle.host_tree.specs.Extensions.{open_names}
 
 -- the status of a node that is closed

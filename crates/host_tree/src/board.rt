@@ -1,8 +1,9 @@
 //! Harts and memory of a board, as its tree says them.
 
-ghost use Rattle.std.specs.Prelude.{◌≡◌, ◌++◌, ◌≢◌, IfOk, OnOk, List, drop};
+ghost use Rattle.std.specs.Prelude.{◌≡◌, ◌++◌, IfOk, OnOk, List, true, false};
 ghost use Rattle.device_tree.specs.declared.reservations.Reservation.{Reservation};
-ghost use Rattle.device_tree.specs.Nodes.{Tree};
+ghost use Rattle.device_tree.specs.Pieces.{parts_of};
+ghost use Rattle.device_tree.specs.Nodes.{Tree, parts_of_tree};
 ghost use Rattle.device_tree.specs.Trees.{ReadsAs};
 ghost use Rattle.board_ranges.specs.declared.rows.Extent.{Extent};
 ghost use Rattle.board_ranges.specs.declared.registers.Found.{Found};
@@ -13,7 +14,7 @@ use crate::fault::HostTreeFault;
 use board_ranges::{Extent, Found, Kind, ranges_of};
 use device_tree::{PlacedPiece, read_tree};
 use std::alloc::Global;
-use tree_writer::WriteFault;
+use crate::write_fault::WriteFault;
 
 /// What a board has: the numbers of its harts, each as the base of a row with no size, and ranges of memory.
 #[derive(Drop)]
@@ -36,7 +37,7 @@ fn is_kind(kind: Kind, is_hart: bool) -> bool
 /// Appends the extent of a range of that kind.
 fn note(list: &mut Vec<Extent>, found: Found<'_>, is_hart: bool) -> Result<(), HostTreeFault>
     ensures { OnOk result (list.new.items ≡ list.old.items
-        ++ one_extent is_hart found.kind found.extent) }
+        ++ one_extent is_hart found.entry.kind found.entry.extent) }
 {
     if !is_kind(found.kind, is_hart) {
         return Ok(());
@@ -66,7 +67,12 @@ fn extents_of(
 fn board_in<'a>(
     alloc: Global,
     pieces: &'a [PlacedPiece<'a>],
-) -> Result<Board, HostTreeFault> {
+) -> Result<Board, HostTreeFault>
+    ensures { IfOk result (λ board. (tree : Tree) → parts_of pieces.now ≡ parts_of_tree tree
+        → (ranges : List Range) × TreeSays tree ranges
+        × (board.harts.items ≡ extents_of true ranges)
+        × (board.memory.items ≡ extents_of false ranges)) }
+{
     let found = match ranges_of(alloc, pieces) {
         Ok(found) => found,
         Err(fault) => return Err(HostTreeFault::NotUnderstood(fault.reason)),

@@ -5,7 +5,7 @@ ghost use Rattle.host_tree.specs.Extensions.{is_closed_name, kept_unit, open_fro
 
 use crate::fault::HostTreeFault;
 use std::alloc::Global;
-use tree_writer::WriteFault;
+use crate::write_fault::WriteFault;
 
 /// Whether the monitor closes an extension of that name: its bits in `menvcfg`, `mseccfg` or `mstateen0` stay zero, or it wants
 /// calls that are not there.
@@ -70,7 +70,7 @@ fn add_byte(unit: &mut Vec<u8>, byte: u8) -> Result<(), HostTreeFault>
 
 /// The names without those that are closed, with the `_` that comes before the first.
 fn open_units(alloc: Global, names: &[u8]) -> Result<Vec<u8>, HostTreeFault>
-    ensures { IfOk result (λ open. open.items ≡ open_from (95 ∷ []) names.now) }
+    ensures { IfOk result (λ kept. kept.items ≡ open_from (95 ∷ []) names.now) }
 {
     let mut open = Vec::new(alloc);
     let mut unit = Vec::new(alloc);
@@ -89,7 +89,7 @@ fn open_units(alloc: Global, names: &[u8]) -> Result<Vec<u8>, HostTreeFault>
 
 /// The value of `riscv,isa` or `riscv,isa-extensions` without the names that are closed.
 pub(crate) fn open_names(alloc: Global, names: &[u8]) -> Result<Vec<u8>, HostTreeFault>
-    ensures { IfOk result (λ open. open.items ≡ open_names names.now) }
+    ensures { IfOk result (λ kept. kept.items ≡ open_names names.now) }
 {
     let units = open_units(alloc, names)?;
     let mut open = Vec::new(alloc);

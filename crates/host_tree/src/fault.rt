@@ -2,7 +2,7 @@
 
 use board_ranges::{BoardReason, RowFault};
 use device_tree::TreeFault;
-use tree_writer::WriteFault;
+use crate::write_fault::WriteFault;
 
 /// Why a host gets no tree.
 #[derive(Clone, Copy, Debug, PartialEq, Eq)]

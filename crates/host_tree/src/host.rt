@@ -1,12 +1,12 @@
 //! The tree of the host.
 
-ghost use Rattle.std.specs.Prelude.{◌≡◌, ◌≢◌, ◌++◌, ℕ, List, IfErr, IfOk, OnOk};
+ghost use Rattle.std.specs.Prelude.{◌≡◌, ◌≢◌, Err, List, IfOk, OnOk};
 ghost use Rattle.device_tree.specs.declared.reservations.Reservation.{Reservation};
 ghost use Rattle.device_tree.specs.declared.fault.TreeFault.{TreeFault};
 ghost use Rattle.device_tree.specs.Pieces.{parts_of};
 ghost use Rattle.device_tree.specs.Nodes.{Tree, parts_of_tree};
-ghost use Rattle.device_tree.specs.Trees.{ReadsAs};
-ghost use Rattle.tree_writer.specs.Written.{HasWritten};
+ghost use Rattle.device_tree.specs.Trees.{ReadsAs, SpellsTree};
+ghost use Rattle.host_tree.specs.Written.{Adds};
 ghost use Rattle.host_tree.specs.HostTrees.{IsHostTree, IsHosts, portion_of};
 
 use crate::fault::HostTreeFault;
@@ -19,7 +19,8 @@ use board_ranges::{BoardReason, cells_of, head_of};
 use byteorder::{BigEndian, ByteOrder};
 use device_tree::{DeviceTree, PlacedPiece, TreeReason, read_tree};
 use std::alloc::Global;
-use tree_writer::{Ends, TreeWriter};
+use crate::whole::Ends;
+use crate::writer::TreeWriter;
 
 /// Writes the host's tree of a board's, whose pieces these are.
 fn put_tree<'a>(
@@ -31,7 +32,7 @@ fn put_tree<'a>(
 ) -> Result<(), HostTreeFault>
     ensures { OnOk result ((board : Tree) → parts_of pieces.now ≡ parts_of_tree board
         → (made : Tree) × IsHostTree (portion_of share.now) ranges.now board made
-        × (HasWritten writer.old [] → HasWritten writer.new (parts_of_tree made))) }
+        × Adds writer.old writer.new (parts_of_tree made)) }
 {
     let Some(root) = head_of(pieces) else {
         return Ok(());
@@ -42,7 +43,8 @@ fn put_tree<'a>(
     put_begin(writer, root.name)?;
     put_properties(alloc, writer, root.properties, false, false)?;
     put_children(alloc, share, root.inner, &cells, ranges, writer)?;
-    put_end(writer)
+    put_end(writer)?;
+    Ok(())
 }
 
 /// The number of the hart that boots, as a tree's header says it.
@@ -61,7 +63,11 @@ fn written<'a>(
     ranges: &[Reserved],
     boot_hart: u32,
     free: u32,
-) -> Result<Vec<u8>, HostTreeFault> {
+) -> Result<Vec<u8>, HostTreeFault>
+    ensures { IfOk result (λ out. (board : Tree) → parts_of read.now.pieces.items ≡ parts_of_tree board
+        → (made : Tree) × IsHostTree (portion_of share.now) ranges.now board made
+        × SpellsTree out.items made read.now.reservations.items) }
+{
     let mut writer = TreeWriter::new(alloc);
     put_tree(alloc, share, read.pieces.as_slice(), ranges, &mut writer)?;
     let ends = Ends {

@@ -1,6 +1,6 @@
 //! The host's tree in place of the board's.
 
-ghost use Rattle.std.specs.Prelude.{◌≡◌, ◌++◌, OnErr, OnOk, List, ℕ, length};
+ghost use Rattle.std.specs.Prelude.{◌≡◌, ◌++◌, IfOk, OnErr, OnOk, List, ℕ};
 ghost use Rattle.host_tree.specs.Platforms.{portion_in, reserved_in};
 ghost use Rattle.host_tree.specs.HostTrees.{IsHosts};
 
@@ -11,7 +11,7 @@ use crate::reserved::{Purpose, Reserved};
 use crate::share::Share;
 use board_ranges::Extent;
 use std::alloc::Global;
-use tree_writer::WriteFault;
+use crate::write_fault::WriteFault;
 
 /// How many bytes are free after the tree for who adds to it, where there is room for them.
 const FREE: u32 = 4096;

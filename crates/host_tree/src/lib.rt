@@ -1,17 +1,22 @@
 //! The device tree as a host gets it: the board's own, with what is not the host's closed, and with ranges that are reserved.
 #![tactic(auto)]
 
+mod blocks;
 mod board;
+mod bytes;
 mod close;
 mod extensions;
 mod fault;
+mod header;
 mod host;
 mod in_place;
+mod names;
 mod own_node;
 mod parent;
 mod platform;
 mod properties;
 mod put;
+mod reservations;
 mod reserved;
 mod root;
 mod share;
@@ -19,6 +24,11 @@ mod share;
 mod tests;
 mod there;
 mod walk;
+mod whole;
+mod write_fault;
+mod writer;
+#[cfg(test)]
+mod writer_tests;
 
 pub use board::{Board, board_of};
 pub use fault::HostTreeFault;
@@ -28,3 +38,6 @@ pub use platform::{PlatformWords, find_platform};
 pub use reserved::{Purpose, Reserved};
 pub use share::Share;
 pub use there::{harts_there, memory_there};
+pub use whole::Ends;
+pub use write_fault::WriteFault;
+pub use writer::TreeWriter;

@@ -1,12 +1,12 @@
 //! The beginning of a node and its properties as the host has them.
 
-ghost use Rattle.std.specs.Prelude.{◌≡◌, ◌++◌, ◌∷◌, OnOk, List, codes, map};
-ghost use Rattle.device_tree.specs.Pieces.{Part, Setting, begins, has, parts_of};
+ghost use Rattle.std.specs.Prelude.{◌≡◌, ◌∷◌, OnOk, List, codes, map};
+ghost use Rattle.device_tree.specs.Pieces.{Setting, begins, has, parts_of};
 ghost use Rattle.board_ranges.specs.declared.rows.Extent.{Extent};
 ghost use Rattle.board_ranges.specs.Windows.{path_of};
 ghost use Rattle.board_ranges.specs.Properties.{value_in};
 ghost use Rattle.board_ranges.specs.Meaning.{live_kind};
-ghost use Rattle.tree_writer.specs.Written.{HasWritten};
+ghost use Rattle.host_tree.specs.Written.{Adds};
 ghost use Rattle.host_tree.specs.HostNodes.{AreRegisters, node_settings};
 ghost use Rattle.host_tree.specs.HostTrees.{portion_of};
 
@@ -17,7 +17,7 @@ use crate::put::put_begin;
 use crate::share::Share;
 use board_ranges::{Cells, Head, Place, Way, is_hart};
 use std::alloc::Global;
-use tree_writer::TreeWriter;
+use crate::writer::TreeWriter;
 
 /// Writes the beginning of a node and its properties, by its place and its bus.
 pub(crate) fn put_head<'a>(
@@ -31,10 +31,9 @@ pub(crate) fn put_head<'a>(
     ensures { OnOk result ((rows : List Extent)
         × AreRegisters (live_kind place (parts_of head.now.properties.now))
         (value_in (codes "reg") (parts_of head.now.properties.now)) bus.entry.0.now rows
-        × ((parts : List Part) (own : List Setting) → parts_of head.now.properties.now ≡ map has own
-        → HasWritten writer.old parts → HasWritten writer.new (parts ++ (begins head.now.name.now
-        ∷ map has (node_settings (portion_of share.now) place (path_of bus.entry.1.now)
-        rows own))))) }
+        × ((own : List Setting) → parts_of head.now.properties.now ≡ map has own
+        → Adds writer.old writer.new (begins head.now.name.now ∷ map has
+        (node_settings (portion_of share.now) place (path_of bus.entry.1.now) rows own)))) }
 {
     let is_closed = is_closed(alloc, share, head.properties, place, bus)?;
     put_begin(writer, head.name)?;
@@ -44,5 +43,6 @@ pub(crate) fn put_head<'a>(
         head.properties,
         is_hart(head.properties),
         is_closed,
-    )
+    )?;
+    Ok(())
 }

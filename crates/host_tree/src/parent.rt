@@ -3,8 +3,8 @@
 ghost use Rattle.std.specs.Prelude.{◌≡◌, ◌<◌, ◌≤◌, ◌^◌, ◌++◌, OnOk, List, map};
 ghost use Rattle.byteorder.specs.Endian.{big_bytes};
 ghost use Rattle.device_tree.specs.Nodes.{no_nodes, parts_of_nodes};
-ghost use Rattle.device_tree.specs.Pieces.{Part, has};
-ghost use Rattle.tree_writer.specs.Written.{HasWritten};
+ghost use Rattle.device_tree.specs.Pieces.{has};
+ghost use Rattle.host_tree.specs.Written.{Adds};
 ghost use Rattle.host_tree.specs.Ranges.{AllFit, parent_settings, with_ranges};
 
 use crate::fault::HostTreeFault;
@@ -13,7 +13,7 @@ use crate::reserved::{Reserved, put_ranges};
 use board_ranges::Cells;
 use byteorder::{BigEndian, ByteOrder};
 use std::alloc::Global;
-use tree_writer::TreeWriter;
+use crate::writer::TreeWriter;
 
 /// A number of cells, which are at most four.
 fn count_bytes(cells: usize) -> [u8; 4]
@@ -27,14 +27,14 @@ fn count_bytes(cells: usize) -> [u8; 4]
 
 /// Writes the properties of a new `/reserved-memory`.
 fn put_settings(writer: &mut TreeWriter, cells: &Cells) -> Result<(), HostTreeFault>
-    ensures { OnOk result ((parts : List Part) → HasWritten writer.old parts
-        → HasWritten writer.new (parts ++ map has (parent_settings cells.now))) }
+    ensures { OnOk result (Adds writer.old writer.new (map has (parent_settings cells.now))) }
 {
     let address = count_bytes(cells.address);
     let size = count_bytes(cells.size);
     put_property(writer, b"#address-cells".as_slice(), address.as_slice())?;
     put_property(writer, b"#size-cells".as_slice(), size.as_slice())?;
-    put_property(writer, b"ranges".as_slice(), b"".as_slice())
+    put_property(writer, b"ranges".as_slice(), b"".as_slice())?;
+    Ok(())
 }
 
 /// Writes a new `/reserved-memory` with ranges.
@@ -44,13 +44,13 @@ pub(crate) fn put_parent(
     cells: &Cells,
     ranges: &[Reserved],
 ) -> Result<(), HostTreeFault>
-    ensures written { OnOk result ((parts : List Part) → HasWritten writer.old parts
-        → HasWritten writer.new
-        (parts ++ parts_of_nodes (with_ranges cells.now ranges.now no_nodes))) }
+    ensures written { OnOk result (Adds writer.old writer.new
+        (parts_of_nodes (with_ranges cells.now ranges.now no_nodes))) }
     ensures fit { OnOk result (AllFit cells.now ranges.now) }
 {
     put_begin(writer, b"reserved-memory".as_slice())?;
     put_settings(writer, cells)?;
     put_ranges(alloc, writer, cells, ranges)?;
-    put_end(writer)
+    put_end(writer)?;
+    Ok(())
 }

@@ -9,7 +9,7 @@ use crate::fault::HostTreeFault;
 use crate::there::{harts_there, memory_there};
 use board_ranges::Extent;
 use std::alloc::Global;
-use tree_writer::WriteFault;
+use crate::write_fault::WriteFault;
 
 /// A platform as firmware has it: numbers of 64 bits, as `firmware/frames.h` lays them out.
 #[repr(C)]

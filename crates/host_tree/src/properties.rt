@@ -1,8 +1,8 @@
 //! The properties of a node as the host has them.
 
-ghost use Rattle.std.specs.Prelude.{◌≡◌, ◌++◌, ◌∷◌, OnOk, IfOk, List, [], map, drop};
-ghost use Rattle.device_tree.specs.Pieces.{Part, Setting, has, parts_of};
-ghost use Rattle.tree_writer.specs.Written.{HasWritten, setting};
+ghost use Rattle.std.specs.Prelude.{◌≡◌, ◌∷◌, OnOk, List, [], map};
+ghost use Rattle.device_tree.specs.Pieces.{Setting, has, part_of, parts_of};
+ghost use Rattle.host_tree.specs.Written.{Adds, setting};
 ghost use Rattle.host_tree.specs.Settings.{host_settings, host_value, left_setting, left_settings, names_extensions, status_of};
 
 use crate::extensions::open_names;
@@ -10,7 +10,7 @@ use crate::fault::HostTreeFault;
 use crate::put::put_property;
 use device_tree::{Piece, PlacedPiece};
 use std::alloc::Global;
-use tree_writer::TreeWriter;
+use crate::writer::TreeWriter;
 
 /// Whether a property of that name names a hart's extensions.
 fn names_extensions(name: &[u8]) -> bool
@@ -27,9 +27,8 @@ fn put_host_value(
     value: &[u8],
     is_hart: bool,
 ) -> Result<(), HostTreeFault>
-    ensures { OnOk result ((parts : List Part) → HasWritten writer.old parts
-        → HasWritten writer.new
-        (parts ++ has (setting name.now (host_value is_hart name.now value.now)) ∷ [])) }
+    ensures { OnOk result (Adds writer.old writer.new
+        (has (setting name.now (host_value is_hart name.now value.now)) ∷ [])) }
 {
     if is_hart && names_extensions(name) {
         let open = open_names(alloc, value)?;
@@ -47,9 +46,8 @@ fn put_left(
     is_hart: bool,
     is_closed: bool,
 ) -> Result<(), HostTreeFault>
-    ensures { OnOk result ((parts : List Part) → HasWritten writer.old parts
-        → HasWritten writer.new
-        (parts ++ map has (left_setting is_hart is_closed (setting name.now value.now)))) }
+    ensures { OnOk result (Adds writer.old writer.new
+        (map has (left_setting is_hart is_closed (setting name.now value.now)))) }
 {
     if is_closed && name == b"status".as_slice() {
         return Ok(());
@@ -57,10 +55,26 @@ fn put_left(
     put_host_value(alloc, writer, name, value, is_hart)
 }
 
+/// Writes what is left of a piece that is a property.
+fn put_piece(
+    alloc: Global,
+    writer: &mut TreeWriter,
+    piece: Piece<'_>,
+    is_hart: bool,
+    is_closed: bool,
+) -> Result<(), HostTreeFault>
+    ensures { OnOk result ((one : Setting) → part_of piece.entry ≡ has one
+        → Adds writer.old writer.new (map has (left_setting is_hart is_closed one))) }
+{
+    match piece {
+        Piece::Has(name, value) => put_left(alloc, writer, name, value, is_hart, is_closed),
+        _ => Ok(()),
+    }
+}
+
 /// Writes the status of a node that is closed.
 fn put_status(writer: &mut TreeWriter, is_closed: bool) -> Result<(), HostTreeFault>
-    ensures { OnOk result ((parts : List Part) → HasWritten writer.old parts
-        → HasWritten writer.new (parts ++ map has (status_of is_closed))) }
+    ensures { OnOk result (Adds writer.old writer.new (map has (status_of is_closed))) }
 {
     if is_closed {
         return put_property(writer, b"status".as_slice(), b"disabled\0".as_slice());
@@ -76,14 +90,11 @@ fn put_all_left<'a>(
     is_hart: bool,
     is_closed: bool,
 ) -> Result<(), HostTreeFault>
-    ensures { OnOk result ((parts : List Part) (own : List Setting)
-        → parts_of properties.now ≡ map has own → HasWritten writer.old parts
-        → HasWritten writer.new (parts ++ map has (left_settings is_hart is_closed own))) }
+    ensures { OnOk result ((own : List Setting) → parts_of properties.now ≡ map has own
+        → Adds writer.old writer.new (map has (left_settings is_hart is_closed own))) }
 {
     for placed in properties {
-        if let Piece::Has(name, value) = placed.piece {
-            put_left(alloc, writer, name, value, is_hart, is_closed)?;
-        }
+        put_piece(alloc, writer, placed.piece, is_hart, is_closed)?;
     }
     Ok(())
 }
@@ -96,10 +107,10 @@ pub(crate) fn put_properties<'a>(
     is_hart: bool,
     is_closed: bool,
 ) -> Result<(), HostTreeFault>
-    ensures { OnOk result ((parts : List Part) (own : List Setting)
-        → parts_of properties.now ≡ map has own → HasWritten writer.old parts
-        → HasWritten writer.new (parts ++ map has (host_settings is_hart is_closed own))) }
+    ensures { OnOk result ((own : List Setting) → parts_of properties.now ≡ map has own
+        → Adds writer.old writer.new (map has (host_settings is_hart is_closed own))) }
 {
     put_status(writer, is_closed)?;
-    put_all_left(alloc, writer, properties, is_hart, is_closed)
+    put_all_left(alloc, writer, properties, is_hart, is_closed)?;
+    Ok(())
 }

@@ -1,16 +1,15 @@
 //! Parts of a tree, written.
 
-ghost use Rattle.std.specs.Prelude.{◌++◌, ◌∷◌, OnOk, List, []};
-ghost use Rattle.device_tree.specs.Pieces.{Part, begins, ends, has};
-ghost use Rattle.tree_writer.specs.Written.{HasWritten, setting};
+ghost use Rattle.std.specs.Prelude.{◌∷◌, OnOk, []};
+ghost use Rattle.device_tree.specs.Pieces.{begins, ends, has};
+ghost use Rattle.host_tree.specs.Written.{Adds, setting};
 
 use crate::fault::HostTreeFault;
-use tree_writer::TreeWriter;
+use crate::writer::TreeWriter;
 
 /// Writes the beginning of a node.
 pub(crate) fn put_begin(writer: &mut TreeWriter, name: &[u8]) -> Result<(), HostTreeFault>
-    ensures { OnOk result ((parts : List Part) → HasWritten writer.old parts
-        → HasWritten writer.new (parts ++ begins name.now ∷ [])) }
+    ensures { OnOk result (Adds writer.old writer.new (begins name.now ∷ [])) }
 {
     match writer.begin_node(name) {
         Ok(()) => Ok(()),
@@ -24,8 +23,7 @@ pub(crate) fn put_property(
     name: &[u8],
     value: &[u8],
 ) -> Result<(), HostTreeFault>
-    ensures { OnOk result ((parts : List Part) → HasWritten writer.old parts
-        → HasWritten writer.new (parts ++ has (setting name.now value.now) ∷ [])) }
+    ensures { OnOk result (Adds writer.old writer.new (has (setting name.now value.now) ∷ [])) }
 {
     match writer.property(name, value) {
         Ok(()) => Ok(()),
@@ -35,8 +33,7 @@ pub(crate) fn put_property(
 
 /// Writes the end of a node.
 pub(crate) fn put_end(writer: &mut TreeWriter) -> Result<(), HostTreeFault>
-    ensures { OnOk result ((parts : List Part) → HasWritten writer.old parts
-        → HasWritten writer.new (parts ++ ends ∷ [])) }
+    ensures { OnOk result (Adds writer.old writer.new (ends ∷ [])) }
 {
     match writer.end_node() {
         Ok(()) => Ok(()),

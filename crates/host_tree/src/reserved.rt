@@ -2,9 +2,9 @@
 
 ghost use Rattle.std.specs.Prelude.{◌≡◌, ◌*◌, ◌<◌, ◌≤◌, ◌^◌, ◌++◌, ◌∷◌, OnOk, IfOk, List, [], map, drop};
 ghost use Rattle.byteorder.specs.Endian.{big_bytes};
-ghost use Rattle.device_tree.specs.Pieces.{Part, has};
+ghost use Rattle.device_tree.specs.Pieces.{has};
 ghost use Rattle.device_tree.specs.Nodes.{parts_of_nodes};
-ghost use Rattle.tree_writer.specs.Written.{HasWritten};
+ghost use Rattle.host_tree.specs.Written.{Adds};
 ghost use Rattle.host_tree.specs.Ranges.{AllFit, Fits, compatible_of, hex_digit, hex_text, purpose_name, range_name, range_nodes, range_settings, reg_bytes};
 
 use crate::fault::HostTreeFault;
@@ -12,7 +12,8 @@ use crate::put::{put_begin, put_end, put_property};
 use board_ranges::{Cells, Extent};
 use byteorder::{BigEndian, ByteOrder};
 use std::alloc::Global;
-use tree_writer::{TreeWriter, WriteFault};
+use crate::writer::TreeWriter;
+use crate::write_fault::WriteFault;
 
 /// What a range is reserved for.
 #[derive(Clone, Copy, Debug, PartialEq, Eq)]
@@ -62,7 +63,8 @@ fn put_hex(out: &mut Vec<u8>, most: u32, value: u64) -> Result<(), HostTreeFault
         put_hex(out, most - 1, value / 16)?;
     }
     let digit = [hex_digit((value % 16) as u8)];
-    put_bytes(out, digit.as_slice())
+    put_bytes(out, digit.as_slice())?;
+    Ok(())
 }
 
 /// What a node of a range is named by.
@@ -117,8 +119,7 @@ fn reg_bytes(alloc: Global, cells: &Cells, extent: Extent) -> Result<Vec<u8>, Ho
 
 /// Writes for what an operating system may use a range.
 fn put_compatible(writer: &mut TreeWriter, purpose: Purpose) -> Result<(), HostTreeFault>
-    ensures { OnOk result ((parts : List Part) → HasWritten writer.old parts
-        → HasWritten writer.new (parts ++ map has (compatible_of purpose))) }
+    ensures { OnOk result (Adds writer.old writer.new (map has (compatible_of purpose))) }
 {
     match purpose {
         Purpose::Monitor => Ok(()),
@@ -137,14 +138,15 @@ fn put_settings(
     cells: &Cells,
     range: Reserved,
 ) -> Result<(), HostTreeFault>
-    ensures written { OnOk result ((parts : List Part) → HasWritten writer.old parts
-        → HasWritten writer.new (parts ++ map has (range_settings cells.now range))) }
+    ensures written { OnOk result (Adds writer.old writer.new
+        (map has (range_settings cells.now range))) }
     ensures fits { OnOk result (Fits cells.now range.extent) }
 {
     let reg = reg_bytes(alloc, cells, range.extent)?;
     put_compatible(writer, range.purpose)?;
     put_property(writer, b"reg".as_slice(), reg.as_slice())?;
-    put_property(writer, b"no-map".as_slice(), b"".as_slice())
+    put_property(writer, b"no-map".as_slice(), b"".as_slice())?;
+    Ok(())
 }
 
 /// Writes the node of a range.
@@ -154,14 +156,15 @@ fn put_range(
     cells: &Cells,
     range: Reserved,
 ) -> Result<(), HostTreeFault>
-    ensures written { OnOk result ((parts : List Part) → HasWritten writer.old parts
-        → HasWritten writer.new (parts ++ parts_of_nodes (range_nodes cells.now (range ∷ [])))) }
+    ensures written { OnOk result (Adds writer.old writer.new
+        (parts_of_nodes (range_nodes cells.now (range ∷ [])))) }
     ensures fits { OnOk result (Fits cells.now range.extent) }
 {
     let name = range_name(alloc, range)?;
     put_begin(writer, name.as_slice())?;
     put_settings(alloc, writer, cells, range)?;
-    put_end(writer)
+    put_end(writer)?;
+    Ok(())
 }
 
 /// Writes the nodes of ranges.
@@ -171,8 +174,8 @@ pub(crate) fn put_ranges(
     cells: &Cells,
     ranges: &[Reserved],
 ) -> Result<(), HostTreeFault>
-    ensures written { OnOk result ((parts : List Part) → HasWritten writer.old parts
-        → HasWritten writer.new (parts ++ parts_of_nodes (range_nodes cells.now ranges.now))) }
+    ensures written { OnOk result (Adds writer.old writer.new
+        (parts_of_nodes (range_nodes cells.now ranges.now))) }
     ensures fit { OnOk result (AllFit cells.now ranges.now) }
 {
     for range in ranges {

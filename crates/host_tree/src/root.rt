@@ -1,14 +1,14 @@
 //! The children of the root, and among them `/reserved-memory`.
 
-ghost use Rattle.std.specs.Prelude.{◌≡◌, ◌≤◌, ◌++◌, IfOk, OnOk, List, length};
-ghost use Rattle.device_tree.specs.Pieces.{Part, parts_of};
+ghost use Rattle.std.specs.Prelude.{◌≡◌, ◌≤◌, ◌++◌, ◌∷◌, IfOk, OnOk, List, length};
+ghost use Rattle.device_tree.specs.Pieces.{Part, ends, parts_of};
 ghost use Rattle.device_tree.specs.Nodes.{BeginsNoNode, Nodes, parts_of_nodes};
 ghost use Rattle.board_ranges.specs.declared.kinds.Place.TheVariants.{BelowRoot};
 ghost use Rattle.board_ranges.specs.Windows.{same};
-ghost use Rattle.tree_writer.specs.Written.{HasWritten};
-ghost use Rattle.host_tree.specs.HostNodes.{HostNodes};
+ghost use Rattle.host_tree.specs.Written.{Adds};
+ghost use Rattle.host_tree.specs.HostNodes.{HostNodes, IsChild};
 ghost use Rattle.host_tree.specs.HostTrees.{portion_of};
-ghost use Rattle.host_tree.specs.Ranges.{AllFit, with_ranges};
+ghost use Rattle.host_tree.specs.Ranges.{AllFit, range_nodes, with_ranges};
 
 use crate::fault::HostTreeFault;
 use crate::own_node::put_head;
@@ -20,7 +20,7 @@ use crate::walk::put_nodes;
 use board_ranges::{Cells, Head, Place, Way, after_end, head_of, inner_of};
 use device_tree::PlacedPiece;
 use std::alloc::Global;
-use tree_writer::TreeWriter;
+use crate::writer::TreeWriter;
 
 /// Writes a child of the root but for its end, and answers the pieces from there on.
 fn put_child<'a>(
@@ -29,7 +29,12 @@ fn put_child<'a>(
     head: &Head<'a>,
     cells: &Cells,
     writer: &mut TreeWriter,
-) -> Result<&'a [PlacedPiece<'a>], HostTreeFault> {
+) -> Result<&'a [PlacedPiece<'a>], HostTreeFault>
+    ensures len { IfOk result (λ behind. length behind.now ≤ length head.now.inner.now) }
+    ensures ok { IfOk result (λ behind. IsChild (portion_of share.now) BelowRoot cells.now same
+        head.now.name.now (parts_of head.now.properties.now) (parts_of head.now.inner.now)
+        (parts_of behind.now) writer.old writer.new) }
+{
     let bus = (cells, &Way::Same);
     put_head(alloc, share, head, Place::BelowRoot, bus, writer)?;
     let inner = match inner_of(alloc, head.name, head.properties, Place::BelowRoot, bus) {
@@ -59,8 +64,8 @@ pub(crate) fn put_children<'a>(
     ensures ok { OnOk result ((nodes : Nodes) (behind : List Part)
         → parts_of pieces.now ≡ parts_of_nodes nodes ++ behind → BeginsNoNode behind
         → (made : Nodes) × HostNodes (portion_of share.now) BelowRoot cells.now same nodes made
-        × ((parts : List Part) → HasWritten writer.old parts → HasWritten writer.new
-        (parts ++ parts_of_nodes (with_ranges cells.now ranges.now made)))) }
+        × Adds writer.old writer.new
+        (parts_of_nodes (with_ranges cells.now ranges.now made))) }
 {
     let mut rest = pieces;
     'nodes: loop {
@@ -90,7 +95,14 @@ fn put_last<'a>(
     cells: &Cells,
     ranges: &[Reserved],
     writer: &mut TreeWriter,
-) -> Result<(), HostTreeFault> {
+) -> Result<(), HostTreeFault>
+    ensures fit { OnOk result (AllFit cells.now ranges.now) }
+    ensures ok { OnOk result ((later : Nodes) (behind : List Part)
+        → parts_of pieces.now ≡ ends ∷ (parts_of_nodes later ++ behind) → BeginsNoNode behind
+        → (made : Nodes) × HostNodes (portion_of share.now) BelowRoot cells.now same later made
+        × Adds writer.old writer.new (parts_of_nodes (range_nodes cells.now ranges.now)
+        ++ (ends ∷ parts_of_nodes made))) }
+{
     put_ranges(alloc, writer, cells, ranges)?;
     put_end(writer)?;
     let bus = (cells, &Way::Same);

@@ -5,7 +5,9 @@ use board_ranges::Extent;
 use device_tree::{Piece, PlacedPiece, read_tree};
 use std::alloc::Global;
 use std::process::Abort;
-use tree_writer::{Ends, TreeWriter, WriteFault};
+use crate::whole::Ends;
+use crate::writer::TreeWriter;
+use crate::write_fault::WriteFault;
 
 fn put_cells(writer: &mut TreeWriter, size: &[u8]) -> Result<(), WriteFault> {
     writer.property(b"#address-cells".as_slice(), b"\0\0\0\x01".as_slice())?;

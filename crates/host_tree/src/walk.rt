@@ -4,7 +4,7 @@ ghost use Rattle.std.specs.Prelude.{◌≡◌, ◌≤◌, ◌++◌, IfOk, List, 
 ghost use Rattle.device_tree.specs.Pieces.{Part, parts_of};
 ghost use Rattle.device_tree.specs.Nodes.{BeginsNoNode, Nodes, parts_of_nodes};
 ghost use Rattle.board_ranges.specs.Windows.{path_of};
-ghost use Rattle.tree_writer.specs.Written.{HasWritten};
+ghost use Rattle.host_tree.specs.Written.{Adds};
 ghost use Rattle.host_tree.specs.HostNodes.{HostNodes};
 ghost use Rattle.host_tree.specs.HostTrees.{portion_of};
 
@@ -15,7 +15,7 @@ use crate::share::Share;
 use board_ranges::{Cells, Place, Way, after_end, head_of, inner_of};
 use device_tree::PlacedPiece;
 use std::alloc::Global;
-use tree_writer::TreeWriter;
+use crate::writer::TreeWriter;
 
 /// Writes the nodes in front as the host has them, and answers the pieces behind them.
 pub(crate) fn put_nodes<'a>(
@@ -32,8 +32,7 @@ pub(crate) fn put_nodes<'a>(
         → (parts_of rest.now ≡ behind)
         × (made : Nodes)
         × HostNodes (portion_of share.now) place bus.entry.0.now (path_of bus.entry.1.now) nodes made
-        × ((parts : List Part) → HasWritten writer.old parts
-        → HasWritten writer.new (parts ++ parts_of_nodes made))) }
+        × Adds writer.old writer.new (parts_of_nodes made)) }
 {
     let mut rest = pieces;
     'nodes: loop {

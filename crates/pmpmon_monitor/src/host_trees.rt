@@ -8,9 +8,10 @@ ghost use Rattle.pmpmon_monitor.specs.Codes.{IsCode, range};
 
 use board_ranges::{BoardReason, Extent, RowFault};
 use device_tree::TreeReason;
-use host_tree::{HostTreeFault, PlaceFault, PlatformWords, find_platform, put_host_tree};
+use host_tree::{
+    HostTreeFault, PlaceFault, PlatformWords, WriteFault, find_platform, put_host_tree,
+};
 use std::alloc::Global;
-use tree_writer::WriteFault;
 
 /// The numbers of what may come of it.
 const DONE: i64 = 0;
