@@ -14,6 +14,12 @@
 
 #define MOST (1u << 20)
 
+/* What the module's loop asks for, which is not called here. */
+int32_t rattle_errno(void)
+{
+    return 0;
+}
+
 int64_t pmpmon_find_platform(const uint8_t *tree, size_t room, struct platform_frame *platform);
 int64_t pmpmon_put_host_tree(const struct platform_frame *platform, uint64_t pool_base, uint64_t pool_size, uint8_t *tree, size_t room);
 static const char *const words[] = {"taken", "cannot be read", "has no room", "needs more memory than the monitor has"};

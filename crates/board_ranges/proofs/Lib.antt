@@ -1,4 +1,4 @@
 mod OneByOne
 mod Live
-mod OneNode
+pub mod OneNode
 mod Either

@@ -3,7 +3,7 @@ use Rattle.std.proofs.Common.{◌≡◌, ℕ, List, [], ◌∷◌, ◌++◌, app
 use Rattle.device_tree.specs.Pieces.{Part, Setting, begins, ends, has}
 use Rattle.device_tree.specs.Nodes.{Nodes, no_nodes, node, parts_of_nodes}
 use Rattle.host_tree.specs.declared.writer.TreeWriter.{TreeWriter}
-use Rattle.host_tree.specs.Written.{Adds, HasWritten}
+use Rattle.host_tree.specs.Written.{Adds, HasWritten, setting}
 
 pub adds_none : (w : TreeWriter) → Adds w w []
 adds_none w = λ parts h. subst (λ (x : List Part). HasWritten w x) (sym (append-nil parts)) h
@@ -22,3 +22,11 @@ map-both (s ∷ x) y = ap (λ (z : List Part). has s ∷ z) (map-both x y)
 pub node_parts : (n : List ℕ) (s : List Setting) (c l : Nodes)
     → (begins n ∷ (map has s ++ parts_of_nodes c)) ++ (ends ∷ parts_of_nodes l) ≡ parts_of_nodes (node n s c l)
 node_parts n s c l = ap (λ (z : List Part). begins n ∷ z) (append_assoc (map has s) (parts_of_nodes c) (ends ∷ parts_of_nodes l))
+
+-- the same by other names and values
+pub property_is : (w v : TreeWriter) (n m x y : List ℕ) → n ≡ m → x ≡ y → Adds w v (has (setting n x) ∷ []) → Adds w v (has (setting m y) ∷ [])
+property_is w v n m x y e f h = adds_same w v (has (setting n x) ∷ []) (has (setting m y) ∷ [])
+    (ap (λ (z : List ℕ). has (setting z x) ∷ []) e ∙ ap (λ (z : List ℕ). has (setting m z) ∷ []) f) h
+
+pub begin_is : (w v : TreeWriter) (n m : List ℕ) → n ≡ m → Adds w v (begins n ∷ []) → Adds w v (begins m ∷ [])
+begin_is w v n m e h = adds_same w v (begins n ∷ []) (begins m ∷ []) (ap (λ (z : List ℕ). begins z ∷ []) e) h

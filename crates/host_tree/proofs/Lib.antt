@@ -4,7 +4,9 @@ mod Texts
 mod Fronts
 mod FiveWords
 mod Laid
+mod Chains
+mod HexTexts
 mod Adding
 mod OneHost
 mod Ranged
-mod Chains
+mod Steps

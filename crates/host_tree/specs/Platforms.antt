@@ -29,6 +29,11 @@ triples_in (suc count) (base ∷ size ∷ []) = []
 triples_in (suc count) (base ∷ size ∷ other ∷ later) = record { base = base; size = size }
     ∷ triples_in count later
 
+-- the words of ranges, one after another
+abbrev pub flat_words : List Extent → List ℕ
+flat_words [] = []
+flat_words (first ∷ later) = first.base ∷ first.size ∷ flat_words later
+
 -- what is left of a range on a board with this memory
 abbrev pub clipped_one : List Extent → Extent → List Extent → Type 0
 clipped_one memory range kept = (there : ℕ) × AreThere memory range.base range.size there

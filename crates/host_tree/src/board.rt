@@ -10,7 +10,7 @@ ghost use Rattle.board_ranges.specs.declared.registers.Found.{Found};
 ghost use Rattle.board_ranges.specs.Meaning.{Range, TreeSays, said_of};
 ghost use Rattle.host_tree.specs.Boards.{extents_of, is_kind, one_extent};
 
-use crate::fault::HostTreeFault;
+use crate::fault::{HostTreeFault, MakeFault};
 use board_ranges::{Extent, Found, Kind, ranges_of};
 use device_tree::{PlacedPiece, read_tree};
 use std::alloc::Global;
@@ -35,7 +35,7 @@ fn is_kind(kind: Kind, is_hart: bool) -> bool
 }
 
 /// Appends the extent of a range of that kind.
-fn note(list: &mut Vec<Extent>, found: Found<'_>, is_hart: bool) -> Result<(), HostTreeFault>
+fn note(list: &mut Vec<Extent>, found: Found<'_>, is_hart: bool) -> Result<(), MakeFault>
     ensures { OnOk result (list.new.items ≡ list.old.items
         ++ one_extent is_hart found.entry.kind found.entry.extent) }
 {
@@ -43,7 +43,7 @@ fn note(list: &mut Vec<Extent>, found: Found<'_>, is_hart: bool) -> Result<(), H
         return Ok(());
     }
     let Ok(()) = list.push(found.extent) else {
-        return Err(HostTreeFault::NotWritten(WriteFault::Memory));
+        return Err(MakeFault::NotWritten(WriteFault::Memory));
     };
     Ok(())
 }
@@ -53,7 +53,7 @@ fn extents_of(
     alloc: Global,
     found: &[Found<'_>],
     is_hart: bool,
-) -> Result<Vec<Extent>, HostTreeFault>
+) -> Result<Vec<Extent>, MakeFault>
     ensures { IfOk result (λ list. list.items ≡ extents_of is_hart (said_of found.now)) }
 {
     let mut list = Vec::new(alloc);
@@ -67,7 +67,7 @@ fn extents_of(
 fn board_in<'a>(
     alloc: Global,
     pieces: &'a [PlacedPiece<'a>],
-) -> Result<Board, HostTreeFault>
+) -> Result<Board, MakeFault>
     ensures { IfOk result (λ board. (tree : Tree) → parts_of pieces.now ≡ parts_of_tree tree
         → (ranges : List Range) × TreeSays tree ranges
         × (board.harts.items ≡ extents_of true ranges)
@@ -75,7 +75,7 @@ fn board_in<'a>(
 {
     let found = match ranges_of(alloc, pieces) {
         Ok(found) => found,
-        Err(fault) => return Err(HostTreeFault::NotUnderstood(fault.reason)),
+        Err(fault) => return Err(MakeFault::NotUnderstood(fault.reason)),
     };
     let harts = extents_of(alloc, found.as_slice(), true)?;
     let memory = extents_of(alloc, found.as_slice(), false)?;
@@ -92,7 +92,10 @@ pub fn board_of(alloc: Global, bytes: &[u8]) -> Result<Board, HostTreeFault>
         × (board.memory.items ≡ extents_of false ranges)) }
 {
     match read_tree(alloc, bytes) {
-        Ok(read) => board_in(alloc, read.pieces.as_slice()),
+        Ok(read) => match board_in(alloc, read.pieces.as_slice()) {
+            Ok(board) => Ok(board),
+            Err(fault) => Err(HostTreeFault::NotMade(fault)),
+        },
         Err(fault) => Err(HostTreeFault::NotRead(fault)),
     }
 }

@@ -9,7 +9,7 @@ ghost use Rattle.board_ranges.specs.Meaning.{is_there, live_kind};
 ghost use Rattle.host_tree.specs.Shares.{are_hosts, has_hart, is_closed, is_kept};
 ghost use Rattle.host_tree.specs.HostNodes.{AreRegisters};
 
-use crate::fault::{HostTreeFault, rows_fault};
+use crate::fault::{MakeFault, rows_fault};
 use crate::share::Share;
 use board_ranges::{Cells, Extent, Kind, Place, Way, kind_of, rows_of, value_of};
 use device_tree::PlacedPiece;
@@ -57,7 +57,7 @@ fn registers_of(
     kind: Option<Kind>,
     reg: Option<&[u8]>,
     cells: &Cells,
-) -> Result<Vec<Extent>, HostTreeFault>
+) -> Result<Vec<Extent>, MakeFault>
     ensures { IfOk result (λ rows. AreRegisters kind
         (option_map (λ bytes. bytes.now) reg.entry) cells.now rows.items) }
 {
@@ -90,7 +90,7 @@ pub(crate) fn is_closed<'a>(
     properties: &'a [PlacedPiece<'a>],
     place: Place,
     bus: (&Cells, &Way),
-) -> Result<bool, HostTreeFault>
+) -> Result<bool, MakeFault>
     ensures { IfOk result (λ closed. (rows : List Extent)
         × AreRegisters (live_kind place (parts_of properties.now))
         (value_in (codes "reg") (parts_of properties.now)) bus.entry.0.now rows

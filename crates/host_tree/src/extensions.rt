@@ -3,7 +3,7 @@
 ghost use Rattle.std.specs.Prelude.{◌≡◌, ◌++◌, ◌∷◌, IfOk, OnOk, List, [], drop};
 ghost use Rattle.host_tree.specs.Extensions.{is_closed_name, kept_unit, open_from, open_names};
 
-use crate::fault::HostTreeFault;
+use crate::fault::MakeFault;
 use std::alloc::Global;
 use crate::write_fault::WriteFault;
 
@@ -25,17 +25,17 @@ fn is_closed_name(name: &[u8]) -> bool
 }
 
 /// Appends bytes.
-fn put_bytes(out: &mut Vec<u8>, bytes: &[u8]) -> Result<(), HostTreeFault>
+fn put_bytes(out: &mut Vec<u8>, bytes: &[u8]) -> Result<(), MakeFault>
     ensures { OnOk result (out.new.items ≡ out.old.items ++ bytes.now) }
 {
     let Ok(()) = out.extend_from_slice(bytes) else {
-        return Err(HostTreeFault::NotWritten(WriteFault::Memory));
+        return Err(MakeFault::NotWritten(WriteFault::Memory));
     };
     Ok(())
 }
 
 /// Appends a separator and the name after it, where the name is not closed.
-fn put_unit(out: &mut Vec<u8>, unit: &[u8]) -> Result<(), HostTreeFault>
+fn put_unit(out: &mut Vec<u8>, unit: &[u8]) -> Result<(), MakeFault>
     ensures { OnOk result (out.new.items ≡ out.old.items ++ kept_unit unit.now) }
 {
     let Some((_, name)) = unit.split_first() else {
@@ -48,28 +48,28 @@ fn put_unit(out: &mut Vec<u8>, unit: &[u8]) -> Result<(), HostTreeFault>
 }
 
 /// A unit of one byte in place of another.
-fn begin_unit(unit: &mut Vec<u8>, byte: u8) -> Result<(), HostTreeFault>
+fn begin_unit(unit: &mut Vec<u8>, byte: u8) -> Result<(), MakeFault>
     ensures { OnOk result (unit.new.items ≡ byte ∷ []) }
 {
     unit.clear();
     let Ok(()) = unit.push(byte) else {
-        return Err(HostTreeFault::NotWritten(WriteFault::Memory));
+        return Err(MakeFault::NotWritten(WriteFault::Memory));
     };
     Ok(())
 }
 
 /// A unit and one byte more.
-fn add_byte(unit: &mut Vec<u8>, byte: u8) -> Result<(), HostTreeFault>
+fn add_byte(unit: &mut Vec<u8>, byte: u8) -> Result<(), MakeFault>
     ensures { OnOk result (unit.new.items ≡ unit.old.items ++ byte ∷ []) }
 {
     let Ok(()) = unit.push(byte) else {
-        return Err(HostTreeFault::NotWritten(WriteFault::Memory));
+        return Err(MakeFault::NotWritten(WriteFault::Memory));
     };
     Ok(())
 }
 
 /// The names without those that are closed, with the `_` that comes before the first.
-fn open_units(alloc: Global, names: &[u8]) -> Result<Vec<u8>, HostTreeFault>
+fn open_units(alloc: Global, names: &[u8]) -> Result<Vec<u8>, MakeFault>
     ensures { IfOk result (λ kept. kept.items ≡ open_from (95 ∷ []) names.now) }
 {
     let mut open = Vec::new(alloc);
@@ -88,7 +88,7 @@ fn open_units(alloc: Global, names: &[u8]) -> Result<Vec<u8>, HostTreeFault>
 }
 
 /// The value of `riscv,isa` or `riscv,isa-extensions` without the names that are closed.
-pub(crate) fn open_names(alloc: Global, names: &[u8]) -> Result<Vec<u8>, HostTreeFault>
+pub(crate) fn open_names(alloc: Global, names: &[u8]) -> Result<Vec<u8>, MakeFault>
     ensures { IfOk result (λ kept. kept.items ≡ open_names names.now) }
 {
     let units = open_units(alloc, names)?;

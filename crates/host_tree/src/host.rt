@@ -9,7 +9,7 @@ ghost use Rattle.device_tree.specs.Trees.{ReadsAs, SpellsTree};
 ghost use Rattle.host_tree.specs.Written.{Adds};
 ghost use Rattle.host_tree.specs.HostTrees.{IsHostTree, IsHosts, portion_of};
 
-use crate::fault::HostTreeFault;
+use crate::fault::{HostTreeFault, MakeFault};
 use crate::properties::put_properties;
 use crate::put::{put_begin, put_end};
 use crate::reserved::Reserved;
@@ -29,7 +29,7 @@ fn put_tree<'a>(
     pieces: &'a [PlacedPiece<'a>],
     ranges: &[Reserved],
     writer: &mut TreeWriter,
-) -> Result<(), HostTreeFault>
+) -> Result<(), MakeFault>
     ensures { OnOk result ((board : Tree) → parts_of pieces.now ≡ parts_of_tree board
         → (made : Tree) × IsHostTree (portion_of share.now) ranges.now board made
         × Adds writer.old writer.new (parts_of_tree made)) }
@@ -38,7 +38,7 @@ fn put_tree<'a>(
         return Ok(());
     };
     let Some(cells) = cells_of(root.properties) else {
-        return Err(HostTreeFault::NotUnderstood(BoardReason::BadCells));
+        return Err(MakeFault::NotUnderstood(BoardReason::BadCells));
     };
     put_begin(writer, root.name)?;
     put_properties(alloc, writer, root.properties, false, false)?;
@@ -63,7 +63,7 @@ fn written<'a>(
     ranges: &[Reserved],
     boot_hart: u32,
     free: u32,
-) -> Result<Vec<u8>, HostTreeFault>
+) -> Result<Vec<u8>, MakeFault>
     ensures { IfOk result (λ out. (board : Tree) → parts_of read.now.pieces.items ≡ parts_of_tree board
         → (made : Tree) × IsHostTree (portion_of share.now) ranges.now board made
         × SpellsTree out.items made read.now.reservations.items) }
@@ -77,7 +77,7 @@ fn written<'a>(
     };
     match writer.finish(alloc, &ends) {
         Ok(bytes) => Ok(bytes),
-        Err(fault) => Err(HostTreeFault::NotWritten(fault)),
+        Err(fault) => Err(MakeFault::NotWritten(fault)),
     }
 }
 
@@ -102,7 +102,10 @@ pub fn host_tree(
         → ReadsAs bytes.now tree reservations → ⊥ }
 {
     match read_tree(alloc, bytes) {
-        Ok(read) => written(alloc, share, &read, ranges, boot_hart_of(bytes), free),
+        Ok(read) => match written(alloc, share, &read, ranges, boot_hart_of(bytes), free) {
+            Ok(out) => Ok(out),
+            Err(fault) => Err(HostTreeFault::NotMade(fault)),
+        },
         Err(fault) => Err(HostTreeFault::NotRead(fault)),
     }
 }

@@ -4,7 +4,7 @@ ghost use Rattle.std.specs.Prelude.{◌≡◌, ◌++◌, IfOk, OnErr, OnOk, List
 ghost use Rattle.host_tree.specs.Platforms.{portion_in, reserved_in};
 ghost use Rattle.host_tree.specs.HostTrees.{IsHosts};
 
-use crate::fault::HostTreeFault;
+use crate::fault::{HostTreeFault, MakeFault};
 use crate::host::host_tree;
 use crate::platform::PlatformWords;
 use crate::reserved::{Purpose, Reserved};
@@ -30,7 +30,7 @@ fn reserved_in(
     alloc: Global,
     platform: &PlatformWords,
     pool: Extent,
-) -> Result<Vec<Reserved>, HostTreeFault>
+) -> Result<Vec<Reserved>, MakeFault>
     ensures { IfOk result (λ list. list.items ≡ reserved_in platform.now pool) }
 {
     let mut list = Vec::new(alloc);
@@ -42,7 +42,7 @@ fn reserved_in(
         },
     };
     let Ok(()) = list.push(monitor) else {
-        return Err(HostTreeFault::NotWritten(WriteFault::Memory));
+        return Err(MakeFault::NotWritten(WriteFault::Memory));
     };
     if pool.size == 0 {
         return Ok(list);
@@ -51,7 +51,7 @@ fn reserved_in(
         purpose: Purpose::Pool,
         extent: pool,
     }) else {
-        return Err(HostTreeFault::NotWritten(WriteFault::Memory));
+        return Err(MakeFault::NotWritten(WriteFault::Memory));
     };
     Ok(list)
 }
@@ -78,17 +78,24 @@ fn tree_for(
     ensures { IfOk result (λ out. IsHosts (portion_in platform.now)
         (reserved_in platform.now pool) place.now out.items) }
 {
-    let ranges = platform.ranges(alloc)?;
+    let ranges = match platform.ranges(alloc) {
+        Ok(ranges) => ranges,
+        Err(fault) => return Err(HostTreeFault::NotMade(fault)),
+    };
     let share = Share {
         harts: platform.harts,
         ranges: ranges.as_slice(),
     };
-    let reserved = reserved_in(alloc, platform, pool)?;
+    let reserved = match reserved_in(alloc, platform, pool) {
+        Ok(reserved) => reserved,
+        Err(fault) => return Err(HostTreeFault::NotMade(fault)),
+    };
     let tree = host_tree(alloc, &share, place, reserved.as_slice(), FREE)?;
     if tree.len() <= place.len() {
         return Ok(tree);
     }
-    host_tree(alloc, &share, place, reserved.as_slice(), 0)
+    let shorter = host_tree(alloc, &share, place, reserved.as_slice(), 0)?;
+    Ok(shorter)
 }
 
 /// Writes the host's tree in place of the board's, which the bytes begin with. The pool is reserved too where it has a size.

@@ -31,7 +31,7 @@ mod writer;
 mod writer_tests;
 
 pub use board::{Board, board_of};
-pub use fault::HostTreeFault;
+pub use fault::{HostTreeFault, MakeFault};
 pub use host::host_tree;
 pub use in_place::{PlaceFault, put_host_tree};
 pub use platform::{PlatformWords, find_platform};

@@ -11,7 +11,7 @@ ghost use Rattle.host_tree.specs.HostNodes.{AreRegisters, node_settings};
 ghost use Rattle.host_tree.specs.HostTrees.{portion_of};
 
 use crate::close::is_closed;
-use crate::fault::HostTreeFault;
+use crate::fault::MakeFault;
 use crate::properties::put_properties;
 use crate::put::put_begin;
 use crate::share::Share;
@@ -27,7 +27,7 @@ pub(crate) fn put_head<'a>(
     place: Place,
     bus: (&Cells, &Way),
     writer: &mut TreeWriter,
-) -> Result<(), HostTreeFault>
+) -> Result<(), MakeFault>
     ensures { OnOk result ((rows : List Extent)
         × AreRegisters (live_kind place (parts_of head.now.properties.now))
         (value_in (codes "reg") (parts_of head.now.properties.now)) bus.entry.0.now rows

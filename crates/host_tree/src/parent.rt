@@ -7,7 +7,7 @@ ghost use Rattle.device_tree.specs.Pieces.{has};
 ghost use Rattle.host_tree.specs.Written.{Adds};
 ghost use Rattle.host_tree.specs.Ranges.{AllFit, parent_settings, with_ranges};
 
-use crate::fault::HostTreeFault;
+use crate::fault::MakeFault;
 use crate::put::{put_begin, put_end, put_property};
 use crate::reserved::{Reserved, put_ranges};
 use board_ranges::Cells;
@@ -26,7 +26,7 @@ fn count_bytes(cells: usize) -> [u8; 4]
 }
 
 /// Writes the properties of a new `/reserved-memory`.
-fn put_settings(writer: &mut TreeWriter, cells: &Cells) -> Result<(), HostTreeFault>
+fn put_settings(writer: &mut TreeWriter, cells: &Cells) -> Result<(), MakeFault>
     ensures { OnOk result (Adds writer.old writer.new (map has (parent_settings cells.now))) }
 {
     let address = count_bytes(cells.address);
@@ -43,7 +43,7 @@ pub(crate) fn put_parent(
     writer: &mut TreeWriter,
     cells: &Cells,
     ranges: &[Reserved],
-) -> Result<(), HostTreeFault>
+) -> Result<(), MakeFault>
     ensures written { OnOk result (Adds writer.old writer.new
         (parts_of_nodes (with_ranges cells.now ranges.now no_nodes))) }
     ensures fit { OnOk result (AllFit cells.now ranges.now) }

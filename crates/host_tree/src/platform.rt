@@ -1,11 +1,11 @@
 //! A platform as firmware has it, of which a board may have less.
 
-ghost use Rattle.std.specs.Prelude.{◌≡◌, ◌+◌, ◌*◌, ◌≤◌, ◌<◌, ◌++◌, ◌∷◌, OnErr, OnOk, IfOk, List, [], ℕ, drop, length};
+ghost use Rattle.std.specs.Prelude.{◌≡◌, ◌++◌, ◌∷◌, MatchOption, OnErr, OnOk, IfOk, List, [], ℕ, suc, length};
 ghost use Rattle.board_ranges.specs.declared.rows.Extent.{Extent};
-ghost use Rattle.host_tree.specs.Platforms.{IsClipped, IsFound, clipped_one, pairs_in, triples_in};
+ghost use Rattle.host_tree.specs.Platforms.{IsClipped, IsFound, clipped_one, flat_words, pairs_in, triples_in};
 
-use crate::board::board_of;
-use crate::fault::HostTreeFault;
+use crate::board::{Board, board_of};
+use crate::fault::{HostTreeFault, MakeFault};
 use crate::there::{harts_there, memory_there};
 use board_ranges::Extent;
 use std::alloc::Global;
@@ -29,32 +29,55 @@ pub struct PlatformWords {
 }
 
 /// Appends an extent.
-fn push(list: &mut Vec<Extent>, extent: Extent) -> Result<(), HostTreeFault>
+fn push(list: &mut Vec<Extent>, extent: Extent) -> Result<(), MakeFault>
     ensures { OnOk result (list.new.items ≡ list.old.items ++ extent ∷ []) }
 {
     let Ok(()) = list.push(extent) else {
-        return Err(HostTreeFault::NotWritten(WriteFault::Memory));
+        return Err(MakeFault::NotWritten(WriteFault::Memory));
     };
     Ok(())
 }
 
-/// Appends the extents of so many pairs of a base and a size, or of as many as there are.
-fn put_pairs(list: &mut Vec<Extent>, words: &[u64], count: u64) -> Result<(), HostTreeFault>
+/// The pair in front, of a base and a size, and the words behind it.
+fn first_pair(words: &[u64]) -> Option<(Extent, &[u64])>
+    ensures { MatchOption result ((count : ℕ) → pairs_in count words.now ≡ [])
+        (λ x. (count : ℕ) → pairs_in (suc count) words.now ≡ x.0 ∷ pairs_in count x.1.now) }
+{
+    let (base, later) = words.split_first()?;
+    let (size, later) = later.split_first()?;
+    let extent = Extent {
+        base: *base,
+        size: *size,
+    };
+    Some((extent, later))
+}
+
+/// The same of a base, a size and another number.
+fn first_triple(words: &[u64]) -> Option<(Extent, &[u64])>
+    ensures { MatchOption result ((count : ℕ) → triples_in count words.now ≡ [])
+        (λ x. (count : ℕ) → triples_in (suc count) words.now ≡ x.0 ∷ triples_in count x.1.now) }
+{
+    let (base, later) = words.split_first()?;
+    let (size, later) = later.split_first()?;
+    let (_, later) = later.split_first()?;
+    let extent = Extent {
+        base: *base,
+        size: *size,
+    };
+    Some((extent, later))
+}
+
+/// Appends the extents of so many pairs, or of as many as there are.
+fn put_pairs(list: &mut Vec<Extent>, words: &[u64], count: u64) -> Result<(), MakeFault>
     ensures { OnOk result (list.new.items ≡ list.old.items ++ pairs_in count words.now) }
 {
     let mut left = count;
     let mut rest = words;
     'pairs: while left > 0 {
-        let [base, size, later @ ..] = rest else {
+        let Some((extent, later)) = first_pair(rest) else {
             break 'pairs;
         };
-        push(
-            list,
-            Extent {
-                base: *base,
-                size: *size,
-            },
-        )?;
+        push(list, extent)?;
         rest = later;
         left -= 1;
     }
@@ -62,22 +85,16 @@ fn put_pairs(list: &mut Vec<Extent>, words: &[u64], count: u64) -> Result<(), Ho
 }
 
 /// The same of a base, a size and another number.
-fn put_triples(list: &mut Vec<Extent>, words: &[u64], count: u64) -> Result<(), HostTreeFault>
+fn put_triples(list: &mut Vec<Extent>, words: &[u64], count: u64) -> Result<(), MakeFault>
     ensures { OnOk result (list.new.items ≡ list.old.items ++ triples_in count words.now) }
 {
     let mut left = count;
     let mut rest = words;
     'triples: while left > 0 {
-        let [base, size, _, later @ ..] = rest else {
+        let Some((extent, later)) = first_triple(rest) else {
             break 'triples;
         };
-        push(
-            list,
-            Extent {
-                base: *base,
-                size: *size,
-            },
-        )?;
+        push(list, extent)?;
         rest = later;
         left -= 1;
     }
@@ -86,7 +103,7 @@ fn put_triples(list: &mut Vec<Extent>, words: &[u64], count: u64) -> Result<(), 
 
 impl PlatformWords {
     /// The ranges of memory.
-    fn memory(&self, alloc: Global) -> Result<Vec<Extent>, HostTreeFault>
+    fn memory(&self, alloc: Global) -> Result<Vec<Extent>, MakeFault>
         ensures { IfOk result (λ list. list.items ≡ pairs_in self.now.ram_count self.now.ram) }
     {
         let mut list = Vec::new(alloc);
@@ -95,7 +112,7 @@ impl PlatformWords {
     }
 
     /// The ranges of addresses that its host has: memory and devices.
-    pub fn ranges(&self, alloc: Global) -> Result<Vec<Extent>, HostTreeFault>
+    pub fn ranges(&self, alloc: Global) -> Result<Vec<Extent>, MakeFault>
         ensures { IfOk result (λ list. list.items ≡ pairs_in self.now.ram_count self.now.ram
             ++ triples_in self.now.device_count self.now.device) }
     {
@@ -111,7 +128,7 @@ fn put_clipped(
     list: &mut Vec<Extent>,
     memory: &[Extent],
     range: Extent,
-) -> Result<(), HostTreeFault>
+) -> Result<(), MakeFault>
     ensures { OnOk result ((kept : List Extent)
         × (list.new.items ≡ list.old.items ++ kept) × clipped_one memory.now range kept) }
 {
@@ -133,7 +150,7 @@ fn clipped(
     alloc: Global,
     memory: &[Extent],
     ranges: &[Extent],
-) -> Result<Vec<Extent>, HostTreeFault>
+) -> Result<Vec<Extent>, MakeFault>
     ensures { IfOk result (λ list. IsClipped memory.now ranges.now list.items) }
 {
     let mut list = Vec::new(alloc);
@@ -143,19 +160,57 @@ fn clipped(
     Ok(list)
 }
 
-/// The words of ranges, and zeros behind them.
-fn words_of(ranges: &[Extent]) -> [u64; 64]
-    requires { length ranges.now ≤ 32 }
-    ensures { pairs_in (length ranges.now) result ≡ ranges.now }
+/// Appends a base and a size.
+fn put_words(words: &mut Vec<u64>, range: Extent) -> Result<(), MakeFault>
+    ensures { OnOk result (words.new.items ≡ words.old.items ++ range.base ∷ range.size ∷ []) }
 {
-    let mut words = [0; 64];
-    let mut i = 0;
-    'ranges: while i < ranges.len() {
-        words[2 * i] = ranges[i].base;
-        words[2 * i + 1] = ranges[i].size;
-        i += 1;
+    let Ok(()) = words.push(range.base) else {
+        return Err(MakeFault::NotWritten(WriteFault::Memory));
+    };
+    let Ok(()) = words.push(range.size) else {
+        return Err(MakeFault::NotWritten(WriteFault::Memory));
+    };
+    Ok(())
+}
+
+/// The words of ranges, one after another.
+fn flat_words(alloc: Global, ranges: &[Extent]) -> Result<Vec<u64>, MakeFault>
+    ensures { IfOk result (λ words. words.items ≡ flat_words ranges.now) }
+{
+    let mut words = Vec::new(alloc);
+    for range in ranges {
+        put_words(&mut words, *range)?;
     }
-    words
+    Ok(words)
+}
+
+/// The words of ranges, of which a platform has at most 32, and zeros behind them.
+fn words_of(alloc: Global, ranges: &[Extent]) -> Result<[u64; 64], MakeFault>
+    ensures { IfOk result (λ words. (zeros : List ℕ) × (words ≡ flat_words ranges.now ++ zeros)) }
+{
+    let flat = flat_words(alloc, ranges)?;
+    if flat.len() > 64 {
+        return Err(MakeFault::NotWritten(WriteFault::TooLarge));
+    }
+    let mut words = [0; 64];
+    words[..flat.len()].copy_from_slice(flat.as_slice());
+    Ok(words)
+}
+
+/// The ranges of a platform's memory that a board has, and their words.
+fn left_of(
+    alloc: Global,
+    board: &Board,
+    platform: &PlatformWords,
+) -> Result<(u64, [u64; 64]), MakeFault>
+    ensures { IfOk result (λ left. (ranges : List Extent)
+        × IsClipped board.now.memory.items (pairs_in platform.now.ram_count platform.now.ram) ranges
+        × (left.0 ≡ length ranges) × (zeros : List ℕ) × (left.1 ≡ flat_words ranges ++ zeros)) }
+{
+    let ranges = platform.memory(alloc)?;
+    let left = clipped(alloc, board.memory.as_slice(), ranges.as_slice())?;
+    let words = words_of(alloc, left.as_slice())?;
+    Ok((left.as_slice().len() as u64, words))
 }
 
 /// Leaves of the platform what the board has whose tree the bytes begin with: harts from hart 0 on, and of each range of memory
@@ -171,11 +226,16 @@ pub fn find_platform(
     ensures found { OnOk result (IsFound bytes.now platform.old platform.new) }
     ensures kept { OnErr result (platform.new ≡ platform.old) }
 {
-    let board = board_of(alloc, bytes)?;
-    let ranges = platform.memory(alloc)?;
-    let left = clipped(alloc, board.memory.as_slice(), ranges.as_slice())?;
+    let board = match board_of(alloc, bytes) {
+        Ok(board) => board,
+        Err(fault) => return Err(fault),
+    };
+    let (count, words) = match left_of(alloc, &board, platform) {
+        Ok(left) => left,
+        Err(fault) => return Err(HostTreeFault::NotMade(fault)),
+    };
     platform.harts = harts_there(board.harts.as_slice(), platform.harts);
-    platform.ram_count = left.len() as u64;
-    platform.ram = words_of(left.as_slice());
+    platform.ram_count = count;
+    platform.ram = words;
     Ok(())
 }

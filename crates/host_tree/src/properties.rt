@@ -6,7 +6,7 @@ ghost use Rattle.host_tree.specs.Written.{Adds, setting};
 ghost use Rattle.host_tree.specs.Settings.{host_settings, host_value, left_setting, left_settings, names_extensions, status_of};
 
 use crate::extensions::open_names;
-use crate::fault::HostTreeFault;
+use crate::fault::MakeFault;
 use crate::put::put_property;
 use device_tree::{Piece, PlacedPiece};
 use std::alloc::Global;
@@ -26,7 +26,7 @@ fn put_host_value(
     name: &[u8],
     value: &[u8],
     is_hart: bool,
-) -> Result<(), HostTreeFault>
+) -> Result<(), MakeFault>
     ensures { OnOk result (Adds writer.old writer.new
         (has (setting name.now (host_value is_hart name.now value.now)) ∷ [])) }
 {
@@ -45,7 +45,7 @@ fn put_left(
     value: &[u8],
     is_hart: bool,
     is_closed: bool,
-) -> Result<(), HostTreeFault>
+) -> Result<(), MakeFault>
     ensures { OnOk result (Adds writer.old writer.new
         (map has (left_setting is_hart is_closed (setting name.now value.now)))) }
 {
@@ -62,7 +62,7 @@ fn put_piece(
     piece: Piece<'_>,
     is_hart: bool,
     is_closed: bool,
-) -> Result<(), HostTreeFault>
+) -> Result<(), MakeFault>
     ensures { OnOk result ((one : Setting) → part_of piece.entry ≡ has one
         → Adds writer.old writer.new (map has (left_setting is_hart is_closed one))) }
 {
@@ -73,7 +73,7 @@ fn put_piece(
 }
 
 /// Writes the status of a node that is closed.
-fn put_status(writer: &mut TreeWriter, is_closed: bool) -> Result<(), HostTreeFault>
+fn put_status(writer: &mut TreeWriter, is_closed: bool) -> Result<(), MakeFault>
     ensures { OnOk result (Adds writer.old writer.new (map has (status_of is_closed))) }
 {
     if is_closed {
@@ -89,7 +89,7 @@ fn put_all_left<'a>(
     properties: &'a [PlacedPiece<'a>],
     is_hart: bool,
     is_closed: bool,
-) -> Result<(), HostTreeFault>
+) -> Result<(), MakeFault>
     ensures { OnOk result ((own : List Setting) → parts_of properties.now ≡ map has own
         → Adds writer.old writer.new (map has (left_settings is_hart is_closed own))) }
 {
@@ -106,7 +106,7 @@ pub(crate) fn put_properties<'a>(
     properties: &'a [PlacedPiece<'a>],
     is_hart: bool,
     is_closed: bool,
-) -> Result<(), HostTreeFault>
+) -> Result<(), MakeFault>
     ensures { OnOk result ((own : List Setting) → parts_of properties.now ≡ map has own
         → Adds writer.old writer.new (map has (host_settings is_hart is_closed own))) }
 {

@@ -7,7 +7,7 @@ ghost use Rattle.device_tree.specs.Nodes.{parts_of_nodes};
 ghost use Rattle.host_tree.specs.Written.{Adds};
 ghost use Rattle.host_tree.specs.Ranges.{AllFit, Fits, compatible_of, hex_digit, hex_text, purpose_name, range_name, range_nodes, range_settings, reg_bytes};
 
-use crate::fault::HostTreeFault;
+use crate::fault::MakeFault;
 use crate::put::{put_begin, put_end, put_property};
 use board_ranges::{Cells, Extent};
 use byteorder::{BigEndian, ByteOrder};
@@ -32,38 +32,40 @@ pub struct Reserved {
 }
 
 /// Appends bytes.
-fn put_bytes(out: &mut Vec<u8>, bytes: &[u8]) -> Result<(), HostTreeFault>
+fn put_bytes(out: &mut Vec<u8>, bytes: &[u8]) -> Result<(), MakeFault>
     ensures { OnOk result (out.new.items ≡ out.old.items ++ bytes.now) }
 {
     let Ok(()) = out.extend_from_slice(bytes) else {
-        return Err(HostTreeFault::NotWritten(WriteFault::Memory));
+        return Err(MakeFault::NotWritten(WriteFault::Memory));
     };
     Ok(())
 }
 
-/// A digit to the base 16.
-fn hex_digit(value: u8) -> u8
+/// Appends a digit to the base 16.
+fn put_digit(out: &mut Vec<u8>, value: u8) -> Result<(), MakeFault>
     requires { value < 16 }
-    ensures { result ≡ hex_digit value }
+    ensures { OnOk result (out.new.items ≡ out.old.items ++ hex_digit value ∷ []) }
 {
-    if value < 10 {
-        return 48 + value;
-    }
-    87 + value
+    let digit = if value < 10 { 48 + value } else { 87 + value };
+    let Ok(()) = out.push(digit) else {
+        return Err(MakeFault::NotWritten(WriteFault::Memory));
+    };
+    Ok(())
 }
 
 /// Appends a number to the base 16, its lowest digits, at most so many.
-fn put_hex(out: &mut Vec<u8>, most: u32, value: u64) -> Result<(), HostTreeFault>
+fn put_hex(out: &mut Vec<u8>, most: u32, value: u64) -> Result<(), MakeFault>
     ensures { OnOk result (out.new.items ≡ out.old.items ++ hex_text most value) }
 {
     if most == 0 {
         return Ok(());
     }
-    if value >= 16 {
-        put_hex(out, most - 1, value / 16)?;
+    if value < 16 {
+        put_digit(out, value as u8)?;
+        return Ok(());
     }
-    let digit = [hex_digit((value % 16) as u8)];
-    put_bytes(out, digit.as_slice())?;
+    put_hex(out, most - 1, value / 16)?;
+    put_digit(out, (value % 16) as u8)?;
     Ok(())
 }
 
@@ -78,7 +80,7 @@ fn purpose_name(purpose: Purpose) -> &'static [u8]
 }
 
 /// The name of a range's node.
-fn range_name(alloc: Global, range: Reserved) -> Result<Vec<u8>, HostTreeFault>
+fn range_name(alloc: Global, range: Reserved) -> Result<Vec<u8>, MakeFault>
     ensures { IfOk result (λ name. name.items ≡ range_name range) }
 {
     let mut name = Vec::new(alloc);
@@ -89,7 +91,7 @@ fn range_name(alloc: Global, range: Reserved) -> Result<Vec<u8>, HostTreeFault>
 }
 
 /// Appends a number of so many cells: one or two.
-fn put_cells(out: &mut Vec<u8>, cells: usize, number: u64) -> Result<(), HostTreeFault>
+fn put_cells(out: &mut Vec<u8>, cells: usize, number: u64) -> Result<(), MakeFault>
     ensures spelt { OnOk result (out.new.items ≡ out.old.items ++ big_bytes (4 * cells) number) }
     ensures fits { OnOk result (number < 256 ^ (4 * cells)) }
 {
@@ -103,11 +105,11 @@ fn put_cells(out: &mut Vec<u8>, cells: usize, number: u64) -> Result<(), HostTre
         BigEndian::write_u64(&mut bytes, number);
         return put_bytes(out, bytes.as_slice());
     }
-    Err(HostTreeFault::BadCells)
+    Err(MakeFault::BadCells)
 }
 
 /// An address and a size.
-fn reg_bytes(alloc: Global, cells: &Cells, extent: Extent) -> Result<Vec<u8>, HostTreeFault>
+fn reg_bytes(alloc: Global, cells: &Cells, extent: Extent) -> Result<Vec<u8>, MakeFault>
     ensures spelt { IfOk result (λ reg. reg.items ≡ reg_bytes cells.now extent) }
     ensures fits { OnOk result (Fits cells.now extent) }
 {
@@ -118,16 +120,19 @@ fn reg_bytes(alloc: Global, cells: &Cells, extent: Extent) -> Result<Vec<u8>, Ho
 }
 
 /// Writes for what an operating system may use a range.
-fn put_compatible(writer: &mut TreeWriter, purpose: Purpose) -> Result<(), HostTreeFault>
+fn put_compatible(writer: &mut TreeWriter, purpose: Purpose) -> Result<(), MakeFault>
     ensures { OnOk result (Adds writer.old writer.new (map has (compatible_of purpose))) }
 {
     match purpose {
         Purpose::Monitor => Ok(()),
-        Purpose::Pool => put_property(
-            writer,
-            b"compatible".as_slice(),
-            b"pmpmon,pool\0".as_slice(),
-        ),
+        Purpose::Pool => {
+            put_property(
+                writer,
+                b"compatible".as_slice(),
+                b"pmpmon,pool\0".as_slice(),
+            )?;
+            Ok(())
+        }
     }
 }
 
@@ -137,7 +142,7 @@ fn put_settings(
     writer: &mut TreeWriter,
     cells: &Cells,
     range: Reserved,
-) -> Result<(), HostTreeFault>
+) -> Result<(), MakeFault>
     ensures written { OnOk result (Adds writer.old writer.new
         (map has (range_settings cells.now range))) }
     ensures fits { OnOk result (Fits cells.now range.extent) }
@@ -155,7 +160,7 @@ fn put_range(
     writer: &mut TreeWriter,
     cells: &Cells,
     range: Reserved,
-) -> Result<(), HostTreeFault>
+) -> Result<(), MakeFault>
     ensures written { OnOk result (Adds writer.old writer.new
         (parts_of_nodes (range_nodes cells.now (range ∷ [])))) }
     ensures fits { OnOk result (Fits cells.now range.extent) }
@@ -173,7 +178,7 @@ pub(crate) fn put_ranges(
     writer: &mut TreeWriter,
     cells: &Cells,
     ranges: &[Reserved],
-) -> Result<(), HostTreeFault>
+) -> Result<(), MakeFault>
     ensures written { OnOk result (Adds writer.old writer.new
         (parts_of_nodes (range_nodes cells.now ranges.now))) }
     ensures fit { OnOk result (AllFit cells.now ranges.now) }

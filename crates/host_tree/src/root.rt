@@ -10,7 +10,7 @@ ghost use Rattle.host_tree.specs.HostNodes.{HostNodes, IsChild};
 ghost use Rattle.host_tree.specs.HostTrees.{portion_of};
 ghost use Rattle.host_tree.specs.Ranges.{AllFit, range_nodes, with_ranges};
 
-use crate::fault::HostTreeFault;
+use crate::fault::MakeFault;
 use crate::own_node::put_head;
 use crate::parent::put_parent;
 use crate::put::put_end;
@@ -29,7 +29,7 @@ fn put_child<'a>(
     head: &Head<'a>,
     cells: &Cells,
     writer: &mut TreeWriter,
-) -> Result<&'a [PlacedPiece<'a>], HostTreeFault>
+) -> Result<&'a [PlacedPiece<'a>], MakeFault>
     ensures len { IfOk result (λ behind. length behind.now ≤ length head.now.inner.now) }
     ensures ok { IfOk result (λ behind. IsChild (portion_of share.now) BelowRoot cells.now same
         head.now.name.now (parts_of head.now.properties.now) (parts_of head.now.inner.now)
@@ -39,16 +39,13 @@ fn put_child<'a>(
     put_head(alloc, share, head, Place::BelowRoot, bus, writer)?;
     let inner = match inner_of(alloc, head.name, head.properties, Place::BelowRoot, bus) {
         Ok(inner) => inner,
-        Err(reason) => return Err(HostTreeFault::NotUnderstood(reason)),
+        Err(reason) => return Err(MakeFault::NotUnderstood(reason)),
     };
-    put_nodes(
-        alloc,
-        share,
-        head.inner,
-        inner.place,
-        (&inner.cells, &inner.way),
-        writer,
-    )
+    let inner_bus = (&inner.cells, &inner.way);
+    match put_nodes(alloc, share, head.inner, inner.place, inner_bus, writer) {
+        Ok(behind) => Ok(behind),
+        Err(fault) => Err(fault),
+    }
 }
 
 /// Writes the children of the root as the host has them, with ranges that are reserved.
@@ -59,7 +56,7 @@ pub(crate) fn put_children<'a>(
     cells: &Cells,
     ranges: &[Reserved],
     writer: &mut TreeWriter,
-) -> Result<(), HostTreeFault>
+) -> Result<(), MakeFault>
     ensures fit { OnOk result (AllFit cells.now ranges.now) }
     ensures ok { OnOk result ((nodes : Nodes) (behind : List Part)
         → parts_of pieces.now ≡ parts_of_nodes nodes ++ behind → BeginsNoNode behind
@@ -70,14 +67,16 @@ pub(crate) fn put_children<'a>(
     let mut rest = pieces;
     'nodes: loop {
         let Some(head) = head_of(rest) else {
-            return put_parent(alloc, writer, cells, ranges);
+            put_parent(alloc, writer, cells, ranges)?;
+            return Ok(());
         };
         let behind = match put_child(alloc, share, &head, cells, writer) {
             Ok(behind) => behind,
             Err(fault) => return Err(fault),
         };
         if head.name == b"reserved-memory".as_slice() {
-            return put_last(alloc, share, behind, cells, ranges, writer);
+            put_last(alloc, share, behind, cells, ranges, writer)?;
+            return Ok(());
         }
         match put_end(writer) {
             Ok(()) => {}
@@ -95,7 +94,7 @@ fn put_last<'a>(
     cells: &Cells,
     ranges: &[Reserved],
     writer: &mut TreeWriter,
-) -> Result<(), HostTreeFault>
+) -> Result<(), MakeFault>
     ensures fit { OnOk result (AllFit cells.now ranges.now) }
     ensures ok { OnOk result ((later : Nodes) (behind : List Part)
         → parts_of pieces.now ≡ ends ∷ (parts_of_nodes later ++ behind) → BeginsNoNode behind

@@ -24,7 +24,7 @@ pub fn memory_there(memory: &[Extent], base: u64, size: u64) -> u64
     ensures { AreThere memory.now base size result }
 {
     let mut there = 0;
-    'ranges: while there < size {
+    'parts: while there < size {
         match left_at(memory, u128::from(base) + u128::from(there)) {
             Some(left) => there += left.min(size - there),
             None => return there / 4096 * 4096,

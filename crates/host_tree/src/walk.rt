@@ -8,7 +8,7 @@ ghost use Rattle.host_tree.specs.Written.{Adds};
 ghost use Rattle.host_tree.specs.HostNodes.{HostNodes};
 ghost use Rattle.host_tree.specs.HostTrees.{portion_of};
 
-use crate::fault::HostTreeFault;
+use crate::fault::MakeFault;
 use crate::own_node::put_head;
 use crate::put::put_end;
 use crate::share::Share;
@@ -25,7 +25,7 @@ pub(crate) fn put_nodes<'a>(
     place: Place,
     bus: (&Cells, &Way),
     writer: &mut TreeWriter,
-) -> Result<&'a [PlacedPiece<'a>], HostTreeFault>
+) -> Result<&'a [PlacedPiece<'a>], MakeFault>
     ensures len { IfOk result (λ rest. length rest.now ≤ length pieces.now) }
     ensures ok { IfOk result (λ rest. (nodes : Nodes) (behind : List Part)
         → parts_of pieces.now ≡ parts_of_nodes nodes ++ behind → BeginsNoNode behind
@@ -45,7 +45,7 @@ pub(crate) fn put_nodes<'a>(
         }
         let inner = match inner_of(alloc, head.name, head.properties, place, bus) {
             Ok(inner) => inner,
-            Err(reason) => return Err(HostTreeFault::NotUnderstood(reason)),
+            Err(reason) => return Err(MakeFault::NotUnderstood(reason)),
         };
         let inner_bus = (&inner.cells, &inner.way);
         let behind = match put_nodes(alloc, share, head.inner, inner.place, inner_bus, writer) {

@@ -9,7 +9,7 @@ ghost use Rattle.pmpmon_monitor.specs.Codes.{IsCode, range};
 use board_ranges::{BoardReason, Extent, RowFault};
 use device_tree::TreeReason;
 use host_tree::{
-    HostTreeFault, PlaceFault, PlatformWords, WriteFault, find_platform, put_host_tree,
+    HostTreeFault, MakeFault, PlaceFault, PlatformWords, WriteFault, find_platform, put_host_tree,
 };
 use std::alloc::Global;
 
@@ -19,17 +19,23 @@ const NOT_READ: i64 = 1;
 const NO_ROOM: i64 = 2;
 const NO_MEMORY: i64 = 3;
 
+/// Whether memory was refused.
+fn is_memory(fault: HostTreeFault) -> bool {
+    match fault {
+        HostTreeFault::NotRead(fault) => fault.reason == TreeReason::Memory,
+        HostTreeFault::NotMade(MakeFault::NotUnderstood(reason)) => {
+            reason == BoardReason::BadRows(RowFault::Memory)
+        }
+        HostTreeFault::NotMade(MakeFault::BadCells) => false,
+        HostTreeFault::NotMade(MakeFault::NotWritten(fault)) => fault == WriteFault::Memory,
+    }
+}
+
 /// The number of a fault.
 fn code_of(fault: HostTreeFault) -> i64
     ensures { IsCode result }
 {
-    let is_memory = match fault {
-        HostTreeFault::NotRead(fault) => fault.reason == TreeReason::Memory,
-        HostTreeFault::NotUnderstood(reason) => reason == BoardReason::BadRows(RowFault::Memory),
-        HostTreeFault::NotWritten(fault) => fault == WriteFault::Memory,
-        HostTreeFault::BadCells => false,
-    };
-    if is_memory {
+    if is_memory(fault) {
         return NO_MEMORY;
     }
     NOT_READ

@@ -3,6 +3,7 @@ use Rattle.std.proofs.lemmas.List.{drop_all}
 use Rattle.device_tree.specs.Trees.{BeginsWithReservations}
 use Rattle.device_tree.specs.declared.reservations.Reservation.{Reservation}
 use Rattle.host_tree.proofs.Fronts.{two_joined}
+use Rattle.host_tree.proofs.Steps.{held_step}
 use Rattle.host_tree.proofs.reservations.put_reservations.Goals as goal
 
 all_there : (a b d i n : ℕ) → a ≡ 16 * i → b ≡ 16 → i ≡ n → d ≡ a + b → d ≡ 16 * (n + 1)
@@ -17,7 +18,12 @@ last added end list i e was ends rest =
     (was (end ++ rest) (subst (λ (x : List Reservation). BeginsWithReservations (end ++ rest) x) (sym none) (ends rest)))
 
 pub loop-one-preserved : goal.loop-one-preserved
-loop-one-preserved c = ?
+loop-one-preserved c =
+    let was = c.loop-one.invariant in
+    let one = c.in_ok-put_reservation.ensures in
+    let both = length-append was.0 one.0 in
+    (was.0 ++ one.0, two_joined c.args.out.now.items _ _ was.0 one.0 was.1 one.1, omega (arith, was.2, one.2, both),
+    held_step was.0 one.0 c.args.list.now c.loop-one.one-index _ (omega arith) was.3 one.3)
 
 pub returns : goal.returns
 returns c =

@@ -1,6 +1,7 @@
-use Rattle.std.proofs.Common.{◌≡◌, ◌++◌, ◌∷◌, [], ◌∙◌, arith}
+use Rattle.std.proofs.Common.{◌≡◌, ◌++◌, ◌∷◌, [], ◌∙◌, sym, subst, refl, arith, true, false}
+use Rattle.std.specs.Prelude.{bytes_eq, codes}
 use Rattle.device_tree.specs.Pieces.{parts_of}
-use Rattle.device_tree.specs.Nodes.{parts_of_nodes}
+use Rattle.device_tree.specs.Nodes.{no_nodes, parts_of_nodes}
 use Rattle.board_ranges.specs.declared.kinds.Place.TheVariants.{BelowRoot}
 use Rattle.board_ranges.specs.Windows.{same}
 use Rattle.host_tree.specs.HostTrees.{portion_of}
@@ -13,4 +14,13 @@ pub nodes-init : goal.nodes-init
 nodes-init c = start (with_ranges c.args.cells.now c.args.ranges.now) (portion_of c.args.share.now) BelowRoot c.args.cells.now same (parts_of c.args.pieces.now) c.args.writer.now
 
 pub nodes-preserved : goal.nodes-preserved
-nodes-preserved c = ?
+nodes-preserved c =
+    let head = c.in-Some.head in
+    let parts = c.in-Some.ensures.parts in
+    let cells = c.args.cells.now in
+    let ranges = c.args.ranges.now in
+    let other : bytes_eq head.name.now (codes "reserved-memory") ≡ false = ? in
+    next (with_ranges cells ranges) (portion_of c.args.share.now) BelowRoot cells same (parts_of c.args.pieces.now) (parts_of c.nodes.rest.now)
+    c.args.writer.now c.nodes.writer c.nodes.invariant head.name.now parts.0 (parts_of head.inner.now) (parts_of head.properties.now) parts.1 parts.2 parts.3
+    (goes_on cells ranges head.name.now other) (parts_of c.in-Ok.behind.now) c.put_child.new.writer c.put_end.new.writer c.in-Ok.ensures.ok c.in-Ok-put_end.ensures
+    (parts_of c.after_end-rest.result.now) c.after_end-rest.ensures.parts
