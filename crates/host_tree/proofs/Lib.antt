@@ -10,3 +10,4 @@ mod Adding
 mod OneHost
 mod Ranged
 mod Steps
+mod Pairs

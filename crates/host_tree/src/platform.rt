@@ -1,6 +1,6 @@
 //! A platform as firmware has it, of which a board may have less.
 
-ghost use Rattle.std.specs.Prelude.{◌≡◌, ◌++◌, ◌∷◌, MatchOption, OnErr, OnOk, IfOk, List, [], ℕ, suc, length};
+ghost use Rattle.std.specs.Prelude.{◌≡◌, ◌++◌, ◌∷◌, MatchOption, OnErr, OnOk, IfOk, List, [], ℕ, suc, ◌≤◌, drop, length};
 ghost use Rattle.board_ranges.specs.declared.rows.Extent.{Extent};
 ghost use Rattle.host_tree.specs.Platforms.{IsClipped, IsFound, clipped_one, flat_words, pairs_in, triples_in};
 
@@ -38,33 +38,44 @@ fn push(list: &mut Vec<Extent>, extent: Extent) -> Result<(), MakeFault>
     Ok(())
 }
 
+/// What comes behind that many words, which are there.
+fn behind(words: &[u64], n: usize) -> &[u64]
+    requires { n ≤ length words.now }
+    ensures { result.now ≡ drop n words.now }
+{
+    &words[n..]
+}
+
 /// The pair in front, of a base and a size, and the words behind it.
+#[tactic(auto, using(crate::proofs::Pairs::no_pair, crate::proofs::Pairs::one_pair))]
 fn first_pair(words: &[u64]) -> Option<(Extent, &[u64])>
     ensures { MatchOption result ((count : ℕ) → pairs_in count words.now ≡ [])
         (λ x. (count : ℕ) → pairs_in (suc count) words.now ≡ x.0 ∷ pairs_in count x.1.now) }
 {
-    let (base, later) = words.split_first()?;
-    let (size, later) = later.split_first()?;
+    if words.len() < 2 {
+        return None;
+    }
     let extent = Extent {
-        base: *base,
-        size: *size,
+        base: words[0],
+        size: words[1],
     };
-    Some((extent, later))
+    Some((extent, behind(words, 2)))
 }
 
 /// The same of a base, a size and another number.
+#[tactic(auto, using(crate::proofs::Pairs::no_triple, crate::proofs::Pairs::one_triple))]
 fn first_triple(words: &[u64]) -> Option<(Extent, &[u64])>
     ensures { MatchOption result ((count : ℕ) → triples_in count words.now ≡ [])
         (λ x. (count : ℕ) → triples_in (suc count) words.now ≡ x.0 ∷ triples_in count x.1.now) }
 {
-    let (base, later) = words.split_first()?;
-    let (size, later) = later.split_first()?;
-    let (_, later) = later.split_first()?;
+    if words.len() < 3 {
+        return None;
+    }
     let extent = Extent {
-        base: *base,
-        size: *size,
+        base: words[0],
+        size: words[1],
     };
-    Some((extent, later))
+    Some((extent, behind(words, 3)))
 }
 
 /// Appends the extents of so many pairs, or of as many as there are.

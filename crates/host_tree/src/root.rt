@@ -1,6 +1,6 @@
 //! The children of the root, and among them `/reserved-memory`.
 
-ghost use Rattle.std.specs.Prelude.{◌≡◌, ◌≤◌, ◌++◌, ◌∷◌, IfOk, OnOk, List, length};
+ghost use Rattle.std.specs.Prelude.{◌≡◌, ◌≤◌, ◌++◌, ◌∷◌, IfOk, OnOk, List, bytes_eq, codes, length};
 ghost use Rattle.device_tree.specs.Pieces.{Part, ends, parts_of};
 ghost use Rattle.device_tree.specs.Nodes.{BeginsNoNode, Nodes, parts_of_nodes};
 ghost use Rattle.board_ranges.specs.declared.kinds.Place.TheVariants.{BelowRoot};
@@ -21,6 +21,13 @@ use board_ranges::{Cells, Head, Place, Way, after_end, head_of, inner_of};
 use device_tree::PlacedPiece;
 use std::alloc::Global;
 use crate::writer::TreeWriter;
+
+/// Whether a node of that name has the ranges that are reserved.
+fn is_parent(name: &[u8]) -> bool
+    ensures { result ≡ bytes_eq name.now (codes "reserved-memory") }
+{
+    name == b"reserved-memory".as_slice()
+}
 
 /// Writes a child of the root but for its end, and answers the pieces from there on.
 fn put_child<'a>(
@@ -74,7 +81,7 @@ pub(crate) fn put_children<'a>(
             Ok(behind) => behind,
             Err(fault) => return Err(fault),
         };
-        if head.name == b"reserved-memory".as_slice() {
+        if is_parent(head.name) {
             put_last(alloc, share, behind, cells, ranges, writer)?;
             return Ok(());
         }

@@ -7,5 +7,5 @@ use Rattle.host_tree.specs.Written.{setting}
 use Rattle.host_tree.proofs.Adding.{adds_both, begin_is, property_is}
 use Rattle.host_tree.proofs.reserved.put_compatible.Goals as goal
 
-pub returns-in-Pool : goal.returns-in-Pool
-returns-in-Pool c = property_is _ _ _ (codes "compatible") _ (codes "pmpmon,pool" ++ 0 ∷ []) c.as_slice.ensures c.as_slice-2.ensures c.in_ok-put_property.ensures
+pub returns-in_ok-put_property-in-Pool : goal.returns-in_ok-put_property-in-Pool
+returns-in_ok-put_property-in-Pool c = property_is _ _ _ (codes "compatible") _ (codes "pmpmon,pool" ++ 0 ∷ []) c.as_slice.ensures c.as_slice-2.ensures c.in_ok-put_property.ensures
