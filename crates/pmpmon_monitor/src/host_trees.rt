@@ -1,10 +1,9 @@
 //! What firmware does with the device tree of a board before its host begins.
 
-ghost use Rattle.std.specs.Prelude.{◌≡◌, ◌++◌, List, ℕ, ℤ, pos};
-ghost use Rattle.board_ranges.specs.declared.rows.Extent.{Extent};
+ghost use Rattle.std.specs.Prelude.{◌≡◌, ◌↔◌, ◌++◌, IsTrue, List, ℕ, pos};
 ghost use Rattle.host_tree.specs.HostTrees.{IsHosts};
 ghost use Rattle.host_tree.specs.Platforms.{IsFound, portion_in, reserved_in};
-ghost use Rattle.pmpmon_monitor.specs.Codes.{IsCode, range};
+ghost use Rattle.pmpmon_monitor.specs.Codes.{IsCode, IsMemory, range};
 
 use board_ranges::{BoardReason, Extent, RowFault};
 use device_tree::TreeReason;
@@ -20,7 +19,9 @@ const NO_ROOM: i64 = 2;
 const NO_MEMORY: i64 = 3;
 
 /// Whether memory was refused.
-fn is_memory(fault: HostTreeFault) -> bool {
+fn is_memory(fault: HostTreeFault) -> bool
+    ensures { IsTrue result ↔ IsMemory fault }
+{
     match fault {
         HostTreeFault::NotRead(fault) => fault.reason == TreeReason::Memory,
         HostTreeFault::NotMade(MakeFault::NotUnderstood(reason)) => {
@@ -33,7 +34,9 @@ fn is_memory(fault: HostTreeFault) -> bool {
 
 /// The number of a fault.
 fn code_of(fault: HostTreeFault) -> i64
-    ensures { IsCode result }
+    ensures memory { IsMemory fault → result ≡ pos 3 }
+    ensures other { (IsMemory fault → ⊥) → result ≡ pos 1 }
+    ensures code { IsCode result }
 {
     if is_memory(fault) {
         return NO_MEMORY;
