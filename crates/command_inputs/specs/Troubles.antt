@@ -11,6 +11,8 @@ use Rattle.platforms.specs.declared.boot_fault.BootFault.{BootFault}
 use Rattle.platforms.specs.declared.boot_fault.BootFault.TheVariants as boots
 use Rattle.byte_streams.specs.declared.fault.SourceFault.{SourceFault}
 use Rattle.byte_streams.specs.declared.fault.SourceFault.TheVariants as whole
+use Rattle.lint_texts.specs.declared.lint_fault.LintFault.{LintFault}
+use Rattle.lint_texts.specs.declared.lint_fault.LintFault.TheVariants as lints
 use Rattle.command_inputs.specs.declared.trouble.Trouble.{Trouble}
 use Rattle.command_inputs.specs.declared.trouble.Trouble.TheVariants.{NotUnderstood, TooManyRanges}
 use Rattle.command_inputs.specs.declared.trouble.Trouble.TheVariants.{TooLarge, NotAPlatform}
@@ -60,6 +62,11 @@ abbrev pub source_trouble : Bor (List ℕ) → SourceFault → Trouble
 source_trouble file whole.TooLarge = TooLarge file
 source_trouble file whole.Read = CannotRead file
 source_trouble file whole.Memory = Memory
+
+-- a fault of a lint, which writes to standard output
+abbrev pub lint_trouble : LintFault → Trouble
+lint_trouble lints.Memory = Memory
+lint_trouble lints.Device = Output
 
 -- a fault of a map file
 abbrev pub map_trouble : Bor (List ℕ) → MapFileFault → Trouble

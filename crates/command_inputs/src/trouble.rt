@@ -8,6 +8,7 @@ ghost use Rattle.command_inputs.specs.Troubles.{boot_trouble, file_text, joined,
 use crate::names::write_shown;
 use byte_streams::{DeviceFault, Sink, SourceFault, write_whole};
 use itoa::Buffer;
+use lint_texts::LintFault;
 use map_text::MapFileFault;
 use platform_file::TextFault;
 use platforms::BootFault;
@@ -73,6 +74,32 @@ impl From<AllocError> for Trouble<'_> {
 
     fn from(_error: AllocError) -> Self {
         Trouble::Memory
+    }
+}
+
+/// A device that failed is standard output: what reads and writes files has their names, and says their own troubles.
+impl From<DeviceFault> for Trouble<'_> {
+    ghost use Rattle.std.specs.Prelude.{◌≡◌};
+    ghost use Rattle.command_inputs.specs.declared.trouble.Trouble.TheVariants.{Output};
+
+    ghost from_gives = { λ error trouble. trouble ≡ Output };
+
+    fn from(_error: DeviceFault) -> Self {
+        Trouble::Output
+    }
+}
+
+impl From<LintFault> for Trouble<'_> {
+    ghost use Rattle.std.specs.Prelude.{◌≡◌};
+    ghost use Rattle.command_inputs.specs.Troubles.{lint_trouble};
+
+    ghost from_gives = { λ fault trouble. trouble ≡ lint_trouble fault };
+
+    fn from(fault: LintFault) -> Self {
+        match fault {
+            LintFault::Memory => Trouble::Memory,
+            LintFault::Device => Trouble::Output,
+        }
     }
 }
 

@@ -1,6 +1,7 @@
 -- How runs over lines and plans end.
 use Rattle.std.proofs.Common.{ℕ, ◌-◌, ◌≡◌, ◌≤◌, ◌⊎◌, inl, inr, List, Option, Some, None, Result, Ok, Err, IfErr, arith, refl}
 use Rattle.std.specs.Borrow.{Bor}
+use Rattle.std.specs.Result.{MatchResult}
 use Rattle.text_lines.specs.declared.fault.RunFault.{RunFault}
 use Rattle.text_lines.specs.declared.fault.RunFault.TheVariants as runs
 use Rattle.text_lines.specs.LineLoop.{Meaning, StopsAt, StopsForMemory, StopsReading, StopsTooLong, StopsWriting}
@@ -29,6 +30,18 @@ stops does refuses starves old new before after held holds runs.TooLong line lon
 stops does refuses starves old new before after held holds runs.Read line long read write memory = read refl
 stops does refuses starves old new before after held holds runs.Write line long read write memory = write refl
 stops does refuses starves old new before after held holds runs.Memory line long read write memory = memory refl
+
+-- a run whose fault is told as a trouble ended well where there is none, and otherwise with the fault
+pub went_well : {X : Type 0} (x : X) (end : Result X RunFault)
+    → MatchResult end (λ (y : X). ◌≡◌ {A = Result X Trouble} (Ok x) (Ok y)) (λ fault. ⊥) → end ≡ Ok x
+went_well x (Ok y) told = cc (told)
+went_well x (Err fault) told = absurd told
+
+pub went_wrong : {X : Type 0} (trouble : Trouble) (IsTold : RunFault → Type 0) (end : Result X RunFault)
+    → MatchResult end (λ (y : X). ◌≡◌ {A = Result X Trouble} (Err trouble) (Ok y)) IsTold
+    → (fault : RunFault) × (end ≡ Err fault) × IsTold fault
+went_wrong trouble IsTold (Ok y) told = cc (told)
+went_wrong trouble IsTold (Err fault) told = (fault, refl, told)
 
 -- no plan, where there is none within the bound
 pub unplanned :

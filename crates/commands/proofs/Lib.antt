@@ -1,4 +1,5 @@
 pub mod Ends
+pub mod LintEnds
 pub mod Names
 pub mod Judgements
 pub mod FarPages

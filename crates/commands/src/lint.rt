@@ -10,7 +10,7 @@ use command_inputs::{
     MAP_BYTES, REGISTER_BYTES, ShownName, Trouble, answer_status, bytes_in, write_shown,
 };
 use file_lints::lint_platform;
-use map_lint::{LintFault, lint};
+use map_lint::lint;
 use pmp_encoding::Xlen;
 use register_text::{is_listing, listing_of};
 use std::alloc::Global;
@@ -35,11 +35,8 @@ pub fn lint_map<W: Sink>(
         (writing W.contents W.failures W.stalls out.old out.new) result }
 {
     let name = ShownName::of(alloc, name)?;
-    match lint(alloc, name.text(), bytes, out) {
-        Ok(is_map) => Ok(answer_status(is_map)),
-        Err(LintFault::Memory) => Err(Trouble::Memory),
-        Err(LintFault::Device) => Err(Trouble::Output),
-    }
+    let is_map = lint(alloc, name.text(), bytes, out)?;
+    Ok(answer_status(is_map))
 }
 
 /// Prints what is wrong with the bytes of a platform file, or warnings of a platform. The status is 0 where they are a platform,
@@ -54,11 +51,8 @@ pub fn lint_as_platform<W: Sink>(
         (writing W.contents W.failures W.stalls out.old out.new) result }
 {
     let name = ShownName::of(alloc, name)?;
-    match lint_platform(alloc, name.text(), bytes, out) {
-        Ok(is_platform) => Ok(answer_status(is_platform)),
-        Err(LintFault::Memory) => Err(Trouble::Memory),
-        Err(LintFault::Device) => Err(Trouble::Output),
-    }
+    let is_platform = lint_platform(alloc, name.text(), bytes, out)?;
+    Ok(answer_status(is_platform))
 }
 
 /// Prints what is wrong with a platform file, whose name ends in `.toml`, or else with a map file. The status is 0 where the
@@ -154,10 +148,8 @@ pub fn lint_listing<W: Sink>(
         Ok(_) => Ok(answer_status(true)),
         Err(line) => {
             let others = is_listing(other_width(xlen), bytes);
-            match print_listing_fault(xlen, name, others, line, out) {
-                Ok(()) => Ok(answer_status(false)),
-                Err(DeviceFault) => Err(Trouble::Output),
-            }
+            print_listing_fault(xlen, name, others, line, out)?;
+            Ok(answer_status(false))
         }
     }
 }

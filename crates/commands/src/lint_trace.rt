@@ -8,7 +8,7 @@ ghost use Rattle.commands.specs.Traces.{HasHarts, HasNoHarts, IsTraceLint, Lints
 
 use byte_streams::{Sink, Source};
 use command_inputs::{ShownName, Trouble, answer_status, bytes_in, read_platform};
-use file_lints::{LintFault, Taker, lint_trace};
+use file_lints::{Taker, lint_trace};
 use std::alloc::Global;
 
 /// How many bytes a trace may have that is linted.
@@ -45,11 +45,8 @@ pub fn lint_as_trace<W: Sink>(
         (writing W.contents W.failures W.stalls out.old out.new) result }
 {
     let name = ShownName::of(alloc, name)?;
-    match lint_trace(alloc, name.text(), bytes, taker, out) {
-        Ok(is_trace) => Ok(answer_status(is_trace)),
-        Err(LintFault::Memory) => Err(Trouble::Memory),
-        Err(LintFault::Device) => Err(Trouble::Output),
-    }
+    let is_trace = lint_trace(alloc, name.text(), bytes, taker, out)?;
+    Ok(answer_status(is_trace))
 }
 
 /// Prints what is wrong with a trace, line by line, for the harts of a platform where one is named. The status is 0 where it is

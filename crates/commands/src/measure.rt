@@ -6,7 +6,7 @@ ghost use Rattle.byte_streams.specs.Writings.{writing};
 ghost use Rattle.command_inputs.specs.Inputs.{reading};
 ghost use Rattle.commands.specs.Measure.{digest_text, enclave_digest, page_of, word_text, Measures};
 
-use byte_streams::{DeviceFault, Sink, Source, write_whole};
+use byte_streams::{Sink, Source, write_whole};
 use command_inputs::{Trouble, bytes_in};
 use measurement::{Layout, Measure, word};
 use printed_lines::digest_text;
@@ -118,8 +118,6 @@ pub fn do_measure<'a, R: Source, W: Sink>(
     let Ok(text) = lines_of(alloc, &layout, bytes.as_slice()) else {
         return Err(Trouble::Memory);
     };
-    match write_whole(out, text.as_slice()) {
-        Ok(()) => Ok(0),
-        Err(DeviceFault) => Err(Trouble::Output),
-    }
+    write_whole(out, text.as_slice())?;
+    Ok(0)
 }

@@ -9,7 +9,7 @@ ghost use Rattle.commands.specs.Answered.{said};
 ghost use Rattle.monitor_cli.specs.Runs.{Runs, RunsExpecting, RunsExplaining, RunsTrace, RunsTraceAs};
 
 use crate::measurements::{boot_machine, measure_where};
-use byte_streams::{DeviceFault, Sink, Source};
+use byte_streams::{Sink, Source};
 use command_inputs::{Trouble, read_platform};
 use commands::{Answered, compared, quiet, tell_first};
 use explained_runs::{Ran, explain_run, print_summary};
@@ -32,14 +32,9 @@ fn run_plainly<'a, R: Source, W: Sink>(
         (reading R.remaining R.failures second.old second.new)
         (writing W.contents W.failures W.stalls out.old out.new) result }
 {
-    match run(machine, second, out) {
-        Ok(()) => {}
-        Err(fault) => return Err(Trouble::of_run(trace, fault)),
-    }
-    match measure_where(machine, measure, out) {
-        Ok(()) => Ok(0),
-        Err(DeviceFault) => Err(Trouble::Output),
-    }
+    run(machine, second, out).map_err(|fault| Trouble::of_run(trace, fault))?;
+    measure_where(machine, measure, out)?;
+    Ok(0)
 }
 
 /// Runs a trace on a machine, says after each answer what happened, prints the measurements where they are asked for, and last
@@ -62,18 +57,10 @@ fn run_explaining<'a, R: Source, W: Sink>(
         tally,
         end,
     } = explain_run(machine, second, out);
-    match end {
-        Ok(()) => {}
-        Err(fault) => return Err(Trouble::of_run(trace, fault)),
-    }
-    match measure_where(&machine, measure, out) {
-        Ok(()) => {}
-        Err(DeviceFault) => return Err(Trouble::Output),
-    }
-    match print_summary(&tally, &machine, out) {
-        Ok(()) => Ok(0),
-        Err(DeviceFault) => Err(Trouble::Output),
-    }
+    end.map_err(|fault| Trouble::of_run(trace, fault))?;
+    measure_where(&machine, measure, out)?;
+    print_summary(&tally, &machine, out)?;
+    Ok(0)
 }
 
 /// Runs a trace on a machine, compares its answers, and prints the measurements where they are asked for.
@@ -96,18 +83,10 @@ fn run_expecting<'a, R: Source, W: Sink>(
         note,
         end,
     } = compare_lines(machine, second, out);
-    match end {
-        Ok(()) => {}
-        Err(fault) => return Err(Trouble::of_run(trace, fault)),
-    }
-    match measure_where(&lines, measure, out) {
-        Ok(()) => {}
-        Err(DeviceFault) => return Err(Trouble::Output),
-    }
-    match tell_first(&first, out) {
-        Ok(status) => Ok(compared(status, &note)),
-        Err(DeviceFault) => Err(Trouble::Output),
-    }
+    end.map_err(|fault| Trouble::of_run(trace, fault))?;
+    measure_where(&lines, measure, out)?;
+    let status = tell_first(&first, out)?;
+    Ok(compared(status, &note))
 }
 
 /// Runs a trace on a machine, and writes of the answers what is asked for.

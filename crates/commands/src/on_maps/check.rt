@@ -8,7 +8,7 @@ ghost use Rattle.command_inputs.specs.Inputs.{reading, HasBytes, HasNoBytes};
 ghost use Rattle.permission_map.specs.Runs.{view_of_runs};
 
 use crate::on_maps::verdicts::verdict;
-use byte_streams::{DeviceFault, Sink, Source, write_whole};
+use byte_streams::{Sink, Source, write_whole};
 use certificate_check::{CheckRefusal, check_source};
 use certificate_format::Header;
 use command_inputs::{CERTIFICATE_BYTES, Trouble, map_in};
@@ -51,8 +51,6 @@ pub fn do_check<'a, R: Source, W: Sink>(
     let map = map_in(alloc, map, first)?;
     let found = found_in(alloc, cert, &map, second)?;
     let (line, status) = verdict(&found);
-    match write_whole(out, line.as_slice()) {
-        Ok(()) => Ok(status),
-        Err(DeviceFault) => Err(Trouble::Output),
-    }
+    write_whole(out, line.as_slice())?;
+    Ok(status)
 }

@@ -13,7 +13,7 @@ use crate::answered::{Answered, noted, notes_of};
 use crate::certified_plan::bank_in;
 use crate::expected::tell_first;
 use arrayvec::ArrayVec;
-use byte_streams::{DeviceFault, Sink, Source, write_whole};
+use byte_streams::{Sink, Source, write_whole};
 use command_inputs::{REGISTER_BYTES, Trouble, bytes_in, map_in};
 use hart_trace::{AccessJudge, judge_lines};
 use pmp_encoding::{Limit, Xlen};
@@ -36,10 +36,8 @@ fn judge_plainly<'a, J: AccessJudge, R: Source, W: Sink>(
         (reading R.remaining R.failures second.old second.new)
         (writing W.contents W.failures W.stalls out.old out.new) result }
 {
-    match judge_lines(by, second, out) {
-        Ok(()) => Ok(0),
-        Err(fault) => Err(Trouble::of_run(trace, fault)),
-    }
+    judge_lines(by, second, out).map_err(|fault| Trouble::of_run(trace, fault))?;
+    Ok(0)
 }
 
 /// Judges a trace, and says after each answer which entry decided it.
@@ -56,10 +54,8 @@ fn judge_explaining<'a, J: AccessJudge, D: Deciders, R: Source, W: Sink>(
         trace.entry (reading R.remaining R.failures second.old second.new)
         (writing W.contents W.failures W.stalls out.old out.new) result }
 {
-    match explain_judged(by, deciders, second, out) {
-        Ok(()) => Ok(0),
-        Err(fault) => Err(Trouble::of_run(trace, fault)),
-    }
+    explain_judged(by, deciders, second, out).map_err(|fault| Trouble::of_run(trace, fault))?;
+    Ok(0)
 }
 
 /// Judges a trace, and compares the answers with those that its comments say.
@@ -81,17 +77,10 @@ fn judge_expecting<'a, J: AccessJudge, R: Source, W: Sink>(
         end,
         ..
     } = compare_judged(by, second, out);
-    match end {
-        Ok(()) => {}
-        Err(fault) => return Err(Trouble::of_run(trace, fault)),
-    }
-    match tell_first(&first, out) {
-        Ok(status) => Ok(Answered {
-            status,
-            notes: notes_of(notes, &note),
-        }),
-        Err(DeviceFault) => Err(Trouble::Output),
-    }
+    end.map_err(|fault| Trouble::of_run(trace, fault))?;
+    let status = tell_first(&first, out)?;
+    let notes = notes_of(notes, &note);
+    Ok(Answered { status, notes })
 }
 
 /// Judges a trace, and writes of the answers what is asked for; beside the status comes what is said of the listing.
@@ -178,10 +167,10 @@ fn do_judge_registers<'a, R: Source, W: Sink>(
     };
     match ruled {
         Ruled::Rules(rules) => judge_by(&rules, &rules, answers, &notes, trace, second, out),
-        Ruled::Refused(line) => match write_whole(out, line.as_slice()) {
-            Ok(()) => noted(&notes, Ok(1)),
-            Err(DeviceFault) => Err(Trouble::Output),
-        },
+        Ruled::Refused(line) => {
+            write_whole(out, line.as_slice())?;
+            noted(&notes, Ok(1))
+        }
     }
 }
 

@@ -109,8 +109,6 @@ pub fn do_plan<'a, R: Source, M, C: CertificateSink<M>, W: Sink>(
     let map = map_in(alloc, file, source)?;
     let most = most_entries(limit, first, at_most, format);
     let plan = plan_and_certify::<M, C>(alloc, file, &map, xlen, limit, most, cert, certificate)?;
-    match print_as(format, file, name, xlen, plan.entries(), first, limit, out) {
-        Ok(()) => Ok(0),
-        Err(DeviceFault) => Err(Trouble::Output),
-    }
+    print_as(format, file, name, xlen, plan.entries(), first, limit, out)?;
+    Ok(0)
 }

@@ -8,7 +8,7 @@ ghost use Rattle.commands.specs.Show.{IsShown, IsText, Shows, ShowsAs, ShowsRegi
 
 use crate::certified_plan::planned_near;
 use crate::listing_trouble::listing_trouble;
-use byte_streams::{DeviceFault, Sink, Source, write_whole};
+use byte_streams::{Sink, Source, write_whole};
 use command_inputs::{MAP_BYTES, REGISTER_BYTES, Trouble, answer_status, bytes_in, map_by};
 use map_lint::push_line_costs;
 use map_table::{json_table, picture, table_of};
@@ -112,10 +112,8 @@ fn do_show<'a, R: Source, W: Sink>(
         plan.entries(),
         limit,
     )?;
-    match write_whole(out, text.as_slice()) {
-        Ok(()) => Ok(0),
-        Err(DeviceFault) => Err(Trouble::Output),
-    }
+    write_whole(out, text.as_slice())?;
+    Ok(0)
 }
 
 /// Prints what registers give a mode as such a table, and answers the status 0, or 1 where they mean nothing.

@@ -1,6 +1,8 @@
 use Rattle.std.proofs.Common.{Err, ap, refl}
 use Rattle.std.proofs.lemmas.Result.{err_from_is_err_and}
+use Rattle.commands.specs.Lint.{IsPlatformLint}
 use Rattle.commands.specs.Lint as lints
+use Rattle.commands.proofs.LintEnds.{no_answer}
 use Rattle.commands.proofs.lint.lint_as_platform.Goals as goal
 
 pub returns-in_err-name : goal.returns-in_err-name
@@ -8,17 +10,17 @@ returns-in_err-name g c =
     let p = err_from_is_err_and c.from_residual.result c.from_residual.ensures.1 in
     rw (p.1, p.2) (lints.Tells.no_memory refl)
 
-pub returns-in-Ok : goal.returns-in-Ok
-returns-in-Ok g c =
-    let w = c.in-Ok.ensures.written in
+pub returns-in_err-is_platform : goal.returns-in_err-is_platform
+returns-in_err-is_platform g c =
+    let p = err_from_is_err_and c.from_residual-in_err-is_platform.result c.from_residual-in_err-is_platform.ensures.1 in
+    let e = c.in_err-is_platform.ensures in
     let named = rw c.in_ok-name.ensures at c.text.ensures in
-    rw c.answer_status.ensures (lints.Tells.whole c.in-Ok.is_platform w.0 (c.text.result.now, named, w.1) w.2)
-
-pub returns-in-Err-Memory : goal.returns-in-Err-Memory
-returns-in-Err-Memory g c = lints.Tells.no_memory (c.in-Err-Memory.ensures.untouched (ap (λ f. Err f) c.in-Err-Memory.field-0-is))
+    rw p.1
+    (no_answer (IsPlatformLint c.args.name.now c.args.bytes.now) _ _ p.0 p.2 (λ is. e.untouched (ap (λ f. Err f) is))
+    (λ is. let w = e.broken (ap (λ f. Err f) is) in (w.0, w.1, (c.text.result.now, named, w.2), w.3)))
 
 pub returns : goal.returns
 returns g c =
-    let w = c.in-Err-Device.ensures.broken (ap (λ f. Err f) c.in-Err-Device.field-0-is) in
+    let w = c.in_ok-is_platform.ensures.written in
     let named = rw c.in_ok-name.ensures at c.text.ensures in
-    lints.Tells.no_output w.0 w.1 (c.text.result.now, named, w.2) w.3
+    rw c.answer_status.ensures (lints.Tells.whole c.in_ok-is_platform.is_platform w.0 (c.text.result.now, named, w.1) w.2)

@@ -7,6 +7,7 @@ use Rattle.file_lints.specs.declared.taker.Taker.{Taker}
 use Rattle.file_lints.specs.TraceLints.{IsLintText, is_trace}
 use Rattle.commands.specs.Lint as lints
 use Rattle.commands.specs.Traces.{IsTraceLint}
+use Rattle.commands.proofs.LintEnds.{no_answer}
 use Rattle.commands.proofs.lint_trace.lint_as_trace.Goals as goal
 
 -- what was written, by the answer
@@ -26,21 +27,21 @@ returns-in_err-name g c =
     let p = err_from_is_err_and c.from_residual.result c.from_residual.ensures.1 in
     rw (p.1, p.2) (lints.Tells.no_memory refl)
 
-pub returns-in-Ok : goal.returns-in-Ok
-returns-in-Ok g c =
-    let said = c.in-Ok.ensures in
+pub returns-in_err-is_trace : goal.returns-in_err-is_trace
+returns-in_err-is_trace g c =
+    let p = err_from_is_err_and c.from_residual-in_err-is_trace.result c.from_residual-in_err-is_trace.ensures.1 in
+    let e = c.in_err-is_trace.ensures in
     let named = rw c.in_ok-name.ensures at c.text.ensures in
-    let w =
-    text g.W.Sink.contents g.W.Sink.failures g.W.Sink.stalls c.args.out.now c.lint_trace.new.out c.args.name.now c.text.result.now c.args.bytes.now c.args.taker
-    c.in-Ok.is_trace named
-    said.trace (λ e. said.silent (ap (λ t. Ok t) e)) (λ e. said.written (ap (λ t. Ok t) e)) in
-    rw c.answer_status.ensures (lints.Tells.whole c.in-Ok.is_trace w.0 w.1 w.2)
-
-pub returns-in-Err-Memory : goal.returns-in-Err-Memory
-returns-in-Err-Memory g c = lints.Tells.no_memory (c.in-Err-Memory.ensures.untouched (ap (λ f. Err f) c.in-Err-Memory.field-0-is))
+    rw p.1
+    (no_answer (IsTraceLint c.args.name.now c.args.taker c.args.bytes.now) _ _ p.0 p.2 (λ is. e.untouched (ap (λ f. Err f) is))
+    (λ is. let w = e.broken (ap (λ f. Err f) is) in (false, w.1, (w.0, (c.text.result.now, named, w.2)), w.3)))
 
 pub returns : goal.returns
 returns g c =
-    let w = c.in-Err-Device.ensures.broken (ap (λ f. Err f) c.in-Err-Device.field-0-is) in
+    let said = c.in_ok-is_trace.ensures in
     let named = rw c.in_ok-name.ensures at c.text.ensures in
-    lints.Tells.no_output false w.1 (w.0, (c.text.result.now, named, w.2)) w.3
+    let w =
+    text g.W.Sink.contents g.W.Sink.failures g.W.Sink.stalls c.args.out.now c.lint_trace.new.out c.args.name.now c.text.result.now c.args.bytes.now c.args.taker
+    c.in_ok-is_trace.is_trace named
+    said.trace (λ e. said.silent (ap (λ t. Ok t) e)) (λ e. said.written (ap (λ t. Ok t) e)) in
+    rw c.answer_status.ensures (lints.Tells.whole c.in_ok-is_trace.is_trace w.0 w.1 w.2)

@@ -22,14 +22,16 @@ returns-in_err-bytes g c =
 pub returns-in_default : goal.returns-in_default
 returns-in_default g c = measures.Measures.no_memory _ c.in_ok-bytes.ensures.whole refl
 
-pub returns-in-Ok-write_whole : goal.returns-in-Ok-write_whole
-returns-in-Ok-write_whole g c =
+pub returns-in_err-write_whole : goal.returns-in_err-write_whole
+returns-in_err-write_whole g c =
+    let p = err_from_is_err_and c.from_residual-in_err-write_whole.result c.from_residual-in_err-write_whole.ensures.1 in
     let text : c.in-Ok.text.items ≡ digest_text (enclave_digest c.args.layout c.in_ok-bytes.bytes.items) =
     c.in-Ok.ensures ∙ ap (λ b. digest_text (enclave_digest c.args.layout b)) c.as_slice.ensures.value in
-    measures.Measures.told _ c.in_ok-bytes.ensures.whole (takes_same _ _ _ (c.as_slice-2.ensures.value ∙ text) c.in-Ok-write_whole.ensures)
+    rw (p.1, p.2)
+    (measures.Measures.no_output _ c.in_ok-bytes.ensures.whole (breaks_same _ _ _ (c.as_slice-2.ensures.value ∙ text) c.in_err-write_whole.ensures))
 
 pub returns : goal.returns
 returns g c =
     let text : c.in-Ok.text.items ≡ digest_text (enclave_digest c.args.layout c.in_ok-bytes.bytes.items) =
     c.in-Ok.ensures ∙ ap (λ b. digest_text (enclave_digest c.args.layout b)) c.as_slice.ensures.value in
-    measures.Measures.no_output _ c.in_ok-bytes.ensures.whole (breaks_same _ _ _ (c.as_slice-2.ensures.value ∙ text) c.in-Err.ensures)
+    measures.Measures.told _ c.in_ok-bytes.ensures.whole (takes_same _ _ _ (c.as_slice-2.ensures.value ∙ text) c.in_ok-write_whole.ensures)

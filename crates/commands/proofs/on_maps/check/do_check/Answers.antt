@@ -15,16 +15,17 @@ returns-in_err-found g c =
     let p = err_from_is_err_and c.from_residual-in_err-found.result c.from_residual-in_err-found.ensures.1 in
     rw (p.1, p.2) (checks.Checks.no_certificate _ _ c.in_ok-map.ensures.made c.in_err-found.ensures.refused refl)
 
-pub returns-in-Ok : goal.returns-in-Ok
-returns-in-Ok g c =
+pub returns-in_err-write_whole : goal.returns-in_err-write_whole
+returns-in_err-write_whole g c =
+    let p = err_from_is_err_and c.from_residual-in_err-write_whole.result c.from_residual-in_err-write_whole.ensures.1 in
     let found = c.in_ok-found.ensures.whole in
     let verdict = c.verdict-line.ensures.verdict (view_of_runs c.in_ok-map.map) found.0 found.2 in
-    let taken = rw c.as_slice.ensures.value at c.in-Ok.ensures in
-    checked _ _ _ _ c.in_ok-map.ensures.made found.1 verdict taken
+    let broken = rw c.as_slice.ensures.value at c.in_err-write_whole.ensures in
+    rw (p.1, p.2) (checks.Checks.no_output _ _ _ _ c.in_ok-map.ensures.made found.1 verdict broken)
 
 pub returns : goal.returns
 returns g c =
     let found = c.in_ok-found.ensures.whole in
     let verdict = c.verdict-line.ensures.verdict (view_of_runs c.in_ok-map.map) found.0 found.2 in
-    let broken = rw c.as_slice.ensures.value at c.in-Err.ensures in
-    checks.Checks.no_output _ _ _ _ c.in_ok-map.ensures.made found.1 verdict broken
+    let taken = rw c.as_slice.ensures.value at c.in_ok-write_whole.ensures in
+    checked _ _ _ _ c.in_ok-map.ensures.made found.1 verdict taken

@@ -18,14 +18,15 @@ returns-in-Rules g c =
     let rules = rw (c.as_slice.ensures.value, c.in-Rules.is) at c.in-Ok.ensures.ruled in
     judges.JudgesByRegisters.ruled _ _ c.in-Rules.rules _ c.in_ok-listing.ensures.whole rules c.judge_by.ensures
 
-pub returns-in-Ok-write_whole : goal.returns-in-Ok-write_whole
-returns-in-Ok-write_whole g c =
+pub returns-in_err-write_whole-in-Refused : goal.returns-in_err-write_whole-in-Refused
+returns-in_err-write_whole-in-Refused g c =
+    let p = err_from_is_err_and c.from_residual-in_err-write_whole-in-Refused.result c.from_residual-in_err-write_whole-in-Refused.ensures.1 in
     let refused = rw (c.as_slice.ensures.value, c.in-Refused.is) at c.in-Ok.ensures.ruled in
-    let taken = rw c.as_slice-in-Refused.ensures.value at c.in-Ok-write_whole.ensures in
-    rw c.noted.ensures (judges.JudgesByRegisters.refused _ _ _ c.in_ok-listing.ensures.whole refused refl taken)
+    let broken = rw c.as_slice-in-Refused.ensures.value at c.in_err-write_whole-in-Refused.ensures in
+    rw (p.1, p.2) (judges.JudgesByRegisters.no_output _ _ _ c.in_ok-listing.ensures.whole refused refl broken)
 
 pub returns : goal.returns
 returns g c =
     let refused = rw (c.as_slice.ensures.value, c.in-Refused.is) at c.in-Ok.ensures.ruled in
-    let broken = rw c.as_slice-in-Refused.ensures.value at c.in-Err-write_whole.ensures in
-    judges.JudgesByRegisters.no_output _ _ _ c.in_ok-listing.ensures.whole refused refl broken
+    let taken = rw c.as_slice-in-Refused.ensures.value at c.in_ok-write_whole-in-Refused.ensures in
+    rw c.noted.ensures (judges.JudgesByRegisters.refused _ _ _ c.in_ok-listing.ensures.whole refused refl taken)

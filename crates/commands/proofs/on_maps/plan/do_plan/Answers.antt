@@ -28,14 +28,16 @@ print_as-requires g c = record {
   small = rw c.entries.ensures c.in_ok-plan.ensures.small;
 }
 
-pub returns-in-Ok : goal.returns-in-Ok
-returns-in-Ok g c =
-    let w = rw c.entries.ensures at c.in-Ok.ensures in
-    planned _ _ w.0 c.in_ok-map.ensures.made (rw c.most_entries-most.ensures at c.in_ok-plan.ensures.planned) c.in_ok-plan.ensures.reached
-    c.in_ok-plan.ensures.certified w.1 w.2
+pub returns-in_err-print_as : goal.returns-in_err-print_as
+returns-in_err-print_as g c =
+    let p = err_from_is_err_and c.from_residual-in_err-print_as.result c.from_residual-in_err-print_as.ensures.1 in
+    let w = rw c.entries.ensures at c.in_err-print_as.ensures in
+    rw (p.1, p.2)
+    (plans.Plans.no_output _ _ w.0 c.in_ok-map.ensures.made (rw c.most_entries-most.ensures at c.in_ok-plan.ensures.planned) c.in_ok-plan.ensures.reached
+    c.in_ok-plan.ensures.certified w.1 w.2)
 
 pub returns : goal.returns
 returns g c =
-    let w = rw c.entries.ensures at c.in-Err.ensures in
-    plans.Plans.no_output _ _ w.0 c.in_ok-map.ensures.made (rw c.most_entries-most.ensures at c.in_ok-plan.ensures.planned) c.in_ok-plan.ensures.reached
+    let w = rw c.entries.ensures at c.in_ok-print_as.ensures in
+    planned _ _ w.0 c.in_ok-map.ensures.made (rw c.most_entries-most.ensures at c.in_ok-plan.ensures.planned) c.in_ok-plan.ensures.reached
     c.in_ok-plan.ensures.certified w.1 w.2

@@ -45,16 +45,18 @@ returns-in_err-text g c =
     let has = map_read _ c.in_ok-bytes.bytes.items _ c.in_ok-bytes.ensures.whole made in
     rw (p.1, p.2) (shows.Shows.no_memory _ has refl)
 
-pub returns-in-Ok : goal.returns-in-Ok
-returns-in-Ok g c =
+pub returns-in_err-write_whole : goal.returns-in_err-write_whole
+returns-in_err-write_whole g c =
+    let p = err_from_is_err_and c.from_residual-in_err-write_whole.result c.from_residual-in_err-write_whole.ensures.1 in
     let made = rw c.as_slice.ensures.value at c.in_ok-map.ensures.made in
     let text = rw (c.entries.ensures ∙ ap (λ (p : Planned). p.entries) c.in_ok-plan.ensures, c.as_slice-2.ensures.value) at c.in_ok-text.ensures in
-    shown _ _ _ _ c.in_ok-bytes.ensures.whole made c.in_ok-packed.ensures.planned c.in_ok-packed.ensures.reached text
-    (rw c.as_slice-3.ensures.value at c.in-Ok.ensures)
+    rw (p.1, p.2)
+    (shows.Shows.no_output _ _ _ _ c.in_ok-bytes.ensures.whole made c.in_ok-packed.ensures.planned c.in_ok-packed.ensures.reached text
+    (rw c.as_slice-3.ensures.value at c.in_err-write_whole.ensures))
 
 pub returns : goal.returns
 returns g c =
     let made = rw c.as_slice.ensures.value at c.in_ok-map.ensures.made in
     let text = rw (c.entries.ensures ∙ ap (λ (p : Planned). p.entries) c.in_ok-plan.ensures, c.as_slice-2.ensures.value) at c.in_ok-text.ensures in
-    shows.Shows.no_output _ _ _ _ c.in_ok-bytes.ensures.whole made c.in_ok-packed.ensures.planned c.in_ok-packed.ensures.reached text
-    (rw c.as_slice-3.ensures.value at c.in-Err.ensures)
+    shown _ _ _ _ c.in_ok-bytes.ensures.whole made c.in_ok-packed.ensures.planned c.in_ok-packed.ensures.reached text
+    (rw c.as_slice-3.ensures.value at c.in_ok-write_whole.ensures)
