@@ -1,5 +1,6 @@
 -- Parts in front of others, and the bytes that are written of them.
-use Rattle.std.proofs.Common.{◌≡◌, ℕ, zero, suc, ◌+◌, ◌*◌, ◌-◌, ◌/◌, ◌^◌, ◌<◌, ◌≤◌, List, [], ◌∷◌, ◌++◌, length, drop, take, replicate, append_assoc, length-append, sym, ap, subst, refl, ◌∙◌, arith}
+use Rattle.std.proofs.Common.{◌≡◌, ℕ, zero, suc, ◌+◌, ◌*◌, ◌-◌, ◌/◌, ◌^◌, ◌<◌, ◌≤◌, List, [], ◌∷◌, ◌++◌, length, drop, take, replicate, append_assoc,
+    length-append, sym, ap, subst, refl, ◌∙◌, arith}
 use Rattle.std.proofs.lemmas.List.{length-replicate}
 use Rattle.device_tree.specs.Pieces.{Part, SpellsPart, SpellsParts, begins, ends, has, part}
 use Rattle.device_tree.specs.Words.{BeginsWith, BeginsWithText, Leaves, padded, word_at}

@@ -1,5 +1,6 @@
 -- Numbers of four and of eight bytes in front of others.
-use Rattle.std.proofs.Common.{◌≡◌, ℕ, zero, suc, ◌+◌, ◌*◌, ◌^◌, ◌<◌, ◌≤◌, List, [], ◌∷◌, ◌++◌, length, drop, take, get_or, append_assoc, length-append, sym, ap, refl, ◌∙◌, arith}
+use Rattle.std.proofs.Common.{◌≡◌, ℕ, zero, suc, ◌+◌, ◌*◌, ◌^◌, ◌<◌, ◌≤◌, List, [], ◌∷◌, ◌++◌, length, drop, take, get_or, append_assoc, length-append,
+    sym, ap, refl, ◌∙◌, arith}
 use Rattle.std.proofs.lemmas.List.{drop-drop, drop-append-le, drop_all, take-append-le, take_all}
 use Rattle.byteorder.specs.Endian.{big_number}
 use Rattle.byteorder.specs.Numbers.{big_number-reads_back, length-bytes_high_first}
@@ -45,7 +46,8 @@ length-words (x ∷ xs) = omega (arith, length-append (word_bytes x) (words_byte
 -- one of some numbers
 pub words_at : (xs : List ℕ) (k : ℕ) (rest : List ℕ) → k < length xs → get_or xs k 0 < 2 ^ 32 → word_at (words_bytes xs ++ rest) (4 * k) ≡ get_or xs k 0
 words_at [] k rest h b = absurd (omega (arith, h))
-words_at (x ∷ xs) zero rest h b = ap (λ (y : List ℕ). big_number 4 y) (append_assoc (word_bytes x) (words_bytes xs) rest) ∙ read-word x (words_bytes xs ++ rest) b
+words_at (x ∷ xs) zero rest h b = ap (λ (y : List ℕ). big_number 4 y) (append_assoc (word_bytes x) (words_bytes xs) rest) ∙ read-word x (words_bytes xs
+    ++ rest) b
 words_at (x ∷ xs) (suc k) rest h b =
     let place : 4 * suc k ≡ 4 + 4 * k = omega arith in
     ap (λ (n : ℕ). big_number 4 (drop n (words_bytes (x ∷ xs) ++ rest))) place

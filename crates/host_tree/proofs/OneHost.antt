@@ -81,7 +81,8 @@ next F host place cells way P R old now reached n s I Q begun is_properties no_p
           let made = was.4 (node n here.1 here.2 more) whole in
           (made.0, made.1,
           made.2 ∙ ap (λ (z : Nodes). was.2 ++ parts_of_nodes z) (goes_on here.1 here.2 more)
-          ∙ ap (λ (z : List Part). was.2 ++ z) (sym (node_parts n here.1 here.2 (F more)) ∙ sym (append_assoc begun_parts (ends ∷ []) (parts_of_nodes (F more))))
+          ∙ ap (λ (z : List Part). was.2 ++ z) (sym (node_parts n here.1 here.2 (F more)) ∙ sym (append_assoc begun_parts (ends ∷ []) (parts_of_nodes (F
+              more))))
           ∙ sym (append_assoc was.2 (begun_parts ++ (ends ∷ [])) (parts_of_nodes (F more)))),
     )
 

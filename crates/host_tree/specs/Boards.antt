@@ -15,6 +15,7 @@ is_kind Device hart = false
 is_kind Machine hart = false
 is_kind Reserved hart = false
 
+-- the extent of a range, if it is of that kind
 abbrev pub one_extent : Bool → Kind → Extent → List Extent
 one_extent hart kind extent = cond (is_kind kind hart) (extent ∷ []) []
 

@@ -37,8 +37,8 @@ node_settings host place way rows own = host_settings (has_type (codes "cpu") (m
 pub data HostNodes (host : Portion) : Place → Cells → Path → Nodes → Nodes → Type 0 where
   nothing : {place : Place} {cells : Cells} {way : Path}
       → HostNodes host place cells way no_nodes no_nodes
-  a_node : {place : Place} {cells : Cells} {way : Path} {name : List ℕ} {properties : List Setting}
-      {children later inside behind : Nodes} (rows : List Extent) (inner : Cells)
+  a_node : {place : Place} {cells : Cells} {way : Path} {name : List ℕ}
+      {properties : List Setting} {children later inside behind : Nodes} (rows : List Extent) (inner : Cells)
       (found : Option Path)
       → AreRegisters (live_kind place (map has properties))
       (value_in (codes "reg") (map has properties)) cells rows

@@ -13,6 +13,7 @@ use Rattle.host_tree.specs.declared.share.Share.{Share}
 use Rattle.host_tree.specs.HostNodes.{HostNodes, Portion}
 use Rattle.host_tree.specs.Ranges.{AllFit, with_ranges}
 
+-- what a host has, as the program says it
 abbrev pub portion_of : Share → Portion
 portion_of share = record { harts = share.harts; ranges = share.ranges.now }
 

@@ -22,6 +22,7 @@ hex_text zero value = []
 hex_text (suc more) value = cond (ltb value 16) (hex_digit value ∷ [])
     (hex_text more (value / 16) ++ hex_digit (value % 16) ∷ [])
 
+-- what a node of a range is named by, before its address
 abbrev pub purpose_name : Purpose → List ℕ
 purpose_name Monitor = codes "monitor"
 purpose_name Pool = codes "enclaves"
@@ -45,6 +46,7 @@ pub record Fits (cells : Cells) (extent : Extent) : Type 0 where
   pub address : extent.base < 256 ^ (4 * cells.address)
   pub size : extent.size < 256 ^ (4 * cells.size)
 
+-- address and size of each range fit into the cells
 abbrev pub AllFit : Cells → List Reserved → Type 0
 AllFit cells [] = ⊤
 AllFit cells (first ∷ later) = Fits cells first.extent × AllFit cells later
@@ -54,6 +56,7 @@ abbrev pub range_settings : Cells → Reserved → List Setting
 range_settings cells one = compatible_of one.purpose
     ++ (setting (codes "reg") (reg_bytes cells one.extent) ∷ setting (codes "no-map") [] ∷ [])
 
+-- the nodes of ranges, in their order
 abbrev pub range_nodes : Cells → List Reserved → Nodes
 range_nodes cells [] = no_nodes
 range_nodes cells (first ∷ later) = node (range_name first) (range_settings cells first) no_nodes

@@ -23,6 +23,7 @@ abbrev pub left_setting : Bool → Bool → Setting → List Setting
 left_setting hart closed one = cond (closed && bytes_eq one.name (codes "status")) []
     (setting one.name (host_value hart one.name one.value) ∷ [])
 
+-- what is left of properties, in their order
 abbrev pub left_settings : Bool → Bool → List Setting → List Setting
 left_settings hart closed [] = []
 left_settings hart closed (first ∷ later) = left_setting hart closed first
@@ -32,5 +33,6 @@ left_settings hart closed (first ∷ later) = left_setting hart closed first
 abbrev pub status_of : Bool → List Setting
 status_of closed = cond closed (disabled ∷ []) []
 
+-- the properties of a node as the host has them
 abbrev pub host_settings : Bool → Bool → List Setting → List Setting
 host_settings hart closed own = status_of closed ++ left_settings hart closed own

@@ -39,7 +39,8 @@ fn has_hart(share: &Share<'_>, rows: &[Extent]) -> bool
 
 /// Whether a node with registers of that kind is the host's.
 fn is_kept(share: &Share<'_>, way: &Way, kind: Option<Kind>, rows: &[Extent]) -> bool
-    ensures { result ≡ is_kept share.now.harts share.now.ranges.now (path_of way.now) kind rows.now }
+    ensures { result
+        ≡ is_kept share.now.harts share.now.ranges.now (path_of way.now) kind rows.now }
 {
     match kind {
         None => true,

@@ -30,7 +30,8 @@ pub(crate) struct Header {
 
 /// Appends the first five numbers.
 fn put_first(out: &mut Vec<u8>, header: &Header) -> Result<(), WriteFault>
-    ensures { OnOk result (out.new.items ≡ out.old.items ++ words_bytes (first_words header.now)) }
+    ensures { OnOk result (out.new.items
+        ≡ out.old.items ++ words_bytes (first_words header.now)) }
 {
     put_word(out, MAGIC)?;
     put_word(out, header.size)?;
@@ -42,7 +43,8 @@ fn put_first(out: &mut Vec<u8>, header: &Header) -> Result<(), WriteFault>
 
 /// Appends the other five.
 fn put_others(out: &mut Vec<u8>, header: &Header) -> Result<(), WriteFault>
-    ensures { OnOk result (out.new.items ≡ out.old.items ++ words_bytes (other_words header.now)) }
+    ensures { OnOk result (out.new.items
+        ≡ out.old.items ++ words_bytes (other_words header.now)) }
 {
     put_word(out, VERSION)?;
     put_word(out, OLDEST)?;
@@ -54,7 +56,8 @@ fn put_others(out: &mut Vec<u8>, header: &Header) -> Result<(), WriteFault>
 
 /// Appends a header.
 pub(crate) fn put_header(out: &mut Vec<u8>, header: &Header) -> Result<(), WriteFault>
-    ensures { OnOk result (out.new.items ≡ out.old.items ++ words_bytes (header_words header.now)) }
+    ensures { OnOk result (out.new.items
+        ≡ out.old.items ++ words_bytes (header_words header.now)) }
 {
     put_first(out, header)?;
     put_others(out, header)?;

@@ -64,8 +64,8 @@ fn written<'a>(
     boot_hart: u32,
     free: u32,
 ) -> Result<Vec<u8>, MakeFault>
-    ensures { IfOk result (λ out. (board : Tree) → parts_of read.now.pieces.items ≡ parts_of_tree board
-        → (made : Tree) × IsHostTree (portion_of share.now) ranges.now board made
+    ensures { IfOk result (λ out. (board : Tree)
+        → parts_of read.now.pieces.items ≡ parts_of_tree board → (made : Tree) × IsHostTree (portion_of share.now) ranges.now board made
         × SpellsTree out.items made read.now.reservations.items) }
 {
     let mut writer = TreeWriter::new(alloc);
@@ -95,7 +95,8 @@ pub fn host_tree(
     ranges: &[Reserved],
     free: u32,
 ) -> Result<Vec<u8>, HostTreeFault>
-    ensures ok { IfOk result (λ out. IsHosts (portion_of share.now) ranges.now bytes.now out.items) }
+    ensures ok { IfOk result (λ out.
+        IsHosts (portion_of share.now) ranges.now bytes.now out.items) }
     ensures refused { (fault : TreeFault) → result ≡ Err (HostTreeFault.NotRead fault)
         → fault.reason ≢ TreeReason.Memory
         → (tree : Tree) (reservations : List Reservation)

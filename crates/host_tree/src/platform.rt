@@ -173,7 +173,8 @@ fn clipped(
 
 /// Appends a base and a size.
 fn put_words(words: &mut Vec<u64>, range: Extent) -> Result<(), MakeFault>
-    ensures { OnOk result (words.new.items ≡ words.old.items ++ range.base ∷ range.size ∷ []) }
+    ensures { OnOk result (words.new.items
+        ≡ words.old.items ++ range.base ∷ range.size ∷ []) }
 {
     let Ok(()) = words.push(range.base) else {
         return Err(MakeFault::NotWritten(WriteFault::Memory));
@@ -197,7 +198,8 @@ fn flat_words(alloc: Global, ranges: &[Extent]) -> Result<Vec<u64>, MakeFault>
 
 /// The words of ranges, of which a platform has at most 32, and zeros behind them.
 fn words_of(alloc: Global, ranges: &[Extent]) -> Result<[u64; 64], MakeFault>
-    ensures { IfOk result (λ words. (zeros : List ℕ) × (words ≡ flat_words ranges.now ++ zeros)) }
+    ensures { IfOk result (λ words. (zeros : List ℕ)
+        × (words ≡ flat_words ranges.now ++ zeros)) }
 {
     let flat = flat_words(alloc, ranges)?;
     if flat.len() > 64 {

@@ -31,7 +31,8 @@ pub(crate) fn put_nodes<'a>(
         → parts_of pieces.now ≡ parts_of_nodes nodes ++ behind → BeginsNoNode behind
         → (parts_of rest.now ≡ behind)
         × (made : Nodes)
-        × HostNodes (portion_of share.now) place bus.entry.0.now (path_of bus.entry.1.now) nodes made
+        × HostNodes (portion_of share.now) place bus.entry.0.now (path_of bus.entry.1.now)
+        nodes made
         × Adds writer.old writer.new (parts_of_nodes made)) }
 {
     let mut rest = pieces;

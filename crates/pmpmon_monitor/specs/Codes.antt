@@ -21,5 +21,6 @@ IsMemory (NotMade (NotWritten fault)) = fault ≡ writes.Memory
 abbrev pub IsCode : ℤ → Type 0
 IsCode code = (code ≡ pos 1) ⊎ ((code ≡ pos 2) ⊎ (code ≡ pos 3))
 
+-- a base and a size
 abbrev pub range : ℕ → ℕ → Extent
 range base size = record { base = base; size = size }

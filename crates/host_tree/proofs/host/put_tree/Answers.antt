@@ -32,7 +32,8 @@ returns c = λ board e.
     let last = adds_both _ _ _ (parts_of_nodes made) (ends ∷ []) children.2 c.in_ok-put_end.ensures in
     let more = adds_both _ _ _ own (parts_of_nodes made ++ (ends ∷ [])) a2 last in
     let all = adds_both _ _ _ (begins root.name.now ∷ []) (own ++ (parts_of_nodes made ++ (ends ∷ []))) a1 more in
-    let same : (begins root.name.now ∷ []) ++ (own ++ (parts_of_nodes made ++ (ends ∷ []))) ≡ begins [] ∷ (map has s ++ (parts_of_nodes made ++ (ends ∷ []))) = cc in (
+    let same : (begins root.name.now ∷ []) ++ (own ++ (parts_of_nodes made ++ (ends ∷ []))) ≡ begins [] ∷ (map has s ++ (parts_of_nodes made ++ (ends ∷
+        []))) = cc in (
       record { properties = s; children = made },
       record {
         cells = cells;

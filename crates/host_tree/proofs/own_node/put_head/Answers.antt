@@ -22,7 +22,8 @@ returns c =
           let hart_is : c.is_hart.result ≡ has_type (codes "cpu") (map has own) = c.is_hart.ensures ∙ ap (λ (x : List Part). has_type (codes "cpu") x) e in
           let closed_is : c.in_ok-is_closed.is_closed ≡ is_closed share.harts share.ranges.now way (live_kind place (map has own)) closed.0 (map has own) =
           closed.2 ∙ ap (λ (x : List Part). is_closed share.harts share.ranges.now way (live_kind place x) closed.0 x) e in
-          let same : map has (host_settings c.is_hart.result c.in_ok-is_closed.is_closed own) ≡ map has (node_settings (portion_of share) place way closed.0 own) =
+          let same : map has (host_settings c.is_hart.result c.in_ok-is_closed.is_closed own) ≡ map has (node_settings (portion_of share) place way
+              closed.0 own) =
           ap (λ (x : Bool). map has (host_settings x c.in_ok-is_closed.is_closed own)) hart_is
           ∙ ap (λ (x : Bool). map has (host_settings (has_type (codes "cpu") (map has own)) x own)) closed_is in
           adds_same _ _ ((begins n ∷ []) ++ map has (host_settings c.is_hart.result c.in_ok-is_closed.is_closed own))

@@ -16,7 +16,8 @@ returns-clause-found c =
       ranges = b.3;
       read = b.2;
       said = b.4;
-      harts = subst (λ (x : List Extent). HartsThere x old.harts c.harts_there-platform.result) (c.as_slice.ensures.value ∙ b.5) c.harts_there-platform.ensures;
+      harts = subst (λ (x : List Extent). HartsThere x old.harts c.harts_there-platform.result) (c.as_slice.ensures.value ∙ b.5)
+          c.harts_there-platform.ensures;
       memory = subst (λ (x : List Extent). IsClipped (extents_of false b.3) (pairs_in old.ram_count old.ram) x) (sym (pairs_are _ _ l.3 l.0 l.2 l.4))
           (subst (λ (x : List Extent). IsClipped x (pairs_in old.ram_count old.ram) l.0) b.6 l.1);
       entries = refl;

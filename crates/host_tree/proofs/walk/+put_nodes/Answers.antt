@@ -9,7 +9,8 @@ use Rattle.host_tree.proofs.walk.+put_nodes.Goals as goal
 pub nodes-init : goal.nodes-init
 nodes-init t c = record {
   len = omega (arith);
-  whole = start (λ (x : Nodes). x) (portion_of c.args.share.now) c.args.place c.args.bus.0.now (path_of c.args.bus.1.now) (parts_of c.args.pieces.now) c.args.writer.now;
+  whole = start (λ (x : Nodes). x) (portion_of c.args.share.now) c.args.place c.args.bus.0.now (path_of c.args.bus.1.now) (parts_of c.args.pieces.now)
+      c.args.writer.now;
 }
 
 pub nodes-preserved : goal.nodes-preserved
@@ -23,7 +24,8 @@ nodes-preserved t c =
     let way = path_of c.args.bus.1.now in
     let one = child host c.args.place cells way head.name.now (parts_of head.properties.now) (parts_of head.inner.now)
     (parts_of c.in-Ok-put_nodes.behind.now) c.nodes.writer c.put_head.new.writer c.put_nodes.new.writer own.0 own.1 own.2
-    c.in-Ok-inner_of.inner.cells inner.0 c.in-Ok-inner_of.inner.place (path_of c.in-Ok-inner_of.inner.way) inner.1 inner.2 inner.3 inner.4 c.in-Ok-put_nodes.ensures.ok in
+    c.in-Ok-inner_of.inner.cells inner.0 c.in-Ok-inner_of.inner.place (path_of c.in-Ok-inner_of.inner.way) inner.1 inner.2 inner.3 inner.4
+        c.in-Ok-put_nodes.ensures.ok in
     record {
       len = omega (arith, c.nodes.invariant.len, c.in-Some.ensures.shorter, c.in-Ok-put_nodes.ensures.len, c.after_end-rest.ensures.len);
       whole = next (λ (x : Nodes). x) host c.args.place cells way (parts_of c.args.pieces.now) (parts_of c.nodes.rest.now) c.args.writer.now c.nodes.writer
@@ -43,7 +45,8 @@ nodes-preserved-in-Ok-put_end t c =
     let way = path_of c.args.bus.1.now in
     let one = child host c.args.place cells way head.name.now (parts_of head.properties.now) (parts_of head.inner.now)
     (parts_of c.in-Ok-put_nodes.behind.now) c.nodes.writer c.put_head.new.writer c.put_nodes.new.writer own.0 own.1 own.2
-    c.in-Ok-inner_of.inner.cells inner.0 c.in-Ok-inner_of.inner.place (path_of c.in-Ok-inner_of.inner.way) inner.1 inner.2 inner.3 inner.4 c.in-Ok-put_nodes.ensures.ok in
+    c.in-Ok-inner_of.inner.cells inner.0 c.in-Ok-inner_of.inner.place (path_of c.in-Ok-inner_of.inner.way) inner.1 inner.2 inner.3 inner.4
+        c.in-Ok-put_nodes.ensures.ok in
     record {
       len = omega (arith, c.nodes.invariant.len, c.in-Some.ensures.shorter, c.in-Ok-put_nodes.ensures.len, c.after_end-rest.ensures.len);
       whole = next (λ (x : Nodes). x) host c.args.place cells way (parts_of c.args.pieces.now) (parts_of c.nodes.rest.now) c.args.writer.now c.nodes.writer
@@ -53,5 +56,6 @@ nodes-preserved-in-Ok-put_end t c =
     }
 
 pub returns-clause-ok : goal.returns-clause-ok
-returns-clause-ok t c = finish (portion_of c.args.share.now) c.args.place c.args.bus.0.now (path_of c.args.bus.1.now) (parts_of c.args.pieces.now) (parts_of c.nodes.rest.now)
+returns-clause-ok t c = finish (portion_of c.args.share.now) c.args.place c.args.bus.0.now (path_of c.args.bus.1.now) (parts_of c.args.pieces.now)
+    (parts_of c.nodes.rest.now)
     c.args.writer.now c.nodes.writer c.nodes.invariant.whole c.in_default.ensures.parts
