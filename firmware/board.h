@@ -89,7 +89,6 @@ static inline unsigned this_hart(void)
     __asm__ volatile("csrr %0, mhartid" : "=r"(hart)::"memory");
     return (unsigned)hart;
 }
-unsigned hart_count(void);
 /* Stops the other harts: none of them runs a world before this hart does. It has the monitor's lock. */
 void stop_harts(void);
 /* Whether they stopped in ten seconds. */
@@ -137,8 +136,21 @@ void *memcpy(void *to, const void *from, size_t n);
 void *memmove(void *to, const void *from, size_t n);
 void *memset(void *to, int value, size_t n);
 
+/* Words of 64 bits from one place to another that does not overlap. With a number that is known where it is compiled each is a load
+   and a store. */
+static inline __attribute__((always_inline)) void copy_words(uint64_t *to, const uint64_t *from, unsigned n)
+{
+#pragma GCC unroll 64
+    for (unsigned i = 0; i < n; i++)
+        to[i] = from[i];
+}
+
 /* The platform as a frame: that of the build until find_board has looked what of it is there. */
 extern const struct platform_frame *platform;
+static inline unsigned hart_count(void)
+{
+    return (unsigned)platform->harts;
+}
 
 /* board.c: of the platform the harts and the memory that the board's device tree has, and the tree as the host gets it. */
 void find_board(uint64_t tree);

@@ -70,34 +70,47 @@ enum {
 #undef NUMBER
         COUNT
 };
-/* Which of the registers a hart has. The others' words are zero, and not looked at. */
-static uint8_t has[MOST_HARTS][COUNT];
+/* Which of the registers a hart has, and whether it has them all. The others' words are zero, and not looked at. */
+static uint8_t has[MOST_HARTS][COUNT], has_all[MOST_HARTS];
 
 static void find_registers(unsigned hart)
 {
-#define FIND(word, csr, bits) has[hart][NUMBER_##word] = IS_THERE(csr);
+    has_all[hart] = 1;
+#define FIND(word, csr, bits) has_all[hart] &= has[hart][NUMBER_##word] = IS_THERE(csr);
     CONTROL_REGISTERS(FIND)
 #undef FIND
 }
 
+#define TAKE(word, csr, bits) words->word = READ(csr) & (bits);
+#define TAKE_IF(word, csr, bits)                                                                                       \
+    words->word = 0;                                                                                                   \
+    if (has[hart][NUMBER_##word])                                                                                      \
+        TAKE(word, csr, bits)
 void control_read(struct control_words *words)
 {
     unsigned hart = this_hart();
-#define TAKE(word, csr, bits) words->word = has[hart][NUMBER_##word] ? READ(csr) & (bits) : 0;
-    CONTROL_REGISTERS(TAKE)
-#undef TAKE
     words->mode = worlds[hart].mode;
+    if (has_all[hart]) {
+        CONTROL_REGISTERS(TAKE)
+        return;
+    }
+    CONTROL_REGISTERS(TAKE_IF)
 }
 
+/* A register is read first where not all of it travels. */
+#define GIVE(word, csr, bits) WRITE(csr, (bits) == ALL ? words->word : (READ(csr) & ~(bits)) | (words->word & (bits)));
+#define GIVE_IF(word, csr, bits)                                                                                       \
+    if (has[hart][NUMBER_##word])                                                                                      \
+        GIVE(word, csr, bits)
 void control_write(const struct control_words *words)
 {
     unsigned hart = this_hart();
-#define GIVE(word, csr, bits)                                                                                          \
-    if (has[hart][NUMBER_##word])                                                                                      \
-        WRITE(csr, (READ(csr) & ~(bits)) | (words->word & (bits)));
-    CONTROL_REGISTERS(GIVE)
-#undef GIVE
     worlds[hart].mode = words->mode;
+    if (has_all[hart]) {
+        CONTROL_REGISTERS(GIVE)
+        return;
+    }
+    CONTROL_REGISTERS(GIVE_IF)
 }
 
 /*

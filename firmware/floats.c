@@ -34,22 +34,24 @@ static void keep(unsigned hart, struct floats *set)
 
 static void load(unsigned hart, const struct floats *set)
 {
+    WRITE(fcsr, set->fcsr);
     if (kinds[hart] == DOUBLES)
         load_doubles(set->f);
     else if (kinds[hart] == SINGLES)
         load_singles(set->f);
-    WRITE(fcsr, set->fcsr);
 }
 
 /* An enclave goes on with FS Initial. Where it is not Dirty at its next trap, f0 to f31 are those that it was given. */
 void floats_came(unsigned hart, uint64_t status)
 {
     uint64_t world = world_number[hart];
+    struct floats *set;
     if (!world || !kinds[hart] || LEAVE_FLOATS == ENCLAVES_SET)
         return;
+    set = &of_enclaves[world - 1];
+    set->fcsr = READ(fcsr);
     if ((status & FLOATS_DIRTY) == FLOATS_DIRTY)
-        keep(hart, &of_enclaves[world - 1]);
-    of_enclaves[world - 1].fcsr = READ(fcsr);
+        keep(hart, set);
 }
 
 /* The host's set is kept whatever its FS says: it may have changed that itself. FS is then as the next world's status word has it. */
@@ -59,8 +61,8 @@ void floats_change(unsigned hart, uint64_t world)
         return;
     SET(mstatus, FLOATS_DIRTY);
     if (!world_number[hart] && LEAVE_FLOATS != HOSTS_SET) {
-        keep(hart, &of_hosts[hart]);
         of_hosts[hart].fcsr = READ(fcsr);
+        keep(hart, &of_hosts[hart]);
     }
     load(hart, world ? &of_enclaves[world - 1] : &of_hosts[hart]);
 }

@@ -18,11 +18,6 @@ static volatile uint32_t *const software_interrupt = (volatile uint32_t *)0x2000
 
 struct harts harts = {.started = 1};
 
-unsigned hart_count(void)
-{
-    return (unsigned)platform->harts;
-}
-
 /* What is asked of a hart. */
 #define FENCES 3u /* a bit for each kind */
 #define STOP 4u

@@ -45,7 +45,7 @@ static int64_t read_trap(void *to)
     hart = this_hart();
     frame->hart = hart;
     frame->pc = worlds[hart].pc;
-    memcpy(frame->x, worlds[hart].x + 1, sizeof frame->x);
+    copy_words(frame->x, worlds[hart].x + 1, 31);
     frame->control_tag = TAG_CONTROL;
     control_read(&frame->control);
     floats_came(hart, frame->control.status);
@@ -98,8 +98,8 @@ static void keep_bank(unsigned hart, const struct answer_frame *answer)
     struct bank *bank = &banks[hart];
     if (!differ(bank->cfg, answer->cfg, ENTRIES / 8) && !differ(bank->addr, answer->addr, ENTRIES))
         return;
-    memcpy(bank->cfg, answer->cfg, ENTRIES);
-    memcpy(bank->addr, answer->addr, 8 * ENTRIES);
+    copy_words(bank->cfg, answer->cfg, ENTRIES / 8);
+    copy_words(bank->addr, answer->addr, ENTRIES);
     is_stale[hart] = 1;
 }
 
@@ -113,24 +113,32 @@ void make_zero(uint64_t first, uint64_t count)
         memset(is_stale, 1, sizeof is_stale);
 }
 
-static int64_t written_answer(const struct answer_frame *answer)
+/* Pages were asked for, or some are to be zero. */
+static void change_pages(const struct answer_frame *answer)
 {
-    uint64_t hart = answer->hart;
-    struct world *world = &worlds[hart];
     make_zero(answer->zero_first, answer->zero_count);
     private_answered(answer->status, answer->zero_first, answer->zero_count);
     if (is_creation && !answer->status)
         floats_begin(answer->value);
     is_creation = 0;
-    for (unsigned other = 0; other < hart_count(); other++)
-        if (other == hart || (answer->wake >> other & 1))
-            keep_bank(other, answer);
+}
+
+static int64_t written_answer(const struct answer_frame *answer)
+{
+    uint64_t hart = answer->hart;
+    struct world *world = &worlds[hart];
+    if (is_creation || answer->zero_count)
+        change_pages(answer);
+    keep_bank((unsigned)hart, answer);
+    for (uint64_t woken = answer->wake, other = 0; woken; woken >>= 1, other++)
+        if (woken & 1)
+            keep_bank((unsigned)other, answer);
     if (world_number[hart] != answer->world) {
         floats_change((unsigned)hart, answer->world);
         is_stale[hart] = 1;
     }
     world->pc = answer->pc;
-    memcpy(world->x + 1, answer->x, sizeof answer->x);
+    copy_words(world->x + 1, answer->x, 31);
     control_write(&answer->control);
     world_number[hart] = answer->world;
     answered(answer);

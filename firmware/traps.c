@@ -73,25 +73,37 @@ static void check_stack(void)
         end_because("the stack is full on hart ", this_hart());
 }
 
-uint64_t next_trap(void)
+/* Runs the hart's world until a hart traps, and does what the monitor has not to know of: then it says 0. It is no part of the loop
+   below, so that it keeps few registers. */
+static __attribute__((noinline)) uint64_t one_trap(void)
 {
     struct action action;
     struct world *world;
-    check_stack();
-    for (;;) {
-        leave_monitor();
-        world = decide(&harts, &action);
-        if (action.kind >= MONITOR)
-            break;
+    struct caller *caller;
+    leave_monitor();
+    world = decide(&harts, &action);
+    if (action.kind < MONITOR) {
         act_with_lock(world, &action);
+        return 0;
     }
     if (action.kind == MONITOR_ALONE)
         stop_harts();
     if (action.kind < ENCLAVE_CALL)
         return TAG_CALL;
-    callers[this_hart()].stop_cause = world->cause;
-    callers[this_hart()].stop_value = world->value;
+    caller = &callers[this_hart()];
+    caller->stop_cause = world->cause;
+    caller->stop_value = world->value;
     return action.kind == ENCLAVE_CALL ? TAG_CALL : TAG_STOP;
+}
+
+uint64_t next_trap(void)
+{
+    uint64_t tag;
+    check_stack();
+    do
+        tag = one_trap();
+    while (!tag);
+    return tag;
 }
 
 void answered(const struct answer_frame *answer)

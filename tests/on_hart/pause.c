@@ -1,6 +1,6 @@
 /*
- * How many instructions a creation and a destruction of KIND pages take, and a call of SBI's base: with -icount of QEMU a tick of the
- * time is 100.
+ * How many instructions a creation and a destruction of KIND pages take, a call of SBI's base, one for a word of a digest, and an
+ * enclave that is resumed and stops itself at once, which is two switches: with -icount of QEMU a tick of the time is 100.
  */
 #include "harts.h"
 
@@ -24,5 +24,15 @@ void host_main(void)
     for (unsigned i = 0; i < CALLS; i++)
         pmpmon_call(SBI_BASE, 0, 0, 0, 0, 0, 0, 0);
     say("base", 100 * (time() - before) / CALLS);
+    made = make(BASE);
+    pmpmon_run(made.value);
+    before = time();
+    for (unsigned i = 0; i < CALLS; i++)
+        pmpmon_measure(made.value, 0);
+    say("measure", 100 * (time() - before) / CALLS);
+    before = time();
+    for (unsigned i = 0; i < CALLS; i++)
+        pmpmon_resume(made.value);
+    say("resume", 100 * (time() - before) / CALLS);
     off();
 }

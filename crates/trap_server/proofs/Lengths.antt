@@ -50,6 +50,11 @@ device_step items bytes n a b perm is p q r =
     map-append words_of_device items ((a, b, perm) ∷ []) ∙ ap (λ xs. xs ++ ((a, b, bits_of perm) ∷ [])) is
     ∙ ap (λ (d : ℕ × ℕ × ℕ). device_words bytes n ++ (d ∷ [])) same ∙ ap (device_words bytes) e
 
+-- a byte for each entry
+pub cfg_length : (entries : List Entry) (n : ℕ) → length (cfg_bytes entries n) ≡ n
+cfg_length entries zero = refl
+cfg_length entries (suc n) = omega (arith, length-append (cfg_bytes entries n) (cfg_at entries n ∷ []), cfg_length entries n)
+
 -- an entry more
 pub cfg_step : (entries : List Entry) (n : ℕ) → cfg_bytes entries n ++ cfg_at entries n ∷ [] ≡ cfg_bytes entries (n + 1)
 cfg_step entries n =

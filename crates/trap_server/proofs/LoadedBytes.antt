@@ -20,7 +20,7 @@ use Rattle.monitor_core.specs.Answers.{world_number}
 use Rattle.trap_server.specs.Answers.{address_at, address_bytes, address_in, answer_bytes, bit_of, cfg_at, cfg_bytes, cfg_in, control_bytes, head_bytes}
 use Rattle.trap_server.specs.Answers.{pages_of, register_bytes, wake_word}
 use Rattle.trap_server.specs.Firmware.{is_loaded, loaded_address, loaded_cfg, loaded_pairs}
-use Rattle.trap_server.proofs.Lengths.{word_length}
+use Rattle.trap_server.proofs.Lengths.{cfg_length, word_length}
 
 -- the word after a front of whole words
 word_after : (front rest : List ℕ) (n x : ℕ) → length front ≡ 8 * n → x < 2 ^ 64 → word_at (front ++ (little_bytes 8 x ++ rest)) n ≡ x
@@ -52,10 +52,6 @@ index_after (x ∷ front) rest zero i size = absurd (let e : suc (length front) 
 index_after (x ∷ front) rest (suc n) i size =
     let less : length front ≡ n = omega (arith, size) in
     ap (λ k. slice_index_or (x ∷ (front ++ rest)) k 0) (let same : suc n + i ≡ suc (n + i) = omega arith in same) ∙ index_after front rest n i less
-
-cfg_length : (entries : List Entry) (n : ℕ) → length (cfg_bytes entries n) ≡ n
-cfg_length entries zero = refl
-cfg_length entries (suc n) = omega (arith, length-append (cfg_bytes entries n) (cfg_at entries n ∷ []), cfg_length entries n)
 
 address_length : (entries : List Entry) (n : ℕ) → length (address_bytes entries n) ≡ 8 * n
 address_length entries zero = refl

@@ -70,13 +70,13 @@ Serves (Err fault) trap old hosts new kept before after held holds =
 
 -- the pages of a creation that passes its checks were asked for and read, and the digest is theirs;
 -- or the loop ends
-abbrev pub TakesDigest : Result (List ℕ) ServeFault → MonitorState → Trap → Option (List ℕ)
-    → Option (List ℕ) → Option (List ℕ) → Option (List ℕ) → Type 0
-TakesDigest (Ok digest) s trap before after held holds =
+abbrev pub TakesDigest : Result (Unit {0}) ServeFault → List ℕ → MonitorState → Trap
+    → Option (List ℕ) → Option (List ℕ) → Option (List ℕ) → Option (List ℕ) → Type 0
+TakesDigest (Ok done) digest s trap before after held holds =
     (question read : List ℕ)
     × AsksFor (asked_in (call_of trap.registers)) s trap.hart question read digest
     × Consumes before after read × Appends held holds question
-TakesDigest (Err fault) s trap before after held holds =
+TakesDigest (Err fault) digest s trap before after held holds =
     (read rest : List ℕ) × ((hosts : ℕ → ControlWords)
     → StopsTrap fault s hosts trap read rest after) × Consumes before after read
     × Appends held holds rest

@@ -119,16 +119,16 @@ fn clear(frame: &mut AnswerBytes, from: usize, end: usize)
 }
 
 /// Writes the configuration bytes of 64 entries after them, zero past the entries. As words they are pmpcfg0, pmpcfg2, ..
-/// pmpcfg14.
+/// pmpcfg14. All are made zero first, which takes eight stores; from the last entry on it would take more.
 #[inline(always)]
 fn put_configuration(frame: &mut AnswerBytes, entries: &[Entry])
     requires { length entries.now ≤ 64 }
     ensures { take 392 frame.new ≡ take 328 frame.old ++ cfg_bytes entries.now 64 }
 {
+    clear(frame, 328, 392);
     for i in 0..entries.len() {
         frame[328 + i] = cfg_at(entries, i);
     }
-    clear(frame, 328 + entries.len(), 392);
 }
 
 /// Writes the address registers of 64 entries after them, zero past the entries.

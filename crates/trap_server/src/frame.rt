@@ -33,6 +33,9 @@ pub(crate) const TAG_END: u64 = 0x0064_6e65;
 /// The bytes of an answer: nine words, the registers, the entries, and the control words after their tag.
 pub type AnswerBytes = [u8; 984];
 
+/// The bytes of a trap: its tag, the hart, the registers, and the control words after a tag of their own.
+pub type TrapBytes = [u8; 352];
+
 /// The bytes of a frame of three words.
 pub type ShortBytes = [u8; 24];
 

@@ -29,7 +29,7 @@ impl HostWords {
         ensures { host_words self.new ≡ keeping world (host_words self.old) hart came.now }
     {
         match world {
-            World::Host => self.hosts[hart as usize] = *came,
+            World::Host => self.hosts[hart as usize] = came.copied(),
             World::Enclave(_) => {}
         }
     }
@@ -40,7 +40,7 @@ impl HostWords {
         ensures { result ≡ words_in world (host_words self.now hart) }
     {
         match world {
-            World::Host => self.hosts[hart as usize],
+            World::Host => self.hosts[hart as usize].copied(),
             World::Enclave(_) => self.hosts[hart as usize].of_enclave(),
         }
     }

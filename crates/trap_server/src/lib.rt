@@ -65,7 +65,7 @@ pub use answer::{Head, put_answer};
 pub use control_laws::control_words_law;
 pub use end::{EndReason, end_frame};
 pub use fault::ServeFault;
-pub use frame::{AnswerBytes, ShortBytes};
+pub use frame::{AnswerBytes, ShortBytes, TrapBytes};
 pub use frame_fault::FrameFault;
 pub use frame_laws::control_law;
 pub use host_words::HostWords;

@@ -89,8 +89,8 @@ fn put_frame(
     );
 }
 
-/// Writes with what a hart goes on.
-#[inline(never)]
+/// Writes with what a hart goes on, in a frame that is lent, and whose bytes before decide nothing.
+#[inline(always)]
 pub(crate) fn write_answer<W: Sink>(
     monitor: &Monitor,
     hosts: &HostWords,
@@ -98,6 +98,7 @@ pub(crate) fn write_answer<W: Sink>(
     answer: Answer,
     zero: Option<PageRange>,
     woken: [bool; 4],
+    frame: &mut AnswerBytes,
     sink: &mut W,
 ) -> Result<(), ServeFault>
     requires hart { hart < 4 }
@@ -109,9 +110,8 @@ pub(crate) fn write_answer<W: Sink>(
     ensures writes { CountsWrites result (W.failures sink.old) (W.failures sink.new)
         (W.stalls sink.old) (W.stalls sink.new) }
 {
-    let mut frame = [0; 984];
-    put_frame(&mut frame, monitor, hosts, hart, &answer, zero, woken);
-    match write_whole(sink, &frame) {
+    put_frame(frame, monitor, hosts, hart, &answer, zero, woken);
+    match write_whole(sink, frame) {
         Ok(()) => Ok(()),
         Err(_) => Err(ServeFault::Write),
     }
@@ -126,37 +126,44 @@ fn keep_words(monitor: &Monitor, hosts: &mut HostWords, trap: &Trap)
     hosts.save(trap.hart, monitor.world(trap.hart), &trap.control);
 }
 
-/// The digest of the pages of a creation that passes its checks, which are asked for and read; of another call there is none,
-/// and nothing is asked for.
+/// Takes the digest of the pages of a creation that passes its checks, which are asked for and read; of another call there is
+/// none, and nothing is asked for. It is not inlined: so a trap is in memory, and its registers are copied from there at once.
 #[inline(never)]
 fn measure_pages<R: Source, W: Sink>(
     monitor: &Monitor,
     trap: &Trap,
+    taken: &mut TakenDigest,
     source: &mut R,
     sink: &mut W,
-) -> Result<[u8; 32], ServeFault>
+) -> Result<(), ServeFault>
     requires hart { trap.now.hart < 4 }
     requires call { trap.now.event ≡ TrapEvent.Call }
-    ensures digest { TakesDigest result (state_by monitor.now) trap.now (R.remaining source.old)
-        (R.remaining source.new) (W.contents sink.old) (W.contents sink.new) }
+    ensures digest { TakesDigest result taken.new.bytes (state_by monitor.now) trap.now
+        (R.remaining source.old) (R.remaining source.new)
+        (W.contents sink.old) (W.contents sink.new) }
     ensures reads { CountsReads result (R.failures source.old) (R.failures source.new) }
     ensures writes { CountsWrites result (W.failures sink.old) (W.failures sink.new)
         (W.stalls sink.old) (W.stalls sink.new) }
 {
     let Some(parts) = monitor.measures(trap.hart, &trap.registers) else {
-        return Ok([0; 32]);
+        return Ok(());
     };
     match digest_of(source, sink, &parts) {
-        Ok(digest) => Ok(digest),
+        Ok(digest) => {
+            taken.bytes = digest;
+            Ok(())
+        }
         Err(fault) => Err(end(sink, fault)),
     }
 }
 
 /// Serves the call in the registers of a trap. Where it is a creation that passes its checks, its pages are measured before.
+#[inline(always)]
 fn serve_call<R: Source, W: Sink>(
     monitor: &mut Monitor,
     hosts: &mut HostWords,
     trap: &Trap,
+    frame: &mut AnswerBytes,
     source: &mut R,
     sink: &mut W,
 ) -> Result<(), ServeFault>
@@ -173,12 +180,13 @@ fn serve_call<R: Source, W: Sink>(
     // (there are at most four: a fact for the proof)
     let _most = monitor.harts();
     keep_words(monitor, hosts, trap);
-    let digest = match measure_pages(monitor, trap, source, sink) {
-        Ok(digest) => digest,
+    let mut taken = TakenDigest { bytes: [0; 32] };
+    match measure_pages(monitor, trap, &mut taken, source, sink) {
+        Ok(()) => {}
         Err(fault) => return Err(fault),
-    };
+    }
     monitor.put_registers(trap.hart, &trap.registers);
-    let served = monitor.serve(trap.hart, &TakenDigest { bytes: digest });
+    let served = monitor.serve(trap.hart, &taken);
     monitor.cite_invariant();
     let woken = wake_all(monitor);
     write_answer(
@@ -188,16 +196,18 @@ fn serve_call<R: Source, W: Sink>(
         served.answer,
         served.zero,
         woken,
+        frame,
         sink,
     )
 }
 
 /// Serves an interrupt: an enclave stops.
-#[inline(never)]
+#[inline(always)]
 fn serve_stop<W: Sink>(
     monitor: &mut Monitor,
     hosts: &mut HostWords,
     trap: &Trap,
+    frame: &mut AnswerBytes,
     sink: &mut W,
 ) -> Result<(), ServeFault>
     requires hart { trap.now.hart < (state_by monitor.old).table.layout.harts }
@@ -217,15 +227,16 @@ fn serve_stop<W: Sink>(
     monitor.put_registers(trap.hart, &trap.registers);
     let _load = monitor.interrupt(trap.hart);
     let woken = wake_all(monitor);
-    write_answer(monitor, hosts, trap.hart, NOTHING, None, woken, sink)
+    write_answer(monitor, hosts, trap.hart, NOTHING, None, woken, frame, sink)
 }
 
-/// Serves a trap. It is not inlined, so that its locals are not on the stack while the monitor boots.
-#[inline(never)]
+/// Serves a trap.
+#[inline(always)]
 pub(crate) fn serve_trap<R: Source, W: Sink>(
     monitor: &mut Monitor,
     hosts: &mut HostWords,
     trap: &Trap,
+    frame: &mut AnswerBytes,
     source: &mut R,
     sink: &mut W,
 ) -> Result<(), ServeFault>
@@ -239,7 +250,7 @@ pub(crate) fn serve_trap<R: Source, W: Sink>(
         (W.stalls sink.old) (W.stalls sink.new) }
 {
     match trap.event {
-        TrapEvent::Call => serve_call(monitor, hosts, trap, source, sink),
-        TrapEvent::Stop => serve_stop(monitor, hosts, trap, sink),
+        TrapEvent::Call => serve_call(monitor, hosts, trap, frame, source, sink),
+        TrapEvent::Stop => serve_stop(monitor, hosts, trap, frame, sink),
     }
 }

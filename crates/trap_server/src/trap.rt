@@ -7,13 +7,13 @@ ghost use Rattle.trap_server.specs.Words.{word_at};
 ghost use Rattle.trap_server.specs.Traps.{HasControl, HasRegisters, IsTrapFrame, ReadsTrap, CountsRead};
 
 use crate::ControlWords;
-use crate::frame::{TAG_CALL, TAG_CONTROL, TAG_STOP, word};
+use crate::frame::{TAG_CALL, TAG_CONTROL, TAG_STOP, TrapBytes, word};
 use crate::frame_bytes::read_whole;
 use crate::frame_fault::FrameFault;
 use byte_streams::Source;
 use sbi_decode::Registers;
 
-/// The bytes of its frame: its tag, the hart, the registers, and the control words after a tag of their own.
+/// The bytes of its frame.
 const TRAP_BYTES: usize = 352;
 
 /// What happened to the world that runs on a hart.
@@ -53,7 +53,7 @@ impl Trap {
 
 /// Puts the registers in a frame, the program counter and then x1 to x31, into those of a trap.
 #[inline(always)]
-fn registers_in(bytes: &[u8; 352], registers: &mut Registers)
+fn registers_in(bytes: &TrapBytes, registers: &mut Registers)
     ensures { HasRegisters bytes.now registers.new }
 {
     registers.set_pc(word(bytes, 2));
@@ -64,7 +64,7 @@ fn registers_in(bytes: &[u8; 352], registers: &mut Registers)
 
 /// The control words in a frame, in their order.
 #[inline(always)]
-fn control_in(bytes: &[u8; 352]) -> ControlWords
+fn control_in(bytes: &TrapBytes) -> ControlWords
     ensures { HasControl bytes.now result }
 {
     ControlWords {
@@ -101,7 +101,7 @@ fn event_in(tag: u64) -> Option<TrapEvent>
 
 /// Puts the trap that a frame is of, on one of this many harts, into one that is lent, and says whether it is one.
 #[inline(always)]
-fn trap_in(bytes: &[u8; 352], harts: u8, trap: &mut Trap) -> bool
+fn trap_in(bytes: &TrapBytes, harts: u8, trap: &mut Trap) -> bool
     ensures trap { result ≡ true → IsTrapFrame bytes.now harts trap.new }
     ensures none { result ≡ false → (one : TrapOf) → IsTrapFrame bytes.now harts one → ⊥ }
 {
@@ -128,15 +128,20 @@ fn trap_in(bytes: &[u8; 352], harts: u8, trap: &mut Trap) -> bool
 }
 
 /// Reads the next trap, on one of this many harts, into one that is lent, so that nothing of it is copied. It says whether
-/// there was one: there is none at the end of the input.
-#[inline(never)]
-pub fn read_trap<R: Source>(source: &mut R, harts: u8, trap: &mut Trap) -> Result<bool, FrameFault>
+/// there was one: there is none at the end of the input. Its bytes go into a frame that is lent too, and whose bytes before
+/// decide nothing: one of its own would be made zero first.
+#[inline(always)]
+pub fn read_trap<R: Source>(
+    source: &mut R,
+    harts: u8,
+    frame: &mut TrapBytes,
+    trap: &mut Trap,
+) -> Result<bool, FrameFault>
     ensures trap { ReadsTrap result trap.new harts (R.remaining source.old)
         (R.remaining source.new) }
     ensures failures { CountsRead result (R.failures source.old) (R.failures source.new) }
 {
-    let mut frame = [0; TRAP_BYTES];
-    let Ok(n) = read_whole(source, &mut frame) else {
+    let Ok(n) = read_whole(source, frame) else {
         return Err(FrameFault::Read);
     };
     if n == 0 {
@@ -145,7 +150,7 @@ pub fn read_trap<R: Source>(source: &mut R, harts: u8, trap: &mut Trap) -> Resul
     if n < TRAP_BYTES {
         return Err(FrameFault::NotUnderstood);
     }
-    if !trap_in(&frame, harts, trap) {
+    if !trap_in(frame, harts, trap) {
         return Err(FrameFault::NotUnderstood);
     }
     Ok(true)

@@ -1,6 +1,8 @@
 //! The loop: a trap is read and served, and its answer written, before the next is read.
 
-ghost use Rattle.std.specs.Prelude.{◌≡◌, ◌+◌, ◌≤◌, ◌<◌, ℕ, List, [], IfErr, IfOk, MatchResult};
+ghost use Rattle.std.specs.Prelude.{◌≡◌, ◌+◌, ◌≤◌, ◌<◌, ℕ, List, [], Ok, Option, IfErr, IfOk, MatchResult};
+ghost use Rattle.platforms.specs.Platform.{PlatformLayout};
+ghost use Rattle.monitor_core.specs.States.{opening_monitor};
 ghost use Rattle.std.specs.Io.KnownBytes.{IsAtEnd};
 ghost use Rattle.monitor_core.specs.Monitors.{state_by};
 ghost use Rattle.trap_server.specs.Boot.{Boots, BootsOn, EndsAtFirst, IsFirst, others};
@@ -90,6 +92,63 @@ fn others(harts: u8) -> [bool; 4]
     [false, harts > 1, harts > 2, harts > 3]
 }
 
+/// Says with which entries the harts of a monitor that is booted begin. Then serves the traps that come, until the input ends.
+///
+/// It is not inlined, so that its frames are not on the stack while the monitor boots. All that serves a trap is inlined into
+/// it: so the frames are known to lie at a multiple of eight, and are read and written by the word.
+#[inline(never)]
+fn serve_booted<R: Source, W: Sink>(
+    monitor: &mut Monitor,
+    source: &mut R,
+    sink: &mut W,
+) -> Result<(), ServeFault>
+    requires { (layout : PlatformLayout) × (state_by monitor.old ≡ opening_monitor layout) }
+    ensures all { (before held : Option (List ℕ))
+        → Boots (Ok monitor.old) before (R.remaining source.old) held (W.contents sink.old)
+        → IfOk result (λ _. Ran before (R.remaining source.new) held (W.contents sink.new) [] []) }
+    ensures at_end { IfOk result (λ _. IsAtEnd (R.remaining source.new)) }
+    ensures early { (before held : Option (List ℕ))
+        → Boots (Ok monitor.old) before (R.remaining source.old) held (W.contents sink.old)
+        → IfErr result (λ fault.
+        EndsEarly fault before (R.remaining source.new) held (W.contents sink.new)) }
+    ensures reads { CountsReads result (R.failures source.old) (R.failures source.new) }
+    ensures writes { CountsWrites result (W.failures sink.old) (W.failures sink.new)
+        (W.stalls sink.old) (W.stalls sink.new) }
+{
+    let harts = monitor.harts();
+    let mut hosts = HostWords::new();
+    let mut frame = [0; 984];
+    match write_answer(
+        monitor,
+        &hosts,
+        0,
+        NOTHING,
+        None,
+        others(harts),
+        &mut frame,
+        sink,
+    ) {
+        Ok(()) => {}
+        Err(fault) => return Err(fault),
+    }
+    let mut trap_frame = [0; 352];
+    let mut trap = Trap::new();
+    for _count in 0..u64::MAX {
+        let is_there = match read_trap(source, harts, &mut trap_frame, &mut trap) {
+            Ok(is_there) => is_there,
+            Err(fault) => return Err(end(sink, fault)),
+        };
+        if !is_there {
+            return Ok(());
+        }
+        match serve_trap(monitor, &mut hosts, &trap, &mut frame, source, sink) {
+            Ok(()) => {}
+            Err(fault) => return Err(fault),
+        }
+    }
+    Err(refuse(sink, EndReason::NotUnderstood))
+}
+
 /// Boots the monitor on the platform that the source gives first, and says with which entries its harts begin. Then serves
 /// the traps that come after it, until the input ends.
 ///
@@ -116,25 +175,5 @@ pub fn serve_traps<R: Source, W: Sink>(
         Ok(monitor) => monitor,
         Err(fault) => return Err(fault),
     };
-    let harts = monitor.harts();
-    let mut hosts = HostWords::new();
-    match write_answer(&monitor, &hosts, 0, NOTHING, None, others(harts), sink) {
-        Ok(()) => {}
-        Err(fault) => return Err(fault),
-    }
-    let mut trap = Trap::new();
-    for _count in 0..u64::MAX {
-        let is_there = match read_trap(source, harts, &mut trap) {
-            Ok(is_there) => is_there,
-            Err(fault) => return Err(end(sink, fault)),
-        };
-        if !is_there {
-            return Ok(());
-        }
-        match serve_trap(&mut monitor, &mut hosts, &trap, source, sink) {
-            Ok(()) => {}
-            Err(fault) => return Err(fault),
-        }
-    }
-    Err(refuse(sink, EndReason::NotUnderstood))
+    serve_booted(&mut monitor, source, sink)
 }

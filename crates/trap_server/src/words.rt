@@ -66,6 +66,24 @@ impl ControlWords {
         }
     }
 
+    /// The same words. Each is copied by itself: a block of them would be copied byte by byte.
+    #[inline(always)]
+    pub(crate) fn copied(&self) -> ControlWords
+        ensures { result ≡ self.now }
+    {
+        ControlWords {
+            status: self.status,
+            satp: self.satp,
+            mie: self.mie,
+            scounteren: self.scounteren,
+            senvcfg: self.senvcfg,
+            hstatus: self.hstatus,
+            medeleg: self.medeleg,
+            mideleg: self.mideleg,
+            mode: self.mode,
+        }
+    }
+
     /// With which an enclave runs on a hart whose host has these words: of them it has only which of the host's
     /// interrupts are to reach machine mode, and whether user mode reads the time.
     pub fn of_enclave(&self) -> ControlWords

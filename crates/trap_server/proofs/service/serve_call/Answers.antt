@@ -30,12 +30,12 @@ write_answer-requires-clause-woken g c =
     let said = c.serve-served.result in
     let put = c.put_registers.ensures.state in
     let step = call_there s (state_by c.put_registers.new.self) mid hart c.args.trap.now.registers
-    (λ parts. c.in-Ok.digest) said.answer said.zero put c.serve-served.ensures.step in
+    (λ parts. c.measure_pages.new.taken.bytes) said.answer said.zero put c.serve-served.ensures.step in
     may_wake mid (state_by c.wake_all-woken.new.monitor) hart c.wake_all-woken.result c.wake_all-woken.ensures.state c.wake_all-woken.ensures.marks
     (λ other known marked.
     let before = subst (λ t. other < t.harts) (c.serve-served.ensures.platform ∙ ap (λ (x : MonitorState). x.table.layout) put) known in (
       c.cite_invariant.ensures.worlds.marked other known marked,
-      marks_in_host (call_of file) (λ parts. c.in-Ok.digest) (with_running s hart file) hart said.answer said.zero mid other
+      marks_in_host (call_of file) (λ parts. c.measure_pages.new.taken.bytes) (with_running s hart file) hart said.answer said.zero mid other
           (c.requires.awake other before) step marked,
     ))
 
@@ -58,13 +58,13 @@ returns-clause-served g c =
       given = given;
       words = record { keeps = c.keep_words.ensures; gives = refl };
       step = subst (λ (e : TrapEvent). ServesAs e s trap given taken.1 taken.0 bytes new) (sym c.requires.call) (record {
-        digest = c.in-Ok.digest;
+        digest = c.measure_pages.new.taken.bytes;
         answer = said.answer;
         cleared = said.zero;
         mid = mid;
         asks = taken.2;
         step = call_there s (state_by c.put_registers.new.self) mid trap.hart trap.registers
-            (λ parts. c.in-Ok.digest) said.answer said.zero put c.serve-served.ensures.step;
+            (λ parts. c.measure_pages.new.taken.bytes) said.answer said.zero put c.serve-served.ensures.step;
         woken = c.wake_all-woken.ensures.state;
         goes_on = subst (λ (w : List Bool). IsAnswer new given trap.hart said.answer said.zero w bytes) c.wake_all-woken.ensures.marks is;
       });

@@ -9,7 +9,7 @@ pub returns-in-Host : goal.returns-in-Host
 unfolding host_words
 returns-in-Host c =
     let room : c.args.hart < length c.args.self.now.hosts = omega (arith, c.requires, c.type_inv.self) in
-    within c.args.self.now.hosts c.args.hart _ first_host_words room
+    c.copied.ensures ∙ within c.args.self.now.hosts c.args.hart _ first_host_words room
     ∙ sym (ap (λ (w : World). words_in w (host_words c.args.self.now c.args.hart)) c.in-Host.is)
 
 pub returns-in-Enclave : goal.returns-in-Enclave
