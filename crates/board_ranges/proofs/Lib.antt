@@ -2,3 +2,5 @@ mod OneByOne
 mod Live
 pub mod OneNode
 mod Either
+mod Uneven
+mod NoRanges

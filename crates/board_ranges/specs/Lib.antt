@@ -3,3 +3,4 @@ pub mod Windows
 pub mod Properties
 pub mod MachineDevices
 pub mod Meaning
+pub mod Refusals

@@ -3,6 +3,7 @@
 ghost use Rattle.std.specs.Prelude.{◌≡◌, ◌+◌, ◌≤◌, ◌<◌, ◌++◌, ◌∷◌, ℕ, List, [], IfSome, MatchOption, drop, length, map};
 ghost use Rattle.device_tree.specs.Pieces.{Part, Setting, begins, ends, has, part_of, parts_of};
 ghost use Rattle.device_tree.specs.Nodes.{BeginsNoNode, HasNoProperty};
+ghost use Rattle.device_tree.specs.declared.pieces.PlacedPiece.{PlacedPiece};
 
 use device_tree::{Piece, PlacedPiece};
 
@@ -18,6 +19,7 @@ pub struct Head<'a> {
 /// What is behind that many pieces, which are there.
 fn after<'a>(pieces: &'a [PlacedPiece<'a>], n: usize) -> &'a [PlacedPiece<'a>]
     requires { n ≤ length pieces.now }
+    ensures pieces { result.now ≡ drop n pieces.now }
     ensures parts { parts_of result.now ≡ drop n (parts_of pieces.now) }
     ensures len { n + length result.now ≡ length pieces.now }
 {
@@ -70,6 +72,7 @@ fn split_properties<'a>(
         × (parts_of pieces.now ≡ map has properties ++ parts_of result.1.now)
         × (parts_of result.0.now ≡ map has properties) }
     ensures no_more { HasNoProperty (parts_of result.1.now) }
+    ensures pieces { pieces.now ≡ result.0.now ++ result.1.now }
     ensures len { length result.1.now ≤ length pieces.now }
 {
     let count = properties_len(pieces);
@@ -84,6 +87,9 @@ pub fn head_of<'a>(pieces: &'a [PlacedPiece<'a>]) -> Option<Head<'a>>
         ≡ begins head.name.now ∷ (map has properties ++ parts_of head.inner.now))
         × (parts_of head.properties.now ≡ map has properties)
         × HasNoProperty (parts_of head.inner.now)) }
+    ensures pieces { IfSome result (λ head. (first : PlacedPiece)
+        × (pieces.now ≡ first ∷ (head.properties.now ++ head.inner.now))
+        × (first.offset ≡ head.offset)) }
     ensures shorter { IfSome result (λ head. length head.inner.now < length pieces.now) }
 {
     let (first, later) = pieces.split_first()?;
@@ -103,6 +109,7 @@ pub fn head_of<'a>(pieces: &'a [PlacedPiece<'a>]) -> Option<Head<'a>>
 pub fn after_end<'a>(pieces: &'a [PlacedPiece<'a>]) -> &'a [PlacedPiece<'a>]
     ensures parts { (later : List Part) → parts_of pieces.now ≡ ends ∷ later
         → parts_of result.now ≡ later }
+    ensures pieces { (before : List PlacedPiece) × (pieces.now ≡ before ++ result.now) }
     ensures len { length result.now ≤ length pieces.now }
 {
     if pieces.is_empty() {

@@ -1,10 +1,11 @@
 //! What the properties of a node say to its children.
 
-ghost use Rattle.std.specs.Prelude.{◌≡◌, ◌≤◌, Option, IfOk, codes};
+ghost use Rattle.std.specs.Prelude.{◌≡◌, ◌≤◌, Option, IfErr, IfOk, codes};
 ghost use Rattle.device_tree.specs.Pieces.{parts_of};
 ghost use Rattle.board_ranges.specs.Windows.{Path, path_of};
 ghost use Rattle.board_ranges.specs.Properties.{value_in};
 ghost use Rattle.board_ranges.specs.Meaning.{AreCells, IsInnerWay, inner_place, path_or};
+ghost use Rattle.board_ranges.specs.Refusals.{IsNodeFault};
 
 use crate::cells::Cells;
 use crate::fault::BoardReason;
@@ -34,12 +35,14 @@ pub fn inner_of<'a>(
     place: Place,
     bus: (&Cells, &Way),
 ) -> Result<Inner, BoardReason>
-    ensures { IfOk result (λ inner. (found : Option Path)
+    ensures ok { IfOk result (λ inner. (found : Option Path)
         × AreCells (parts_of properties.now) inner.cells
         × IsInnerWay (value_in (codes "ranges") (parts_of properties.now)) inner.cells
         bus.entry.0.now.address (path_of bus.entry.1.now) found
         × (inner.place ≡ inner_place place name.now (parts_of properties.now) found)
         × (path_of inner.way ≡ path_or found)) }
+    ensures refused { IfErr result
+        (IsNodeFault place bus.entry.0.now (parts_of properties.now)) }
 {
     let Some(cells) = cells_of(properties) else {
         return Err(BoardReason::BadCells);

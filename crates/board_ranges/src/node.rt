@@ -1,8 +1,9 @@
 //! What one node says: its own ranges, and how the addresses of its children come to the root.
 
-ghost use Rattle.std.specs.Prelude.{◌≡◌, ◌≤◌, ◌++◌, ℕ, List, Some, IfOk, OnOk, option_map};
+ghost use Rattle.std.specs.Prelude.{◌≡◌, ◌≤◌, ◌++◌, ℕ, List, Some, IfErr, IfOk, OnOk, option_map};
 ghost use Rattle.board_ranges.specs.Windows.{path_of};
 ghost use Rattle.board_ranges.specs.Meaning.{AreOwn, IsInnerWay, Range, place_by, said_of};
+ghost use Rattle.board_ranges.specs.Refusals.{IsOwnFault, IsRowFault, IsWayFault};
 
 use crate::cells::Cells;
 use crate::kinds::{Kind, Place};
@@ -19,10 +20,11 @@ fn note_registers<'a>(
     node: (Kind, &'a [u8], usize),
     found: &mut Vec<Found<'a>>,
 ) -> Result<(), RowFault>
-    ensures { OnOk result ((ranges : List Range)
+    ensures noted { OnOk result ((ranges : List Range)
         × AreOwn (Some node.entry.0) (Some reg.now) bus.entry.0.now
         (path_of bus.entry.1.now) node.entry.1.now ranges
         × (said_of found.new.items ≡ said_of found.old.items ++ ranges)) }
+    ensures refused { IfErr result (IsRowFault bus.entry.0.now reg.now) }
 {
     let (cells, way) = bus;
     let rows = match rows_of(alloc, reg, cells) {
@@ -40,10 +42,12 @@ pub(crate) fn note_own<'a>(
     node: (Option<Kind>, &'a [u8], usize),
     found: &mut Vec<Found<'a>>,
 ) -> Result<(), RowFault>
-    ensures { OnOk result ((ranges : List Range)
+    ensures noted { OnOk result ((ranges : List Range)
         × AreOwn node.entry.0 (option_map (λ bytes. bytes.now) reg.entry) bus.entry.0.now
         (path_of bus.entry.1.now) node.entry.1.now ranges
         × (said_of found.new.items ≡ said_of found.old.items ++ ranges)) }
+    ensures refused { IfErr result (IsOwnFault node.entry.0
+        (option_map (λ bytes. bytes.now) reg.entry) bus.entry.0.now) }
 {
     let (kind, name, offset) = node;
     let Some(kind) = kind else {
@@ -64,8 +68,11 @@ pub(crate) fn inner_way(
     way: &Way,
 ) -> Result<Option<Way>, RowFault>
     requires { outer ≤ 4 }
-    ensures { IfOk result (λ found. IsInnerWay (option_map (λ bytes. bytes.now) ranges.entry)
-        inner.now outer (path_of way.now) (option_map path_of found)) }
+    ensures found { IfOk result (λ found.
+        IsInnerWay (option_map (λ bytes. bytes.now) ranges.entry) inner.now outer
+        (path_of way.now) (option_map path_of found)) }
+    ensures refused { IfErr result (IsWayFault (option_map (λ bytes. bytes.now) ranges.entry)
+        inner.now outer) }
 {
     let Some(ranges) = ranges else {
         return Ok(None);

@@ -1,11 +1,13 @@
 //! The ranges of memory and devices that a tree says.
 
-ghost use Rattle.std.specs.Prelude.{◌≡◌, ◌≤◌, ◌++◌, List, IfOk, OnOk, codes, length};
+ghost use Rattle.std.specs.Prelude.{◌≡◌, ◌≤◌, ◌++◌, List, IfErr, IfOk, OnOk, codes, length};
 ghost use Rattle.device_tree.specs.Pieces.{Part, parts_of};
 ghost use Rattle.device_tree.specs.Nodes.{BeginsNoNode, Nodes, Tree, parts_of_nodes, parts_of_tree};
 ghost use Rattle.board_ranges.specs.Windows.{path_of};
 ghost use Rattle.board_ranges.specs.Properties.{value_in};
 ghost use Rattle.board_ranges.specs.Meaning.{AreOwn, Range, Say, TreeSays, live_kind, said_of};
+ghost use Rattle.board_ranges.specs.Refusals.{BeginAt, IsBoardFault, IsNodeFault, SayNone};
+ghost use Rattle.device_tree.specs.declared.pieces.PlacedPiece.{PlacedPiece};
 
 use crate::cells::Cells;
 use crate::fault::{BoardFault, BoardReason};
@@ -28,11 +30,13 @@ fn note_head<'a>(
     bus: (&Cells, &Way),
     found: &mut Vec<Found<'a>>,
 ) -> Result<(), RowFault>
-    ensures { OnOk result ((own : List Range)
+    ensures noted { OnOk result ((own : List Range)
         × AreOwn (live_kind place (parts_of head.now.properties.now))
         (value_in (codes "reg") (parts_of head.now.properties.now))
         bus.entry.0.now (path_of bus.entry.1.now) head.now.name.now own
         × (said_of found.new.items ≡ said_of found.old.items ++ own)) }
+    ensures refused { IfErr result (λ fault. IsNodeFault place bus.entry.0.now
+        (parts_of head.now.properties.now) (BoardReason.BadRows fault)) }
 {
     let reg = value_of(head.properties, b"reg".as_slice());
     let node = (kind_of(place, head.properties), head.name, head.offset);
@@ -54,6 +58,13 @@ fn note_nodes<'a>(
         × (ranges : List Range)
         × Say place bus.entry.0.now (path_of bus.entry.1.now) nodes ranges
         × (said_of found.new.items ≡ said_of found.old.items ++ ranges)) }
+    ensures behind { IfOk result (λ rest. (before : List PlacedPiece)
+        × (pieces.now ≡ before ++ rest.now)) }
+    ensures refused { IfErr result (λ fault. (nodes : Nodes) (behind : List Part)
+        → parts_of pieces.now ≡ parts_of_nodes nodes ++ behind → BeginsNoNode behind
+        → (from : List Part)
+        × SayNone place bus.entry.0.now (path_of bus.entry.1.now) nodes from fault.reason
+        × BeginAt pieces.now (from ++ behind) fault.offset) }
 {
     let mut rest = pieces;
     'nodes: loop {
@@ -95,6 +106,8 @@ pub fn ranges_of<'a>(
 ) -> Result<Vec<Found<'a>>, BoardFault>
     ensures ok { IfOk result (λ found. (tree : Tree) → parts_of pieces.now ≡ parts_of_tree tree
         → TreeSays tree (said_of found.items)) }
+    ensures refused { IfErr result (λ fault. (tree : Tree)
+        → parts_of pieces.now ≡ parts_of_tree tree → IsBoardFault pieces.now tree fault) }
 {
     let mut found = Vec::new(alloc);
     let Some(root) = head_of(pieces) else {

@@ -1,11 +1,12 @@
 //! The ranges that a node's own registers are.
 
-ghost use Rattle.std.specs.Prelude.{◌≡◌, ◌<◌, ◌≤◌, ◌++◌, ℕ, List, Option, IfOk, IfSome, OnOk, option_map, codes, map};
+ghost use Rattle.std.specs.Prelude.{◌≡◌, ◌<◌, ◌≤◌, ◌++◌, ℕ, List, Option, IfErr, MatchOption, OnOk, option_map, codes, map};
 ghost use Rattle.std.specs.List.{filter_map};
 ghost use Rattle.device_tree.specs.Pieces.{parts_of};
 ghost use Rattle.board_ranges.specs.Cells.{AreRows};
 ghost use Rattle.board_ranges.specs.Windows.{path_of};
 ghost use Rattle.board_ranges.specs.Properties.{value_in};
+ghost use Rattle.board_ranges.specs.Refusals.{HasNoCells};
 ghost use Rattle.board_ranges.specs.Meaning.{AreCells, AreOwn, IsInnerWay, as_ranges, Range, device_by, has_type, is_there, is_value, kind_by, kind_of, live_kind, range_of, said_of};
 
 use crate::cells::Cells;
@@ -127,7 +128,8 @@ pub fn is_hart<'a>(properties: &'a [PlacedPiece<'a>]) -> bool
 
 /// The cells that a node gives its children, where they are numbers up to four.
 pub fn cells_of<'a>(properties: &'a [PlacedPiece<'a>]) -> Option<Cells>
-    ensures { IfSome result (AreCells (parts_of properties.now)) }
+    ensures { MatchOption result (HasNoCells (parts_of properties.now))
+        (AreCells (parts_of properties.now)) }
 {
     let address = cells_in(value_of(properties, b"#address-cells".as_slice()), 2)?;
     let size = cells_in(value_of(properties, b"#size-cells".as_slice()), 1)?;
@@ -141,8 +143,9 @@ fn note_row<'a>(
     node: (Kind, &'a [u8], usize),
     found: &mut Vec<Found<'a>>,
 ) -> Result<(), RowFault>
-    ensures { OnOk result (said_of found.new.items ≡ said_of found.old.items
+    ensures noted { OnOk result (said_of found.new.items ≡ said_of found.old.items
         ++ as_ranges (range_of (path_of way.now) node.entry.0 node.entry.1.now row)) }
+    ensures refused { IfErr result (λ fault. fault ≡ RowFault.Memory) }
 {
     let Some(extent) = way.at_root(row) else {
         return Ok(());
@@ -167,8 +170,9 @@ pub(crate) fn note_rows<'a>(
     node: (Kind, &'a [u8], usize),
     found: &mut Vec<Found<'a>>,
 ) -> Result<(), RowFault>
-    ensures { OnOk result (said_of found.new.items ≡ said_of found.old.items
+    ensures noted { OnOk result (said_of found.new.items ≡ said_of found.old.items
         ++ filter_map (range_of (path_of way.now) node.entry.0 node.entry.1.now) rows.now) }
+    ensures refused { IfErr result (λ fault. fault ≡ RowFault.Memory) }
 {
     for row in rows {
         match note_row(*row, way, node, found) {

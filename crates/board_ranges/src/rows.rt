@@ -2,7 +2,7 @@
 
 ghost use Rattle.std.specs.Prelude.{◌≡◌, ◌≢◌, ◌+◌, ◌*◌, ◌<◌, ◌≤◌, ◌^◌, ℕ, List, IfErr, IfOk, MatchOption, MatchResult, length, drop};
 ghost use Rattle.board_ranges.specs.Cells.{AreRows, number_of, row_len};
-ghost use Rattle.board_ranges.specs.declared.rows.Extent.{Extent};
+ghost use Rattle.board_ranges.specs.Refusals.{IsLargeRow, IsRowFault};
 
 use crate::bytes::{after, number_of};
 use crate::cells::Cells;
@@ -29,10 +29,8 @@ pub enum RowFault {
 /// The row in front.
 fn row_in(bytes: &[u8], cells: &Cells) -> Option<Extent>
     requires { row_len cells.now ≤ length bytes.now }
-    ensures { MatchOption result ((first : Extent) → first.base < 2 ^ 64 → first.size < 2 ^ 64
-        → first.base ≡ number_of cells.now.address bytes.now
-        → first.size ≡ number_of cells.now.size (drop (4 * cells.now.address) bytes.now) → ⊥)
-        (λ first. (first.base ≡ number_of cells.now.address bytes.now)
+    ensures { MatchOption result (IsLargeRow cells.now bytes.now) (λ first.
+        (first.base ≡ number_of cells.now.address bytes.now)
         × (first.size ≡ number_of cells.now.size (drop (4 * cells.now.address) bytes.now))) }
 {
     let base = number_of(bytes, cells.address)?;
@@ -43,6 +41,7 @@ fn row_in(bytes: &[u8], cells: &Cells) -> Option<Extent>
 /// The rows of a property.
 pub fn rows_of(alloc: Global, bytes: &[u8], cells: &Cells) -> Result<Vec<Extent>, RowFault>
     ensures ok { IfOk result (λ rows. AreRows cells.now bytes.now rows.items) }
+    ensures refused { IfErr result (IsRowFault cells.now bytes.now) }
 {
     let mut rows = Vec::new(alloc);
     let len = cells.row_len();

@@ -1,8 +1,9 @@
 //! How a bus hands addresses on to the root.
 
-ghost use Rattle.std.specs.Prelude.{◌≡◌, ◌+◌, ◌*◌, ◌<◌, ◌≤◌, ◌^◌, ℕ, List, [], ◌∷◌, ◌++◌, IfOk, IfSome, MatchOption, OnOk, length, drop};
+ghost use Rattle.std.specs.Prelude.{◌≡◌, ◌+◌, ◌*◌, ◌<◌, ◌≤◌, ◌^◌, ℕ, List, [], ◌∷◌, ◌++◌, ⊤, IfErr, IfOk, IfSome, MatchOption, OnOk, length, drop};
 ghost use Rattle.board_ranges.specs.declared.ways.Window.{Window};
 ghost use Rattle.board_ranges.specs.Cells.{number_of};
+ghost use Rattle.board_ranges.specs.Refusals.{IsLargeWindow, IsWindowFault};
 ghost use Rattle.board_ranges.specs.Windows.{AreWindows, as_list, at_root, behind_way, carried, is_inside, path_of, shown, through, window_len};
 
 use crate::bytes::{after, number_of};
@@ -76,6 +77,7 @@ fn window_in(bytes: &[u8], cells: &Cells, outer: usize) -> Option<Window>
         w.parent ≡ number_of outer (drop (4 * cells.now.address) bytes.now)) }
     ensures size { IfSome result (λ w.
         w.size ≡ number_of cells.now.size (drop (4 * (cells.now.address + outer)) bytes.now)) }
+    ensures large { MatchOption result (IsLargeWindow cells.now outer bytes.now) (λ _. ⊤) }
 {
     let child = number_of(bytes, cells.address)?;
     let parent = number_of(after(bytes, 4 * cells.address), outer)?;
@@ -104,7 +106,8 @@ fn carried(way: &Way, window: Window) -> Option<Window>
 
 /// Keeps the window, if there is one.
 fn keep(windows: &mut Vec<Window>, window: Option<Window>) -> Result<(), RowFault>
-    ensures { OnOk result (windows.new.items ≡ windows.old.items ++ as_list window) }
+    ensures kept { OnOk result (windows.new.items ≡ windows.old.items ++ as_list window) }
+    ensures refused { IfErr result (λ fault. fault ≡ RowFault.Memory) }
 {
     let Some(window) = window else {
         return Ok(());
@@ -124,9 +127,10 @@ pub(crate) fn windows_of(
     way: &Way,
 ) -> Result<Vec<Window>, RowFault>
     requires { outer ≤ 4 }
-    ensures { IfOk result (λ seen. (windows : List Window)
+    ensures ok { IfOk result (λ seen. (windows : List Window)
         × AreWindows cells.now outer ranges.now windows
         × (seen.items ≡ behind_way (path_of way.now) windows)) }
+    ensures refused { IfErr result (IsWindowFault cells.now outer ranges.now) }
 {
     let len = 4 * (cells.address + outer + cells.size);
     let mut windows = Vec::new(alloc);
@@ -150,7 +154,8 @@ pub(crate) fn windows_of(
 impl Way {
     /// The same way again.
     pub(crate) fn copied(&self, alloc: Global) -> Result<Way, RowFault>
-        ensures { IfOk result (λ way. path_of way ≡ path_of self.now) }
+        ensures same { IfOk result (λ way. path_of way ≡ path_of self.now) }
+        ensures refused { IfErr result (λ fault. fault ≡ RowFault.Memory) }
     {
         match self {
             Way::Same => Ok(Way::Same),

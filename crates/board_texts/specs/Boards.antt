@@ -1,5 +1,5 @@
 -- A board: what the bytes of its tree say, where the monitor is, and what the text of a map is.
-use Rattle.std.specs.Prelude.{◌≡◌, ◌≢◌, ⊤, ℕ, ◌*◌, Bool, leb, ◌&&◌}
+use Rattle.std.specs.Prelude.{◌≡◌, ◌≢◌, ◌⊎◌, ⊤, ℕ, ◌*◌, Bool, leb, ◌&&◌}
 use Rattle.std.specs.Prelude.{List, [], ◌∷◌, ◌++◌, length, take, bytes_eq, codes}
 use Rattle.pmp_encoding.specs.Perms.{perm_word}
 use Rattle.pmp_encoding.specs.Views.{SameView}
@@ -9,7 +9,9 @@ use Rattle.map_text.specs.MapFile.{Makes}
 use Rattle.device_tree.specs.declared.reservations.Reservation.{Reservation}
 use Rattle.device_tree.specs.Nodes.{Tree}
 use Rattle.device_tree.specs.Trees.{ReadsAs}
+use Rattle.board_ranges.specs.declared.fault.BoardFault.{BoardFault}
 use Rattle.board_ranges.specs.Meaning.{Range, TreeSays}
+use Rattle.board_ranges.specs.Refusals.{HasNoRanges}
 use Rattle.lint_texts.specs.Pieces.{address_text}
 use Rattle.device_tree.specs.declared.fault.TreeFault.{TreeFault}
 use Rattle.device_tree.specs.declared.fault.TreeReason.TheVariants as tree_reasons
@@ -62,11 +64,10 @@ pub record IsBoardMap (ranges : List Range) (reservations : List Reservation) (t
   pub text_is : text ≡ board_map_text ranges reservations runs
   pub made : Makes text runs
 
--- faults of a tree that was read: the numbers of a node, too many ranges, a text that is not read
--- back, and memory
+-- faults of ranges that a tree says: too many of them, a text that is not read back, and memory
 abbrev pub IsLateFault : BoardTextFault → Type 0
 IsLateFault (faults.Tree fault) = ⊥
-IsLateFault (faults.Ranges fault) = ⊤
+IsLateFault (faults.Ranges fault) = ⊥
 IsLateFault faults.TooManyRanges = ⊤
 IsLateFault faults.NoMonitor = ⊥
 IsLateFault (faults.Rule fault) = ⊥
@@ -78,15 +79,18 @@ abbrev pub IsNoTree : List ℕ → TreeFault → Type 0
 IsNoTree bytes fault = fault.reason ≢ tree_reasons.Memory
     → (tree : Tree) (reservations : List Reservation) → ReadsAs bytes tree reservations → ⊥
 
--- when there is no map of a tree
+-- when a tree has no map: it says no ranges, or it is one of those faults
+abbrev pub IsReadFault : Tree → BoardTextFault → Type 0
+IsReadFault tree fault = ((reason : BoardFault) × (fault ≡ faults.Ranges reason)
+    × HasNoRanges tree reason.reason)
+    ⊎ IsLateFault fault
+
+-- when there is no map: the bytes begin with no tree, or the tree has none
 abbrev pub IsNoMap : List ℕ → BoardTextFault → Type 0
-IsNoMap bytes (faults.Tree fault) = IsNoTree bytes fault
-IsNoMap bytes (faults.Ranges fault) = ⊤
-IsNoMap bytes faults.TooManyRanges = ⊤
-IsNoMap bytes faults.NoMonitor = ⊥
-IsNoMap bytes (faults.Rule fault) = ⊥
-IsNoMap bytes faults.NotReadBack = ⊤
-IsNoMap bytes faults.Memory = ⊤
+IsNoMap bytes fault = ((reason : TreeFault) × (fault ≡ faults.Tree reason)
+    × IsNoTree bytes reason)
+    ⊎ ((tree : Tree) × (reservations : List Reservation) × ReadsAs bytes tree reservations
+    × IsReadFault tree fault)
 
 -- the bytes are those of a device tree, and the text is the map of its board
 pub record IsMapOfTree (bytes text : List ℕ) : Type 0 where

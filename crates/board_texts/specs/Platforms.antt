@@ -15,6 +15,7 @@ use Rattle.device_tree.specs.declared.fault.TreeFault.{TreeFault}
 use Rattle.board_ranges.specs.declared.fault.BoardFault.{BoardFault}
 use Rattle.board_ranges.specs.declared.kinds.Kind.TheVariants.{Memory, Device}
 use Rattle.board_ranges.specs.Meaning.{Range, TreeSays}
+use Rattle.board_ranges.specs.Refusals.{HasNoRanges}
 use Rattle.platforms.specs.declared.platform.PlatformFault.{PlatformFault}
 use Rattle.platforms.specs.declared.platform.PlatformFault.TheVariants.{BadHarts}
 use Rattle.platforms.specs.CheckLists.{FailsFirst}
@@ -179,7 +180,8 @@ IsBoardRefusal given ranges faults.Memory = ⊤
 
 -- when a tree is no platform: so are its ranges, or it says none
 abbrev pub IsTreeRefusal : Option (ℕ × ℕ) → Tree → BoardTextFault → Type 0
-IsTreeRefusal given tree fault = ((reason : BoardFault) × (fault ≡ faults.Ranges reason))
+IsTreeRefusal given tree fault = ((reason : BoardFault) × (fault ≡ faults.Ranges reason)
+    × HasNoRanges tree reason.reason)
     ⊎ ((ranges : List Range) × TreeSays tree ranges × IsBoardRefusal given ranges fault)
 
 -- when there is no platform: the bytes begin with no tree, or the tree is none

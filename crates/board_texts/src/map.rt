@@ -7,7 +7,7 @@ ghost use Rattle.device_tree.specs.Pieces.{parts_of};
 ghost use Rattle.device_tree.specs.Nodes.{Tree, parts_of_tree};
 ghost use Rattle.device_tree.specs.Trees.{ReadsAs};
 ghost use Rattle.board_ranges.specs.Meaning.{Range, TreeSays, said_of};
-ghost use Rattle.board_texts.specs.Boards.{IsBoardMap, IsLateFault, IsMapOfTree, IsNoMap, board_map_text, item_text, lines_text, map_head, run_text};
+ghost use Rattle.board_texts.specs.Boards.{IsBoardMap, IsLateFault, IsMapOfTree, IsNoMap, IsReadFault, board_map_text, item_text, lines_text, map_head, run_text};
 ghost use Rattle.board_texts.specs.Comments.{comments_on};
 
 use crate::comments::{push_comments, push_lefts, push_reservations};
@@ -119,7 +119,8 @@ fn map_of_pieces<'a>(
     ensures ok { IfOk result (λ text. (tree : Tree) → parts_of pieces.now ≡ parts_of_tree tree
         → (ranges : List Range) × TreeSays tree ranges
         × IsBoardMap ranges reservations.now text.items) }
-    ensures refused { IfErr result IsLateFault }
+    ensures refused { IfErr result (λ fault. (tree : Tree)
+        → parts_of pieces.now ≡ parts_of_tree tree → IsReadFault tree fault) }
 {
     let found = match ranges_of(alloc, pieces) {
         Ok(found) => found,

@@ -38,8 +38,8 @@ pub data HostNodes (host : Portion) : Place → Cells → Path → Nodes → Nod
   nothing : {place : Place} {cells : Cells} {way : Path}
       → HostNodes host place cells way no_nodes no_nodes
   a_node : {place : Place} {cells : Cells} {way : Path} {name : List ℕ}
-      {properties : List Setting} {children later inside behind : Nodes} (rows : List Extent) (inner : Cells)
-      (found : Option Path)
+      {properties : List Setting} {children later inside behind : Nodes} (rows : List Extent)
+      (inner : Cells) (found : Option Path)
       → AreRegisters (live_kind place (map has properties))
       (value_in (codes "reg") (map has properties)) cells rows
       → AreCells (map has properties) inner
@@ -50,8 +50,8 @@ pub data HostNodes (host : Portion) : Place → Cells → Path → Nodes → Nod
       → HostNodes host place cells way (node name properties children later)
       (node name (node_settings host place way rows properties) inside behind)
 
--- of a node of this name, with these parts as properties, before parts that begin with its children,
--- all was written as the host has it but for its end, and these parts are behind its children
+-- of a node of this name, with these parts as properties, before parts that begin with its
+-- children, all was written as the host has it but for its end, and these parts are behind
 abbrev pub IsChild : Portion → Place → Cells → Path → List ℕ → List Part → List Part → List Part
     → TreeWriter → TreeWriter → Type 0
 IsChild host place cells way name properties inner behind old new = (own : List Setting)

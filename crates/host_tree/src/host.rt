@@ -65,7 +65,8 @@ fn written<'a>(
     free: u32,
 ) -> Result<Vec<u8>, MakeFault>
     ensures { IfOk result (λ out. (board : Tree)
-        → parts_of read.now.pieces.items ≡ parts_of_tree board → (made : Tree) × IsHostTree (portion_of share.now) ranges.now board made
+        → parts_of read.now.pieces.items ≡ parts_of_tree board
+        → (made : Tree) × IsHostTree (portion_of share.now) ranges.now board made
         × SpellsTree out.items made read.now.reservations.items) }
 {
     let mut writer = TreeWriter::new(alloc);

@@ -3,6 +3,7 @@ use Rattle.device_tree.specs.Pieces.{parts_of}
 use Rattle.board_ranges.specs.Windows.{path_of}
 use Rattle.board_ranges.specs.Meaning.{said_of}
 use Rattle.board_ranges.proofs.OneNode.{Reached}
+use Rattle.board_ranges.proofs.NoRanges.{Passed}
 use Rattle.board_ranges.proofs.nodes.+note_nodes.Given as goal
 
 abbrev pub decreases-note_nodes : goal.decreases-note_nodes
@@ -11,6 +12,7 @@ decreases-note_nodes l = length l.pieces.now
 abbrev pub invariant-nodes : goal.invariant-nodes
 invariant-nodes l = record {
   len : length l.rest ≤ length l.pieces;
+  passed : Passed l.place l.bus.0.now (path_of l.bus.1.now) l.pieces l.rest;
   whole : Reached l.place l.bus.0.now (path_of l.bus.1.now) (parts_of l.pieces) (parts_of l.rest) (said_of l.initial.found.items) (said_of l.found.items);
 }
 

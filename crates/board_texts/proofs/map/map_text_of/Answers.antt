@@ -1,4 +1,4 @@
-use Rattle.std.proofs.Common.{◌∙◌, ap}
+use Rattle.std.proofs.Common.{◌∙◌, ap, inl, inr, refl}
 use Rattle.device_tree.specs.Pieces.{parts_of}
 use Rattle.board_texts.proofs.map.map_text_of.Goals as goal
 
@@ -12,3 +12,16 @@ returns-in-Ok-map_of_pieces-clause-ok c =
       board = record { tree = read.0; read = read.1; says = said.1 };
       map = rw c.as_slice-2.ensures.value at said.2;
     }
+
+pub returns-in-Err-clause-refused : goal.returns-in-Err-clause-refused
+returns-in-Err-clause-refused c = inl (c.in-Err.fault, refl, c.in-Err.ensures.refused)
+
+pub returns-clause-refused : goal.returns-clause-refused
+returns-clause-refused c =
+    let read = c.in-Ok.ensures.ok in
+    inr (
+      read.0,
+      c.in-Ok.tree.reservations.items,
+      read.1,
+      c.in-Err-map_of_pieces.ensures.refused read.0 (ap parts_of c.as_slice.ensures.value ∙ read.2),
+    )

@@ -9,7 +9,7 @@ pub returns-in-Ok-put_nodes : goal.returns-in-Ok-put_nodes
 returns-in-Ok-put_nodes c =
     let head = c.args.head.now in
     let own = c.in_ok-put_head.ensures in
-    let inner = c.in-Ok.ensures in
+    let inner = c.in-Ok.ensures.ok in
     record {
       len = c.in-Ok-put_nodes.ensures.len;
       ok = child (portion_of c.args.share.now) BelowRoot c.args.cells.now same head.name.now (parts_of head.properties.now) (parts_of head.inner.now)
