@@ -1,23 +1,28 @@
 #!/usr/bin/env python3
-"""The map and the platform of device trees: of QEMU's boards, of trees written here, and of trees that were changed or cut.
+"""The map and the platform of device trees, as the program prints them: of QEMU's boards, of trees written here, and of trees
+that were changed or cut.
 
-  tests/board_trees/run.py
+  tests/board_trees/run.py PROGRAM
 
-No command prints them yet, so a program of its own does (`main.txt`: the kit takes a .rt file in src/ alone), which is built without proof in half a minute: this is a test
-of what the texts say, and the proof is one of what they mean. Trees written here have each case in which a tree does not say what
-a map wants to know; what has to come of them is written beside them, by docs/DECISIONS.md, 392 to 397. Of QEMU's trees the
-registers of each node are asked of fdtget, and rounded here. Of one tree of each board 100,000 copies with up to four bytes
-changed are read: each gives a text that reads back, or a reason. It wants dtc and fdtget, and for the boards QEMU; on Debian:
+Trees written here have each case in which a tree does not say what a map wants to know; what has to come of them is written
+beside them, by docs/DECISIONS.md, 392 to 397. Of QEMU's trees the registers of each node are asked of fdtget, and rounded here.
+Of one tree of each board 5,000 copies with up to four bytes changed are read by both commands, each of which prints a text that
+reads back, or a reason. What is printed is taken as it is: a map by plan, a platform by lint and by run with the trace of an
+example. It wants dtc and fdtget, and for the boards QEMU; on Debian:
 
   apt-get install --no-install-recommends qemu-system-misc device-tree-compiler
 
 Where one of them is missing it says so. The last line that is printed is 'N passed, M failed'.
 """
+import os
+import random
 import re
 import shutil
 import subprocess
 import sys
 import tempfile
+from collections import Counter
+from concurrent.futures import ThreadPoolExecutor
 from pathlib import Path
 
 HERE = Path(__file__).resolve().parent
@@ -28,48 +33,46 @@ from counting import Count  # noqa: E402
 from trees import DEEP, TREES  # noqa: E402
 
 PAGE = 4096
-MONITOR = ["2147483648", "524288"]
+MONITOR = ["0x80000000", "0x80000"]
+COPIES = 5000
 
 
-def crates_below(name):
-    """The crate and those of the repository that it stands on."""
-    lines = (line.split("#")[0].partition(":") for line in (TOP / "crates.txt").read_text().splitlines())
-    stands = {name.split()[0]: on.split() for name, _, on in lines if name.strip()}
-    found, left = set(), [name]
-    while left:
-        one = left.pop()
-        if one in stands and one not in found:
-            found.add(one)
-            left += stands[one]
-    return found, stands
+def pmpmon(*words, given=None):
+    """What the program does: its status, what it prints, and what it says."""
+    done = subprocess.run([sys.argv[1], *words], input=given, capture_output=True, timeout=60)
+    return done.returncode, done.stdout.decode(), done.stderr.decode()
 
 
-def build(folder):
-    """Builds the program in a repository of its own, without proof."""
-    found, stands = crates_below("board_texts")
-    for name in found:
-        shutil.copytree(TOP / "crates" / name, folder / "crates" / name, ignore=shutil.ignore_patterns("out", "must-fail"))
-    lines = [f"{name}: {' '.join(stands[name])}" for name in found]
-    (folder / "crates.txt").write_text("\n".join([*lines, "board_trees: board_texts"]) + "\n")
-    shutil.copy(TOP / "HANDLES", folder)
-    (folder / "crates/board_trees/src").mkdir(parents=True)
-    shutil.copy(HERE / "main.txt", folder / "crates/board_trees/src/main.rt")
-    program = folder / "board_trees"
-    subprocess.run([TOP / "tools/unproved_program", program, folder / "crates/board_trees"], check=True, capture_output=True)
-    return program
+def map_of(tree):
+    return pmpmon("map", tree)
 
 
-def written(count, program, folder):
+def platform_of(tree, monitor):
+    return pmpmon("platform", tree, *(["--monitor", *monitor] if monitor else []))
+
+
+def compiled(source, folder):
+    """The tree of a source, by dtc."""
+    (folder / "tree.dts").write_text(source)
+    subprocess.run(["dtc", "-q", "-I", "dts", "-O", "dtb", "-o", folder / "tree.dtb", folder / "tree.dts"], check=True)
+    return folder / "tree.dtb"
+
+
+def reason(tree, said):
+    """Why there is no text, which is said after the name of the tree."""
+    before = f"pmpmon: {tree}: "
+    return said[len(before):-1] if said.startswith(before) and said.endswith("\n") else None
+
+
+def written(count, folder):
     """Trees written here: lines that have to come, in their order, with nothing of the same kind beside them."""
     for name, (source, given, wanted) in TREES.items():
-        (folder / "tree.dts").write_text(source)
-        subprocess.run(["dtc", "-q", "-I", "dts", "-O", "dtb", "-o", folder / "tree.dtb", folder / "tree.dts"], check=True)
-        done = subprocess.run([program, folder / "tree.dtb", *given], capture_output=True, text=True, timeout=60, check=True)
-        lines = [line for line in done.stdout.splitlines() if not line.startswith(("# The ", "# not in use", "# /reserved", "# A dev", "# table"))]
-        lines = lines[lines.index("----") + 1:] if wanted[0].startswith("harts") else lines[:lines.index("----")]
-        if len(wanted) == 1 and not wanted[0].startswith(("0x", "#", "harts")):
-            lines = done.stdout.splitlines()[-1:]
-        count.note([it for it in lines if it] == wanted, name, "\n".join(lines))
+        tree = compiled(source, folder)
+        is_platform = wanted[0].startswith("harts") or not wanted[0].startswith(("0x", "#"))
+        status, text, said = platform_of(tree, given) if is_platform else map_of(tree)
+        lines = [line for line in text.splitlines() if line and not line.startswith(("# The ", "# not in use", "# /reserved", "# A dev", "# table"))]
+        right = lines == wanted and status == 0 if text else [reason(tree, said)] == wanted and status == 2
+        count.note(right, name, text + said)
 
 
 def numbers(tree, node, name):
@@ -107,47 +110,96 @@ def expected(tree):
     return joined(pages)
 
 
-def boards(count, program, folder):
-    """QEMU's boards with one to five harts, and changed copies of the tree of one."""
+def board(count, machine, harts, folder):
+    """One board of QEMU: what its texts have, against its tree."""
+    tree = folder / f"{machine}.dtb"
+    command = ["qemu-system-riscv64", "-machine", f"{machine},dumpdtb={tree}", "-smp", str(harts), "-display", "none"]
+    subprocess.run(command, check=True, capture_output=True)
+    name = f"{machine}, {harts} harts"
+    lines = map_of(tree)[1].splitlines()
+    devices = [line[:-3] for line in lines if line.startswith("0x") and line.endswith(" rw")]
+    memory = [line for line in lines if line.endswith(" rwx")]
+    count.note(devices == expected(tree), f"{name}: each device in whole pages", str(devices))
+    count.note(memory == ["0x80000000 0x8000000 rwx"], f"{name}: memory", str(memory))
+    text = platform_of(tree, MONITOR)[1]
+    count.note(f"harts = {min(harts, 4)} # the tree has {harts} in use" in text.splitlines(), f"{name}: harts")
+    ranges = re.findall(r"\[\[device\]\]\nbase = (\S+)\nsize = (\S+)\nperm = \"rw\"", text)
+    count.note([" ".join(it) for it in ranges] == devices, f"{name}: the platform has the same devices")
+    return tree
+
+
+def taken(count, machine, tree, folder):
+    """The texts of a board, as they are printed: the map by plan, the platform by lint and by run."""
+    text = map_of(tree)[1]
+    status, out, said = pmpmon("plan", "-", given=text.encode())
+    count.note(status == 0 and re.match(r"entries \d+\n", out), f"{machine}: plan takes the map", out + said)
+    status, out, said = pmpmon("lint", "-", given=text.encode())
+    count.note(status == 0 and not said, f"{machine}: lint finds no fault in the map", out + said)
+    file = folder / f"{machine}.toml"
+    file.write_text(platform_of(tree, MONITOR)[1])
+    status, out, said = pmpmon("lint", file)
+    count.note(status == 0 and not said, f"{machine}: lint finds no fault in the platform", out + said)
+    status, out, said = pmpmon("run", file, TOP / "examples/first-run.trace")
+    count.note(status == 0 and out.startswith("1 ") and not said, f"{machine}: run takes the platform", out + said)
+
+
+def came_of(done):
+    """What came of a command: a text, a reason at a byte, or what should not come."""
+    status, text, said = done
+    if status == 0 and text and not said:
+        return "text"
+    fits = re.fullmatch(r"pmpmon: [^:]+: [^:\n]+\n", said) and "not read back" not in said
+    return "reason" if status == 2 and not text and fits else f"{status} {text[:200]} {said}"
+
+
+def changed(count, machine, whole, folder):
+    """Copies of a tree, of each of which up to four bytes are others; where the first four are, it may be no tree."""
+    random.seed(2026)
+
+    def one(number):
+        copy = bytearray(whole)
+        for at in places[number]:
+            copy[at[0]] = copy[at[0]] ^ 1 << at[1] if at[2] else at[3]
+        tree = folder / f"copy-{machine}-{number}.dtb"
+        tree.write_bytes(copy)
+        came = came_of(map_of(tree)), came_of(platform_of(tree, MONITOR))
+        tree.unlink()
+        return came
+
+    places = [[(random.randrange(4, len(whole)), random.randrange(8), random.randrange(3), random.randrange(256))
+               for _ in range(1 + number % 4)] for number in range(COPIES)]
+    with ThreadPoolExecutor(os.cpu_count()) as pool:
+        came = list(pool.map(one, range(COPIES)))
+    maps, platforms = (Counter(it) for it in zip(*came))
+    right = set(maps) | set(platforms) <= {"text", "reason"}
+    count.note(right, f"{machine}: {COPIES} changed copies: {maps['text']} maps, {platforms['text']} platforms", f"{maps} {platforms}"[:2000])
+
+
+def boards(count, folder):
+    """QEMU's boards with one to five harts, their texts, and changed copies of the tree of one."""
     for machine in ("virt", "sifive_u"):
         for harts in range(1 + (machine == "sifive_u"), 6):
-            tree = folder / f"{machine}.dtb"
-            command = ["qemu-system-riscv64", "-machine", f"{machine},dumpdtb={tree}", "-smp", str(harts), "-display", "none"]
-            subprocess.run(command, check=True, capture_output=True)
-            done = subprocess.run([program, tree, *MONITOR], capture_output=True, text=True, timeout=60, check=True)
-            lines = done.stdout.splitlines()
-            devices = [line[:-3] for line in lines if line.startswith("0x") and line.endswith(" rw")]
-            memory = [line for line in lines if line.endswith(" rwx")]
-            count.note(devices == expected(tree), f"{machine}, {harts} harts: each device in whole pages", str(devices))
-            count.note(memory == ["0x80000000 0x8000000 rwx"], f"{machine}, {harts} harts: memory", str(memory))
-            count.note(f"harts = {min(harts, 4)} # the tree has {harts} in use" in lines, f"{machine}, {harts} harts: harts")
-            tables = done.stdout.split("----\n")[1]
-            ranges = re.findall(r"\[\[device\]\]\nbase = (\S+)\nsize = (\S+)\nperm = \"rw\"", tables)
-            count.note([" ".join(it) for it in ranges] == devices, f"{machine}, {harts} harts: the platform has the same devices")
+            tree = board(count, machine, harts, folder)
+        taken(count, machine, tree, folder)
         bytes_of = tree.read_bytes()
-        tree.write_bytes(bytes_of[:int.from_bytes(bytes_of[4:8], "big")])
-        done = subprocess.run([program, tree, *MONITOR, "change"], capture_output=True, text=True, timeout=300)
-        right = re.fullmatch(r"100000 trees: \d+ maps, \d+ platforms, 0 not read back\n", done.stdout)
-        count.note(done.returncode == 0 and right, f"{machine}: changed copies: {done.stdout.strip()}", done.stderr[-200:])
+        changed(count, machine, bytes_of[:int.from_bytes(bytes_of[4:8], "big")], folder)
 
 
-def spoilt(count, program, folder):
+def spoilt(count, folder):
     """Trees that are cut at each byte, and one that is too deep."""
-    whole = (folder / "tree.dtb").read_bytes()
+    whole = compiled(list(TREES.values())[-1][0], folder).read_bytes()
     cut, wrong = folder / "cut.dtb", []
     for size in range(len(whole)):
         cut.write_bytes(whole[:size])
-        done = subprocess.run([program, cut], capture_output=True, text=True, timeout=60)
-        said = re.match(r"[a-z0-9 ]+, at byte (\d+)\n----\n", done.stdout)
-        if done.returncode or not said or int(said[1]) > max(size, 40):
-            wrong.append((size, done.stdout))
+        status, text, said = platform_of(cut, MONITOR)
+        found = re.fullmatch(r"pmpmon: [^:]+: [a-z0-9 ]+, at byte (\d+)\n", said)
+        if status != 2 or text or not found or int(found[1]) > max(size, 40):
+            wrong.append((size, said))
     count.note(not wrong, f"a tree cut at each of its {len(whole)} bytes: a reason, and a byte", str(wrong[:2]))
     for levels, wanted in ((63, False), (64, True)):
-        (folder / "deep.dts").write_text(DEEP(levels))
-        subprocess.run(["dtc", "-q", "-I", "dts", "-O", "dtb", "-o", folder / "deep.dtb", folder / "deep.dts"], check=True)
-        done = subprocess.run([program, folder / "deep.dtb"], capture_output=True, text=True, timeout=60)
-        deep = done.stdout.startswith("more than 64 nodes are inside one another, at byte ")
-        count.note(deep == wanted, f"{levels} nodes inside one another below the root", done.stdout[:200])
+        tree = compiled(DEEP(levels), folder)
+        deep = (reason(tree, map_of(tree)[2]) or "").startswith("more than 64 nodes are inside one another, at byte ")
+        count.note(deep == wanted, f"{levels} nodes inside one another below the root")
 
 
 def main():
@@ -158,11 +210,10 @@ def main():
         return count.end()
     with tempfile.TemporaryDirectory() as temporary:
         folder = Path(temporary)
-        program = build(folder)
-        written(count, program, folder)
-        spoilt(count, program, folder)
+        written(count, folder)
+        spoilt(count, folder)
         if shutil.which("qemu-system-riscv64"):
-            boards(count, program, folder)
+            boards(count, folder)
         else:
             print("left out: qemu-system-riscv64 is not installed")
     return count.end()

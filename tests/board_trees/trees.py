@@ -105,7 +105,6 @@ TREES = {
         ["# a-name-of-a-device-that-has-33-b..: device 0x6000 0x1000", "0x6000 0x1000 rw", *RAM_LINES]),
     "no monitor": (tree(""), [], ["no node says where the monitor is; give --monitor"]),
     "a monitor beside memory": (tree(""), ["4096", "4096"], ["a page of the monitor is not memory"]),
-    "a monitor of half a page": (tree(""), ["2147483648", "2048"], ["the monitor is no whole pages"]),
     "no hart": (tree("", harts=0), ["2147483648", "4096"], ["the tree has no hart"]),
     "33 devices": (
         tree("".join(node(f"d@{n:x}", (0x2000 * n, 0x1000)) for n in range(33))), ["2147483648", "4096"],

@@ -213,6 +213,7 @@ for kind in 'absent' 'in an absent folder' 'a folder' 'under a plain file' 'a li
     no_file show FILE
     no_file show --registers FILE
     no_file map FILE
+    no_file platform FILE
     no_file lint FILE
     no_file judge FILE trace
     no_file judge --registers FILE trace
@@ -557,6 +558,7 @@ audit --help
 map --help
 lint --help
 measure --help
+platform --help
 
 other
 --other
@@ -586,6 +588,8 @@ run - -
 check - -
 lint --trace - --platform -
 plan map -
+platform
+platform board --monitor 0 1
 run platform trace --measured
 END
 }
@@ -594,7 +598,7 @@ texts >got.texts
 diff "$here/texts" got.texts >got.err
 note $? 'help, the version and the faults of command lines, against tests/files/texts'
 # Each command has its help under three words.
-for name in run plan judge check show audit map lint; do
+for name in run plan judge check show audit map lint measure platform; do
     "$program" $name --help >want.out
     for words in "$name -h" "help $name"; do
         "$program" $words >got.out 2>got.err && cmp -s got.out want.out && [ ! -s got.err ]

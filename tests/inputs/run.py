@@ -130,6 +130,7 @@ LISTINGS = [
 
 # A file of more than 1 MiB, and the line and the beginning of the hint that it has.
 LARGE = (b"#" * 63 + b"\n") * (MIB // 64) + b"\n"
+SOURCE = b"/dts-v1/;\n/ { model = \"a board of a test\"; };\n"
 TOO_LARGE = "pmpmon: map: too large\nhint: map: more than 1048576 bytes; "
 # The line that more than 4096 ranges have, and their hint.
 MANY = "pmpmon: map: too many ranges\n"
@@ -161,7 +162,21 @@ COMMANDS = [
      "run map regs", "", "pmpmon: needs 19 entries\nhint: map: needs 19 entries, at most 16\n", 2),
     ("the same for show", {"map": LARGE}, "show map", "", TOO_LARGE + "a map has at most 1 MiB\n", 2),
     ("the same for lint", {"map": LARGE}, "lint map", "", TOO_LARGE + "a map has at most 1 MiB\n", 2),
-    ("a listing of more than 1 MiB", {"map": LARGE}, "map map", "", TOO_LARGE + "a listing of registers has at most 1 MiB\n", 2),
+    ("a listing of more than 1 MiB", {"map": LARGE}, "map map", "", TOO_LARGE + "a listing of registers or a device tree has at most 1 MiB\n", 2),
+    ("a device tree of more than 1 MiB", {"map": LARGE}, "platform map", "", TOO_LARGE + "a device tree has at most 1 MiB\n", 2),
+    ("the source of a device tree", {"map": SOURCE}, "platform map", "",
+     "pmpmon: map: it does not begin with d0 0d fe ed, at byte 0\n", 2),
+    ("the same for map", {"map": SOURCE}, "map map", "",
+     "pmpmon: map: line 1 is not understood\nhint: map:1:1: the line is not understood; write a register and its value, as 'pmpcfg0 0x1f'\n", 2),
+    ("an empty file for platform", {"map": b""}, "platform map", "", "pmpmon: map: the header is cut, at byte 0\n", 2),
+    ("a cut device tree", {"map": b"\xd0\x0d\xfe\xed\0\0\1\0" + bytes(32)}, "platform map", "",
+     "pmpmon: map: the header says more bytes than there are, at byte 4\n", 2),
+    ("the same for map, which knows it by its beginning", {"map": b"\xd0\x0d\xfe\xed\0\0\1\0" + bytes(32)}, "map map", "",
+     "pmpmon: map: the header says more bytes than there are, at byte 4\n", 2),
+    ("a monitor of no whole pages", {"map": b""}, "platform map --monitor 0x80000000 0x800", "",
+     "error: '--monitor <BASE> <SIZE>' has to be whole pages of 4096 bytes, one at least, and none past 2^56\n", 2),
+    ("a monitor without its size", {"map": b""}, "platform map --monitor 0x80000000", "",
+     "error: 2 values required for '--monitor <BASE> <SIZE>' but 1 was provided\n", 2),
     ("the same for judge", {"map": LARGE, "regs": b"load s 8 0\n"}, "judge --registers map regs", "",
      TOO_LARGE + "a listing of registers has at most 1 MiB\n", 2),
     ("the same for audit", {"regs": b"0 4096 r\n", "map": LARGE}, "audit regs map", "", TOO_LARGE + "a listing of registers has at most 1 MiB\n", 2),

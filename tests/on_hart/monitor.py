@@ -277,6 +277,15 @@ def boards(folder, told):
         told(f"POOL={pool} is refused", right, "" if right else done.stderr)
 
 
+def own_tree(program, folder, told):
+    """The platform that the program makes of the board's own device tree, and a host above the monitor with it."""
+    tree = folder / "virt.dtb"
+    subprocess.run([on_hart_module().QEMU, "-machine", f"virt,dumpdtb={tree}", "-m", "128", "-display", "none"], check=True, capture_output=True)
+    subprocess.run([FIRMWARE / "build", tree, folder / "own"], check=True, env={**os.environ, "PMPMON": program, "IMAGE": "pmpmon-virt.elf"})
+    said = booted(folder / "own/pmpmon-virt.elf", FIRMWARE / "out/host.elf", 1)
+    told("the platform of the board's own device tree boots its host", said == HOST, said if said != HOST else "")
+
+
 # Which devices a host does not reach, of the shipped platform and of the wide one.
 CLOSED = dict.fromkeys(("finisher", "clint", "virtio", "fw_cfg", "flash", "pcie"), 5) | dict.fromkeys(("rtc", "plic", "serial"), 0)
 WIDE = dict.fromkeys(CLOSED, 0) | {"finisher": 5, "clint": 5}
@@ -439,6 +448,7 @@ def monitor(program, told):
         examples(on_hart, program, told)
         trees(folder, told)
         worlds(folder, told)
+        own_tree(program, folder, told)
         lives(on_hart, program, folder, told)
         refused_memory(on_hart, folder, told)
         most_taken(on_hart, folder, told)

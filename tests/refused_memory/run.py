@@ -98,6 +98,9 @@ show --registers faults.txt
 map registers.txt
 map faults.txt
 map boot.log
+map board.dtb
+platform board.dtb
+platform board.dtb --monitor 0x1000 0x1000
 lint map.txt
 lint idle.txt
 lint faults.txt
@@ -415,6 +418,7 @@ def made(program, folder):
     with open(folder / "registers.txt", "wb") as out:
         subprocess.run([program, "plan", "map.txt"], cwd=folder, check=True, stdout=out)
     (folder / "cut.pmpc").write_bytes((folder / "map.pmpc").read_bytes()[:100])
+    (folder / "board.dtb").write_bytes((HERE.parents[1] / "examples/small-board.dtb").read_bytes())
 
 
 def main():

@@ -4,3 +4,4 @@ pub mod Statuses
 pub mod ReasonHints
 pub mod Shown
 pub mod Troubles
+pub mod BoardFaults

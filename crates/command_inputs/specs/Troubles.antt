@@ -1,5 +1,6 @@
 -- What the program says on standard error, and the status that it ends with.
 use Rattle.std.specs.Prelude.{ℕ, List, [], ◌∷◌, ◌++◌, codes, decimal, Result, Ok, Err}
+use Rattle.std.specs.Prelude.{if◌then◌else◌}
 use Rattle.std.specs.Borrow.{Bor}
 use Rattle.text_lines.specs.declared.fault.RunFault.{RunFault}
 use Rattle.text_lines.specs.declared.fault.RunFault.TheVariants as runs
@@ -11,12 +12,16 @@ use Rattle.platforms.specs.declared.boot_fault.BootFault.{BootFault}
 use Rattle.platforms.specs.declared.boot_fault.BootFault.TheVariants as boots
 use Rattle.byte_streams.specs.declared.fault.SourceFault.{SourceFault}
 use Rattle.byte_streams.specs.declared.fault.SourceFault.TheVariants as whole
+use Rattle.board_texts.specs.declared.fault.BoardTextFault.{BoardTextFault}
+use Rattle.board_texts.specs.Faults.{fault_text}
+use Rattle.command_inputs.specs.BoardFaults.{is_of_memory}
 use Rattle.lint_texts.specs.declared.lint_fault.LintFault.{LintFault}
 use Rattle.lint_texts.specs.declared.lint_fault.LintFault.TheVariants as lints
 use Rattle.command_inputs.specs.declared.trouble.Trouble.{Trouble}
 use Rattle.command_inputs.specs.declared.trouble.Trouble.TheVariants.{NotUnderstood, TooManyRanges}
 use Rattle.command_inputs.specs.declared.trouble.Trouble.TheVariants.{TooLarge, NotAPlatform}
 use Rattle.command_inputs.specs.declared.trouble.Trouble.TheVariants.{TooFar, NeedsEntries}
+use Rattle.command_inputs.specs.declared.trouble.Trouble.TheVariants.{NoBoardText, NoRegisters}
 use Rattle.command_inputs.specs.declared.trouble.Trouble.TheVariants.{CannotRead, CannotWrite}
 use Rattle.command_inputs.specs.declared.trouble.Trouble.TheVariants.{Output, Memory}
 use Rattle.command_inputs.specs.Shown.{shown}
@@ -30,6 +35,10 @@ joined (text ∷ texts) = text ++ joined texts
 abbrev pub file_text : List ℕ → List ℕ → List ℕ
 file_text file said = codes "pmpmon: " ++ (shown file ++ said)
 
+-- why there is no text of a board, behind the name of its tree
+abbrev pub board_text : BoardTextFault → List ℕ
+board_text fault = codes ": " ++ (fault_text fault ++ codes "\n")
+
 -- the line for each trouble
 abbrev pub trouble_text : Trouble → List ℕ
 trouble_text (NotUnderstood file line) =
@@ -37,6 +46,9 @@ trouble_text (NotUnderstood file line) =
 trouble_text (TooManyRanges file) = file_text file.now (codes ": too many ranges\n")
 trouble_text (TooLarge file) = file_text file.now (codes ": too large\n")
 trouble_text (NotAPlatform file) = file_text file.now (codes ": not a platform\n")
+trouble_text (NoBoardText file fault) = file_text file.now (board_text fault)
+trouble_text (NoRegisters file) =
+    file_text file.now (codes ": a device tree, and '--mode m' is for registers\n")
 trouble_text (TooFar file) = file_text file.now (codes ": too far: 34 bits\n")
 trouble_text (NeedsEntries needed) = codes "pmpmon: needs " ++ decimal needed ++ codes " entries\n"
 trouble_text (CannotRead file) = file_text file.now (codes ": cannot read\n")
@@ -50,6 +62,8 @@ trouble_status (NotUnderstood file line) = 2
 trouble_status (TooManyRanges file) = 2
 trouble_status (TooLarge file) = 2
 trouble_status (NotAPlatform file) = 2
+trouble_status (NoBoardText file fault) = 2
+trouble_status (NoRegisters file) = 2
 trouble_status (TooFar file) = 2
 trouble_status (NeedsEntries needed) = 2
 trouble_status (CannotRead file) = 3
@@ -86,6 +100,10 @@ run_trouble file runs.Memory = Memory
 abbrev pub text_trouble : Bor (List ℕ) → TextFault → Trouble
 text_trouble file texts.NotAPlatform = NotAPlatform file
 text_trouble file texts.Memory = Memory
+
+-- a fault of the text of a board
+abbrev pub board_trouble : Bor (List ℕ) → BoardTextFault → Trouble
+board_trouble file fault = if is_of_memory fault then Memory else NoBoardText file fault
 
 -- a refusal to boot
 abbrev pub boot_trouble : BootFault → Trouble

@@ -11,7 +11,7 @@
 //! Why a task of the program did not end well: the text for standard error, and the status.
 //!
 //! A [`Trouble`] has the names of the files that were given. For the layer above: `of_source`, `of_map`, `of_run`, `of_text`
-//! and `of_boot` say which trouble a fault is, `print` writes its line, and `status` is the one that the program ends with.
+//! and `of_boot` say which trouble a fault is, as `of_board` does of a device tree's, `print` writes its line, and `status` is the one that the program ends with.
 //! [`print_reason`] writes why a device failed. Names are escaped where they are printed: [`shown`] is a name
 //! without control characters, each byte of which [`push_escaped`] writes, [`ShownName`] one that is lent as a text, and
 //! [`write_shown`] writes one without memory.
@@ -21,6 +21,7 @@
 //! ```
 #![tactic(auto)]
 
+mod board_faults;
 mod inputs;
 mod names;
 mod platform_inputs;

@@ -3,9 +3,11 @@
 ghost use Rattle.std.specs.Prelude.{◌≡◌, ◌++◌, map};
 ghost use Rattle.byte_streams.specs.Writings.{writing, Prints};
 ghost use Rattle.command_inputs.specs.Shown.{shown};
-ghost use Rattle.command_inputs.specs.Troubles.{boot_trouble, file_text, joined, map_trouble, run_trouble, text_trouble, trouble_status, trouble_text, source_trouble};
+ghost use Rattle.command_inputs.specs.Troubles.{board_text, board_trouble, boot_trouble, file_text, joined, map_trouble, run_trouble, text_trouble, trouble_status, trouble_text, source_trouble};
 
+use crate::board_faults::is_of_memory;
 use crate::names::write_shown;
+use board_texts::{BoardTextFault, fault_line};
 use byte_streams::{DeviceFault, Sink, SourceFault, write_whole};
 use itoa::Buffer;
 use lint_texts::LintFault;
@@ -38,6 +40,18 @@ pub enum Trouble<'a> {
     /// The file is no platform.
     NotAPlatform {
         /// The platform file.
+        file: &'a str,
+    },
+    /// No map or platform of a board can be made of the file.
+    NoBoardText {
+        /// The device tree.
+        file: &'a str,
+        /// Why not.
+        fault: BoardTextFault,
+    },
+    /// The file is a device tree, and what machine mode may do is asked of it.
+    NoRegisters {
+        /// The device tree.
         file: &'a str,
     },
     /// The map has a byte beyond what the address registers of a hart reach.
@@ -149,6 +163,16 @@ impl<'a> Trouble<'a> {
         }
     }
 
+    /// What a fault of the text of a board is for the program.
+    pub fn of_board(file: &'a str, fault: BoardTextFault) -> Trouble<'a>
+        ensures { result ≡ board_trouble file.entry fault }
+    {
+        if is_of_memory(&fault) {
+            return Trouble::Memory;
+        }
+        Trouble::NoBoardText { file, fault }
+    }
+
     /// What a refusal to boot is for the program.
     pub fn of_boot(fault: BootFault) -> Trouble<'a>
         ensures { result ≡ boot_trouble fault }
@@ -168,6 +192,8 @@ impl<'a> Trouble<'a> {
             | Trouble::TooManyRanges { .. }
             | Trouble::TooLarge { .. }
             | Trouble::NotAPlatform { .. }
+            | Trouble::NoBoardText { .. }
+            | Trouble::NoRegisters { .. }
             | Trouble::TooFar { .. }
             | Trouble::NeedsEntries { .. } => 2,
             Trouble::CannotRead { .. } | Trouble::CannotWrite { .. } | Trouble::Output => 3,
@@ -191,6 +217,14 @@ impl<'a> Trouble<'a> {
             Trouble::TooManyRanges { file } => about(*file, ": too many ranges\n", err),
             Trouble::TooLarge { file } => about(*file, ": too large\n", err),
             Trouble::NotAPlatform { file } => about(*file, ": not a platform\n", err),
+            Trouble::NoBoardText { file, fault } => about_board(*file, fault, err),
+            Trouble::NoRegisters { file } => {
+                about(
+                    *file,
+                    ": a device tree, and '--mode m' is for registers\n",
+                    err,
+                )
+            }
             Trouble::TooFar { file } => about(*file, ": too far: 34 bits\n", err),
             Trouble::NeedsEntries { needed } => {
                 let number = buffer.format(*needed);
@@ -210,6 +244,26 @@ fn about<E: Sink>(file: &str, said: &str, err: &mut E) -> Result<(), DeviceFault
         (writing E.contents E.failures E.stalls err.old err.new) result }
 {
     write_named(err, "pmpmon: ", file, &[said])
+}
+
+/// Writes why there is no text of a board.
+fn write_reason<E: Sink>(err: &mut E, fault: &BoardTextFault) -> Result<(), DeviceFault>
+    ensures { Prints (board_text fault.now)
+        (writing E.contents E.failures E.stalls err.old err.new) result }
+{
+    write_whole(err, b": ")?;
+    write_whole(err, fault_line(fault).as_slice())?;
+    write_whole(err, b"\n")
+}
+
+/// Writes why there is no text of a board whose tree is that file.
+fn about_board<E: Sink>(file: &str, fault: &BoardTextFault, err: &mut E) -> Result<(), DeviceFault>
+    ensures { Prints (file_text file.now (board_text fault.now))
+        (writing E.contents E.failures E.stalls err.old err.new) result }
+{
+    write_whole(err, b"pmpmon: ")?;
+    write_shown(err, file.as_bytes())?;
+    write_reason(err, fault)
 }
 
 /// Writes a text, a name as it is shown, and texts one after another.

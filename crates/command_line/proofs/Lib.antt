@@ -3,3 +3,4 @@ mod Entered
 mod Given
 pub mod Named
 mod Program
+mod Seconds

@@ -5,7 +5,7 @@ use Rattle.std.specs.List.{find}
 use Rattle.std.specs.Str.{bytes_eq}
 use Rattle.clap.specs.Words.{Shape}
 use Rattle.program_tasks.specs.declared.task.Subcommand.{Subcommand}
-use Rattle.program_tasks.specs.declared.task.Subcommand.TheVariants.{Audit, Check, Judge, Lint, Map, Measure, Plan, Run, Show}
+use Rattle.program_tasks.specs.declared.task.Subcommand.TheVariants.{Audit, Check, Judge, Lint, Map, Measure, Plan, Platform, Run, Show}
 use Rattle.program_tasks.specs.Subcommands.{Text, subcommand_word}
 use Rattle.command_line.specs.ClapModel.{app_by}
 use Rattle.command_line.specs.CommandLine.{app_alone, app_named, program_app}
@@ -21,6 +21,7 @@ named Audit = refl
 named Map = refl
 named Lint = refl
 named Measure = refl
+named Platform = refl
 
 not_true : (b : Bool) → (b ≡ true → ⊥) → b ≡ false
 not_true true h = absurd (h refl)
@@ -54,7 +55,7 @@ not_named name other =
               differs name _ (other Show),
               (
                 differs name _ (other Audit),
-                (differs name _ (other Map), (differs name _ (other Lint), (differs name _ (other Measure), tt))),
+                (differs name _ (other Map), (differs name _ (other Lint), (differs name _ (other Measure), (differs name _ (other Platform), tt)))),
               ),
             ),
           ),

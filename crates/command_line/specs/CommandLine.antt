@@ -1,8 +1,9 @@
 -- The program's command line, as `clap` sees it, and the request that it names.
 use Rattle.std.specs.Prelude.{Bool, true, false, List, [], ◌∷◌, Option, Some, None, codes, ◌≡◌, ◌⊎◌}
-use Rattle.std.specs.Prelude.{bytes_eq, find}
+use Rattle.std.specs.Prelude.{ℕ, bytes_eq, find, if◌then◌else◌, option_and_then, slice_get}
 use Rattle.clap.specs.Kinds.{IsAmong}
-use Rattle.clap.specs.Words.{App, Row, Rule, Shape, Text, fault_of, first_of, one_of, new_app}
+use Rattle.clap.specs.Words.{App, Row, Rule, Shape, Text, all_of, fault_of, first_of, one_of}
+use Rattle.clap.specs.Words.{new_app}
 use Rattle.clap.specs.Words.{new_rule, subcommand_of, with_rule, with_subcommand}
 use Rattle.clap.specs.declared.builder.ArgAction.TheVariants.{Set, SetTrue}
 use Rattle.clap.specs.declared.error.kind.ErrorKind.{ErrorKind}
@@ -10,6 +11,7 @@ use Rattle.clap.specs.declared.error.kind.ErrorKind.TheVariants.{OutOfMemory}
 use Rattle.program_tasks.specs.declared.fault.Fault.{Fault}
 use Rattle.program_tasks.specs.declared.fault.Fault.TheVariants.{Missing}
 use Rattle.program_tasks.specs.declared.request.Request.{Request}
+use Rattle.program_tasks.specs.Monitors.{base_name, size_name}
 use Rattle.program_tasks.specs.Requests.{HasRequest, IsFaultOfRequest}
 use Rattle.program_tasks.specs.Subcommands.{word_of}
 use Rattle.program_tasks.specs.Tasks.{IsSound}
@@ -31,6 +33,10 @@ option_rule name defaults = record (new_rule name) {
 -- an option with a value that has to be given
 abbrev pub needed_rule : Text → Rule
 needed_rule name = record (option_rule name []) { required = true }
+
+-- an option that has as many values as its usage has names for them, and none where it is not given
+abbrev pub values_rule : Text → ℕ → Rule
+values_rule name count = record (option_rule name []) { value_names = count }
 
 -- an option without a value
 abbrev pub flag_rule : Text → Rule
@@ -116,6 +122,10 @@ shared_rule = option_rule (codes "shared") (codes "0" ∷ [])
 abbrev pub entry_rule : Rule
 entry_rule = option_rule (codes "entry") (codes "0" ∷ [])
 
+-- `--monitor`, which has a base and a size
+abbrev pub monitor_rule : Rule
+monitor_rule = values_rule base_name 2
+
 abbrev pub run_app : App
 run_app = with_rule
     (with_rule
@@ -196,7 +206,7 @@ audit_app = with_rule
 
 abbrev pub map_app : App
 map_app = with_rule (with_rule (with_rule (with_rule (new_app (codes "map"))
-    (file_rule (codes "REGISTERS") true)) xlen_rule) mode_rule) hints_rule
+    (file_rule (codes "FILE") true)) xlen_rule) mode_rule) hints_rule
 
 abbrev pub lint_app : App
 lint_app = with_rule
@@ -220,6 +230,11 @@ measure_app = with_rule
     entry_rule)
     hints_rule
 
+-- `platform` as `clap` sees it
+abbrev pub platform_app : App
+platform_app = with_rule (with_rule (with_rule (new_app (codes "platform"))
+    (file_rule (codes "BOARD") true)) monitor_rule) hints_rule
+
 -- the program before its subcommands, which tells its version: one of them has to be named
 abbrev pub bare_app : App
 bare_app = record {
@@ -236,6 +251,7 @@ program_app = with_subcommand
     (with_subcommand
     (with_subcommand
     (with_subcommand
+    (with_subcommand
     (with_subcommand (with_subcommand
     (with_subcommand (with_subcommand bare_app run_app.top) plan_app.top) judge_app.top)
     check_app.top)
@@ -243,7 +259,8 @@ program_app = with_subcommand
     audit_app.top)
     map_app.top)
     lint_app.top)
-    measure_app.top
+    measure_app.top)
+    platform_app.top
 
 -- a subcommand as a program of its own, and the whole program where there is none
 abbrev pub app_alone : Option Shape → App
@@ -254,11 +271,21 @@ app_alone (Some shape) = record { top = shape; subs = [] }
 abbrev pub app_named : Text → App
 app_named name = app_alone (find (λ shape. bytes_eq name shape.name) program_app.subs)
 
+-- the second of an argument's values
+abbrev pub second_of : Text → List Row → Option Text
+second_of id rows = option_and_then (λ values. slice_get values 1) (all_of id rows)
+
+-- the value that a name has in rows: the first of the argument of that name, but the size of
+-- `--monitor` is its second
+abbrev pub value_of : List Row → Text → Option Text
+value_of rows name =
+    if bytes_eq name size_name then second_of base_name rows else first_of name rows
+
 -- the request is the subcommand that was entered, with the values of its rows
 abbrev pub IsRequest : Option (Text × List Row) → Request → Type 0
 IsRequest found request =
     (rows : List Row) × (found ≡ Some (word_of request.task, rows))
-    × HasRequest (λ name. first_of name rows) (λ name. one_of name rows) request
+    × HasRequest (value_of rows) (λ name. one_of name rows) request
 
 -- no request for a sound task is the subcommand that was entered
 abbrev pub AreNone : Option (Text × List Row) → Type 0
@@ -270,7 +297,7 @@ AreNone found = (request : Request) → IsRequest found request
 abbrev pub IsFaultIn : Option (Text × List Row) → Fault → Type 0
 IsFaultIn None fault = fault ≡ Missing
 IsFaultIn (Some (name, rows)) fault =
-    IsFaultOfRequest name (λ id. first_of id rows) (λ id. one_of id rows) fault
+    IsFaultOfRequest name (value_of rows) (λ id. one_of id rows) fault
 
 -- no request for a sound task was entered, and this is the kind of the fault of what was
 pub record IsUnsound (found : Option (Text × List Row)) (kind : ErrorKind) : Type 0 where

@@ -29,3 +29,5 @@ fault_kind (faults.TakesPlace map) = ArgumentConflict
 fault_kind (faults.Number option word) = ValueValidation
 fault_kind faults.Pages = ValueValidation
 fault_kind faults.EntryOffset = ValueValidation
+fault_kind (faults.Monitor word) = ValueValidation
+fault_kind faults.MonitorPages = ValueValidation

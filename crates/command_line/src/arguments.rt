@@ -1,8 +1,8 @@
 //! The arguments of subcommands, as `clap` gets them.
 
-ghost use Rattle.std.specs.Prelude.{◌≡◌, false};
+ghost use Rattle.std.specs.Prelude.{◌≡◌, false, length};
 ghost use Rattle.clap.specs.Words.{rule_of};
-ghost use Rattle.command_line.specs.CommandLine.{file_rule, flag_rule, needed_rule, option_rule};
+ghost use Rattle.command_line.specs.CommandLine.{file_rule, flag_rule, needed_rule, option_rule, values_rule};
 ghost use Rattle.command_line.specs.ClapModel.{defaults_by, rule_by};
 
 use clap::{Arg, ArgAction};
@@ -30,6 +30,8 @@ pub enum Argument<'a> {
     },
     /// An option that has to be given, by its name, what its usage calls the value, and what it is for.
     Needed(&'a str, &'a str, &'a str),
+    /// An option with several values, by its name, what its usage calls each of them, and what it is for.
+    Values(&'a str, &'a [&'a str], &'a str),
 }
 
 /// How many entries the register file has.
@@ -135,6 +137,13 @@ pub const ENTRY: Argument<'static> = Argument::Value {
     help: "Where it is entered, in bytes from its base",
 };
 
+/// Where the monitor of a platform is.
+pub const MONITOR: Argument<'static> = Argument::Values(
+    "monitor",
+    &["BASE", "SIZE"],
+    "Where the monitor is, in bytes; else as the tree says",
+);
+
 /// When standard error shows what is wrong with an input.
 pub const HINTS: Argument<'static> = Argument::Value {
     name: "hints",
@@ -193,6 +202,7 @@ impl<'a> Argument<'a> {
                 help,
             } => value_arg(alloc, name, value, default, help),
             Argument::Needed(name, value, help) => needed_arg(alloc, name, value, help),
+            Argument::Values(name, values, help) => values_arg(alloc, name, values, help),
         }
     }
 }
@@ -252,4 +262,16 @@ fn needed_arg<'a>(alloc: Global, name: &'a str, value: &'a str, help: &'a str) -
         .help(help)
         .action(ArgAction::Set)
         .required(true)
+}
+
+/// An option with as many values as there are names for them.
+fn values_arg<'a>(alloc: Global, name: &'a str, values: &'a [&'a str], help: &'a str) -> Arg<'a>
+    ensures rule { rule_of result ≡ values_rule name.entry.now (length values.entry.now) }
+    ensures local { result.global ≡ false }
+{
+    Arg::new(alloc, name)
+        .long(name)
+        .value_names(values)
+        .help(help)
+        .action(ArgAction::Set)
 }

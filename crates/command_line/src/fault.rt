@@ -28,7 +28,9 @@ fn kind_of(fault: &Fault<'_>) -> ErrorKind
         | Fault::First(_)
         | Fault::Number { .. }
         | Fault::Pages
-        | Fault::EntryOffset => ErrorKind::ValueValidation,
+        | Fault::EntryOffset
+        | Fault::Monitor(_)
+        | Fault::MonitorPages => ErrorKind::ValueValidation,
         Fault::InputTwice
         | Fault::TwoKinds
         | Fault::TwoAnswers

@@ -8,7 +8,7 @@ ghost use Rattle.command_line.specs.ClapModel.{app_by, with_arguments};
 
 use crate::arguments::{
     ALL, AT_MOST, Argument, COSTS, DATA, ENTRIES, ENTRY, EXPECT, EXPLAIN, FIRST, FORMAT, HINTS,
-    MEASURE, MODE, NAME, PLATFORM, SHARED, TABLE_FORMAT, TEXT, TRACE, XLEN,
+    MEASURE, MODE, MONITOR, NAME, PLATFORM, SHARED, TABLE_FORMAT, TEXT, TRACE, XLEN,
 };
 use program_tasks::Subcommand;
 
@@ -116,10 +116,13 @@ const AUDIT_ROW: Row<'static> = Row {
 };
 
 const MAP_ROW: Row<'static> = Row {
-    about: "Print the map that registers mean, where they mean one by whole pages",
-    more: "REGISTERS is a listing of registers, as audit takes it. Prints a line 'BASE SIZE PERM' for each range of pages that\nsupervisor and user mode may use: a map file, which plan makes the fewest entries of.\n\nWith --mode m it is the map of what machine mode may do. Where lines of other registers are passed over, standard error\nsays so.\n\nStatus 1, and one line that says why, where no map of whole pages is what the registers mean.\n\nWith --xlen 32 the registers are those of RV32, whose space has 2^34 bytes.\n\nExample:\n  pmpmon map board.txt | pmpmon plan -",
+    about: "Print the map that registers mean, where they mean one by whole pages, or that of a board's device tree",
+    more: "FILE is a listing of registers, as audit takes it. Prints a line 'BASE SIZE PERM' for each range of pages that\nsupervisor and user mode may use: a map file, which plan makes the fewest entries of.\n\nOr FILE is the flattened device tree (version 17) of a board, which is known by its first bytes, d0 0d fe ed. Then the map\nhas the board's memory and devices, with comments on the node that each is from and on what is left out, and --xlen says\nnothing.\n\nWith --mode m it is the map of what machine mode may do, by registers alone. Where lines of other registers are passed over,\nstandard error says so.\n\nStatus 1, and one line that says why, where no map of whole pages is what the registers mean.\n\nWith --xlen 32 the registers are those of RV32, whose space has 2^34 bytes.\n\nExamples:\n  pmpmon map board.txt | pmpmon plan -\n  pmpmon map board.dtb > map.txt",
     arguments: &[
-        Argument::File("REGISTERS", "The listing of the registers"),
+        Argument::File(
+            "FILE",
+            "The listing of the registers, or the board's device tree",
+        ),
         XLEN,
         MODE,
         HINTS,
@@ -155,6 +158,16 @@ const MEASURE_ROW: Row<'static> = Row {
     ],
 };
 
+const PLATFORM_ROW: Row<'static> = Row {
+    about: "Print the platform of a board's device tree",
+    more: "BOARD is a flattened device tree (version 17) of at most 1 MiB, as QEMU's -machine virt,dumpdtb=BOARD writes it and Linux\nhas it at /sys/firmware/fdt. Prints a platform file, which run, lint and firmware/build take: the board's memory and devices,\nas many of its harts as are in use and at most 4, and 16 entries. Comments say the node that each range is from, and\nwhat is left out.\n\nThe monitor is the first no-map range of reserved memory in which memory begins. --monitor BASE SIZE says where it is\notherwise, in whole pages of 4096 bytes. A tree that its firmware has not changed says no such place.\n\nA tree does not say which devices read and write memory by themselves: take those out, as lint warns of known boards.\n\nExamples:\n  pmpmon platform board.dtb > platform.toml\n  pmpmon platform board.dtb --monitor 0x80000000 0x80000",
+    arguments: &[
+        Argument::File("BOARD", "The board's device tree"),
+        MONITOR,
+        HINTS,
+    ],
+};
+
 /// The row of a subcommand.
 pub fn row_of<'a>(subcommand: Subcommand) -> Row<'a>
     ensures { with_arguments (new_app (subcommand_word subcommand)) result.arguments.now
@@ -170,5 +183,6 @@ pub fn row_of<'a>(subcommand: Subcommand) -> Row<'a>
         Subcommand::Map => MAP_ROW,
         Subcommand::Lint => LINT_ROW,
         Subcommand::Measure => MEASURE_ROW,
+        Subcommand::Platform => PLATFORM_ROW,
     }
 }

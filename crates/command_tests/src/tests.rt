@@ -1,5 +1,6 @@
 //! The tests of the commands, in a module for each subject.
 
+mod boards;
 mod devices;
 mod failures;
 mod hints;

@@ -13,3 +13,5 @@ pub mod Show
 pub mod Stops
 pub mod Verdicts
 pub mod ListingTroubles
+pub mod Boards
+pub mod Platform

@@ -13,7 +13,7 @@
 //! The program's commands that need no machine: maps are planned and shown, and certificates, accesses and registers are
 //! checked, judged and audited against them.
 //!
-//! For the layer above: `do_plan`, `do_check`, `do_judge_as`, `do_show_as`, `do_audit` and `do_map` each do one command on the
+//! For the layer above: `do_plan`, `do_check`, `do_judge_as`, `do_show_as`, `do_audit`, `do_map` and `do_platform` each do one command on the
 //! devices that are lent for it; the clause of each has a rule for each way in which it ends, with what was read and written in
 //! which order. [`plan_of_map`] answers the fewest entries of a map, [`plan_and_certify`] puts a certificate of them in its place, which
 //! the checker accepts, and [`bank_of`] answers the bank of a list that fits it. A certificate goes to a [`CertificateSink`]: whole
@@ -29,6 +29,7 @@
 #![tactic(auto)]
 
 mod answered;
+mod boards;
 mod certificate_sink;
 mod certified_plan;
 mod expected;
@@ -40,6 +41,7 @@ mod measure;
 mod on_maps;
 
 pub use answered::{Answered, Notes, compared, quiet};
+pub use boards::{TREE_BYTES, do_platform};
 pub use certificate_sink::{CertificateSink, Straight, Whole};
 pub use certified_plan::{bank_of, needed_by, plan_and_certify, plan_of_map};
 pub use expected::tell_first;

@@ -1,6 +1,33 @@
 -- Parts in front of others, and the bytes that are written of them.
-use Rattle.std.proofs.Common.{◌≡◌, ℕ, zero, suc, ◌+◌, ◌*◌, ◌-◌, ◌/◌, ◌^◌, ◌<◌, ◌≤◌, List, [], ◌∷◌, ◌++◌, length, drop, take, replicate, append_assoc,
-    length-append, sym, ap, subst, refl, ◌∙◌, arith}
+use Rattle.std.proofs.Common.{
+  ◌≡◌,
+  ℕ,
+  zero,
+  suc,
+  ◌+◌,
+  ◌*◌,
+  ◌-◌,
+  ◌/◌,
+  ◌^◌,
+  ◌<◌,
+  ◌≤◌,
+  List,
+  [],
+  ◌∷◌,
+  ◌++◌,
+  length,
+  drop,
+  take,
+  replicate,
+  append_assoc,
+  length-append,
+  sym,
+  ap,
+  subst,
+  refl,
+  ◌∙◌,
+  arith,
+}
 use Rattle.std.proofs.lemmas.List.{length-replicate}
 use Rattle.device_tree.specs.Pieces.{Part, SpellsPart, SpellsParts, begins, ends, has, part}
 use Rattle.device_tree.specs.Words.{BeginsWith, BeginsWithText, Leaves, padded, word_at}
@@ -22,13 +49,13 @@ and_part names bytes added parts one front spelt = record {
 pub word_front : (x : ℕ) (rest : List ℕ) → x < 2 ^ 32 → BeginsWith (word_bytes x ++ rest) x
 word_front x rest h =
     let long = length-append (word_bytes x) rest in
-    record { long = omega (arith, long, length-word x); spelt = read-word x rest h; }
+    record { long = omega (arith, long, length-word x); spelt = read-word x rest h }
 
 -- what is left behind some bytes
 pub leaves : (bytes rest : List ℕ) (n : ℕ) → length bytes ≡ n → Leaves (bytes ++ rest) n rest
 leaves bytes rest n e =
     let long = length-append bytes rest in
-    record { inside = omega (arith, long, e); behind = sym (drop_front n bytes rest e); }
+    record { inside = omega (arith, long, e); behind = sym (drop_front n bytes rest e) }
 
 pub end_front : (names rest : List ℕ) → SpellsPart names (word_bytes 2 ++ rest) ends rest
 end_front names rest = (word_front 2 rest (omega arith), leaves (word_bytes 2) rest 4 (length-word 2))

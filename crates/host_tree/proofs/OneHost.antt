@@ -42,7 +42,9 @@ child host place cells way n Q I B old mid now rows regs head inner found inside
     subst (λ (x : Place). HostNodes host x inner through c below.1) place_too below.2 in
     let below_too : HostNodes host (inner_place place n (map has own) found) inner (path_or found) c below.1 =
     subst (λ (x : Path). HostNodes host (inner_place place n (map has own) found) inner x c below.1) through_is at_place in (
-      below.0, made, below.1,
+      below.0,
+      made,
+      below.1,
       λ later more h. a_node rows inner found regs_too cells_too way_too below_too h,
       adds_both old mid now (begins n ∷ map has made) (parts_of_nodes below.1) (head own is) below.3,
     )
@@ -78,12 +80,14 @@ next F host place cells way P R old now reached n s I Q begun is_properties no_p
       λ more h.
           let whole : HostNodes host place cells way was.0 (node n here.1 here.2 more) =
           subst (λ (z : Nodes). HostNodes host place cells way z (node n here.1 here.2 more)) (sym one.2) (here.3 one.1 more h) in
-          let made = was.4 (node n here.1 here.2 more) whole in
-          (made.0, made.1,
-          made.2 ∙ ap (λ (z : Nodes). was.2 ++ parts_of_nodes z) (goes_on here.1 here.2 more)
-          ∙ ap (λ (z : List Part). was.2 ++ z) (sym (node_parts n here.1 here.2 (F more)) ∙ sym (append_assoc begun_parts (ends ∷ []) (parts_of_nodes (F
-              more))))
-          ∙ sym (append_assoc was.2 (begun_parts ++ (ends ∷ [])) (parts_of_nodes (F more)))),
+          let made = was.4 (node n here.1 here.2 more) whole in (
+            made.0,
+            made.1,
+            made.2 ∙ ap (λ (z : Nodes). was.2 ++ parts_of_nodes z) (goes_on here.1 here.2 more)
+                ∙ ap (λ (z : List Part). was.2 ++ z) (sym (node_parts n here.1 here.2 (F more)) ∙ sym (append_assoc begun_parts (ends ∷ []) (parts_of_nodes (F
+                more))))
+                ∙ sym (append_assoc was.2 (begun_parts ++ (ends ∷ [])) (parts_of_nodes (F more))),
+          ),
     )
 
 -- no node is left, and what is made of none is written
@@ -96,7 +100,8 @@ at_end F host place cells way P R old now last reached no_node ended nodes behin
     let left = no_front was.0 R behind was.1 no_node in
     let made = was.4 no_nodes (subst (λ (z : Nodes). HostNodes host place cells way z no_nodes) (sym left) nothing) in (
       was.1 ∙ ap (λ (z : Nodes). parts_of_nodes z ++ behind) left,
-      made.0, made.1,
+      made.0,
+      made.1,
       adds_same old last (was.2 ++ parts_of_nodes (F no_nodes)) (parts_of_nodes (F made.0)) (sym made.2)
           (adds_both old now last was.2 (parts_of_nodes (F no_nodes)) was.3 ended),
     )
@@ -130,7 +135,8 @@ at_node F host place cells way P R old now reached n s I Q begun is_properties n
     let parts : List Part = begun_parts ++ (added ++ (ends ∷ parts_of_nodes later.0)) in
     let is : was.2 ++ parts ≡ parts_of_nodes (F made.0) =
     ap (λ (z : List Part). was.2 ++ z) (sym (made_of here.1 here.2 later.0)) ∙ sym made.2 in (
-      made.0, made.1,
+      made.0,
+      made.1,
       adds_same old last (was.2 ++ parts) (parts_of_nodes (F made.0)) is
           (adds_both old now last was.2 parts was.3 (adds_both now mid last begun_parts (added ++ (ends ∷ parts_of_nodes later.0)) here.4 later.2)),
     )

@@ -11,9 +11,9 @@ use Rattle.host_tree.specs.Ranges.{and_nodes, parent_settings, range_nodes, with
 pub parts-and : (x y : Nodes) → parts_of_nodes (and_nodes x y) ≡ parts_of_nodes x ++ parts_of_nodes y
 parts-and no_nodes y = refl
 parts-and (node n s c l) y = ap (λ (z : List Part). begins n ∷ z) (
-  ap (λ (z : List Part). map has s ++ (parts_of_nodes c ++ (ends ∷ z))) (parts-and l y)
-  ∙ sym (ap (λ (z : List Part). map has s ++ z) (append_assoc (parts_of_nodes c) (ends ∷ parts_of_nodes l) (parts_of_nodes y)))
-  ∙ sym (append_assoc (map has s) (parts_of_nodes c ++ (ends ∷ parts_of_nodes l)) (parts_of_nodes y)))
+    ap (λ (z : List Part). map has s ++ (parts_of_nodes c ++ (ends ∷ z))) (parts-and l y)
+    ∙ sym (ap (λ (z : List Part). map has s ++ z) (append_assoc (parts_of_nodes c) (ends ∷ parts_of_nodes l) (parts_of_nodes y)))
+    ∙ sym (append_assoc (map has s) (parts_of_nodes c ++ (ends ∷ parts_of_nodes l)) (parts_of_nodes y)))
 
 pub goes_on : (cells : Cells) (ranges : List Reserved) (n : List ℕ) → bytes_eq n (codes "reserved-memory") ≡ false
     → (made : List Setting) (inside more : Nodes)

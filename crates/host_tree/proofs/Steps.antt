@@ -1,6 +1,30 @@
 -- One step of loops over lists.
-use Rattle.std.proofs.Common.{◌≡◌, ℕ, ◌+◌, ◌*◌, ◌<◌, ◌≤◌, Bool, List, [], ◌∷◌, ◌++◌, length, length-append, drop, get_or, map, append_assoc, append-nil,
-    sym, ap, subst, refl, ◌∙◌, arith}
+use Rattle.std.proofs.Common.{
+  ◌≡◌,
+  ℕ,
+  ◌+◌,
+  ◌*◌,
+  ◌<◌,
+  ◌≤◌,
+  Bool,
+  List,
+  [],
+  ◌∷◌,
+  ◌++◌,
+  length,
+  length-append,
+  drop,
+  get_or,
+  map,
+  append_assoc,
+  append-nil,
+  sym,
+  ap,
+  subst,
+  refl,
+  ◌∙◌,
+  arith,
+}
 use Rattle.std.proofs.lemmas.List.{at_drop_all, at_drop_more}
 use Rattle.device_tree.specs.declared.pieces.PlacedPiece.{PlacedPiece}
 use Rattle.device_tree.specs.declared.reservations.Reservation.{Reservation}
@@ -37,7 +61,7 @@ pub left_step : (hart closed : Bool) (xs : List PlacedPiece) (i : ℕ) (d : Plac
     → Left hart closed xs (i + 1) own old later
 left_step hart closed xs i d own old now later less was put =
     let cons : parts_of (drop i xs) ≡ part_of (get_or xs i d).piece ∷ parts_of (drop (i + 1) xs) = at_drop_more (λ (x : List PlacedPiece). parts_of x) xs
-        i d less in
+    i d less in
     let split = first_left (part_of (get_or xs i d).piece) (parts_of (drop (i + 1) xs)) was.0 (sym cons ∙ was.1) in
     let here = map has (left_setting hart closed split.0) in
     let rest = map has (left_settings hart closed split.1) in (
@@ -56,7 +80,7 @@ left_all hart closed xs i own old now more was =
     let none : parts_of (drop i xs) ≡ [] = at_drop_all (λ (x : List PlacedPiece). parts_of x) xs i more in
     let left = none_left was.0 (sym none ∙ was.1) in
     let whole : was.2 ++ [] ≡ map has (left_settings hart closed own) = ap (λ (z : List Setting). was.2 ++ map has (left_settings hart closed z)) (sym
-        left) ∙ was.4 in
+    left) ∙ was.4 in
     adds_same old now was.2 (map has (left_settings hart closed own)) (sym (append-nil was.2) ∙ whole) was.3
 
 -- of the ranges those before a place are written
@@ -104,8 +128,13 @@ pub clip_step : (memory xs : List Extent) (i : ℕ) (d : Extent) (list new kept 
     → clipped_one memory (get_or xs i d) kept → Clipped memory xs (i + 1) new
 clip_step memory xs i d list new kept less was is one = λ later h.
     let cons : drop i xs ≡ get_or xs i d ∷ drop (i + 1) xs = at_drop_more (λ (x : List Extent). x) xs i d less in
-    let both : IsClipped memory (drop i xs) (kept ++ later) = subst (λ (z : List Extent). IsClipped memory z (kept ++ later)) (sym cons) (kept, later,
-        one, h, refl) in
+    let both : IsClipped memory (drop i xs) (kept ++ later) = subst (λ (z : List Extent). IsClipped memory z (kept ++ later)) (sym cons) (
+      kept,
+      later,
+      one,
+      h,
+      refl,
+    ) in
     let same : list ++ (kept ++ later) ≡ new ++ later = sym (append_assoc list kept later) ∙ ap (λ (z : List Extent). z ++ later) (sym is) in
     subst (λ (z : List Extent). IsClipped memory xs z) same (was (kept ++ later) both)
 

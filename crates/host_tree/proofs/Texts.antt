@@ -1,6 +1,28 @@
 -- Texts, and the zero that ends each.
-use Rattle.std.proofs.Common.{◌≡◌, ℕ, zero, suc, ◌+◌, ◌<◌, ◌≤◌, List, [], ◌∷◌, ◌++◌, length, drop, take, append_assoc, length-append, length-drop, sym,
-    ap, refl, ◌∙◌, arith}
+use Rattle.std.proofs.Common.{
+  ◌≡◌,
+  ℕ,
+  zero,
+  suc,
+  ◌+◌,
+  ◌<◌,
+  ◌≤◌,
+  List,
+  [],
+  ◌∷◌,
+  ◌++◌,
+  length,
+  drop,
+  take,
+  append_assoc,
+  length-append,
+  length-drop,
+  sym,
+  ap,
+  refl,
+  ◌∙◌,
+  arith,
+}
 use Rattle.std.specs.Prelude.{Bool, cond, not}
 use Rattle.std.proofs.lemmas.Bool.{ne_eqb}
 use Rattle.std.proofs.lemmas.List.{drop-append-le, take-append-le}

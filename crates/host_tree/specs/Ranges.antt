@@ -80,5 +80,5 @@ with_ranges cells ranges no_nodes = node (codes "reserved-memory") (parent_setti
     (range_nodes cells ranges) no_nodes
 with_ranges cells ranges (node name properties children later) =
     cond (bytes_eq name (codes "reserved-memory"))
-        (node name properties (and_nodes children (range_nodes cells ranges)) later)
-        (node name properties children (with_ranges cells ranges later))
+    (node name properties (and_nodes children (range_nodes cells ranges)) later)
+    (node name properties children (with_ranges cells ranges later))

@@ -6,8 +6,8 @@ ghost use Rattle.device_tree.specs.Words.{BeginsWithText};
 ghost use Rattle.host_tree.specs.Written.{IsText, setting};
 
 use crate::bytes::{put_text, put_value, put_word};
-use crate::write_fault::WriteFault;
 use crate::names::word_of;
+use crate::write_fault::WriteFault;
 
 /// Appends the beginning of a node.
 pub(crate) fn put_begin(block: &mut Vec<u8>, name: &[u8]) -> Result<(), WriteFault>
@@ -21,7 +21,11 @@ pub(crate) fn put_begin(block: &mut Vec<u8>, name: &[u8]) -> Result<(), WriteFau
 }
 
 /// Appends a property whose name is at that place of the names.
-pub(crate) fn put_property(block: &mut Vec<u8>, place: usize, value: &[u8]) -> Result<(), WriteFault>
+pub(crate) fn put_property(
+    block: &mut Vec<u8>,
+    place: usize,
+    value: &[u8],
+) -> Result<(), WriteFault>
     ensures { OnOk result ((added : List ℕ) × (block.new.items ≡ block.old.items ++ added)
         × ((names rest name : List ℕ) → BeginsWithText (drop place names) name
         → SpellsPart names (added ++ rest) (has (setting name value.now)) rest)) }

@@ -11,10 +11,10 @@ ghost use Rattle.board_ranges.specs.Meaning.{Range, TreeSays, said_of};
 ghost use Rattle.host_tree.specs.Boards.{extents_of, is_kind, one_extent};
 
 use crate::fault::{HostTreeFault, MakeFault};
+use crate::write_fault::WriteFault;
 use board_ranges::{Extent, Found, Kind, ranges_of};
 use device_tree::{PlacedPiece, read_tree};
 use std::alloc::Global;
-use crate::write_fault::WriteFault;
 
 /// What a board has: the numbers of its harts, each as the base of a row with no size, and ranges of memory.
 #[derive(Drop)]
@@ -49,11 +49,7 @@ fn note(list: &mut Vec<Extent>, found: Found<'_>, is_hart: bool) -> Result<(), M
 }
 
 /// The extents of the ranges of that kind.
-fn extents_of(
-    alloc: Global,
-    found: &[Found<'_>],
-    is_hart: bool,
-) -> Result<Vec<Extent>, MakeFault>
+fn extents_of(alloc: Global, found: &[Found<'_>], is_hart: bool) -> Result<Vec<Extent>, MakeFault>
     ensures { IfOk result (λ list. list.items ≡ extents_of is_hart (said_of found.now)) }
 {
     let mut list = Vec::new(alloc);
@@ -64,10 +60,7 @@ fn extents_of(
 }
 
 /// Harts and memory by the pieces of a tree.
-fn board_in<'a>(
-    alloc: Global,
-    pieces: &'a [PlacedPiece<'a>],
-) -> Result<Board, MakeFault>
+fn board_in<'a>(alloc: Global, pieces: &'a [PlacedPiece<'a>]) -> Result<Board, MakeFault>
     ensures { IfOk result (λ board. (tree : Tree) → parts_of pieces.now ≡ parts_of_tree tree
         → (ranges : List Range) × TreeSays tree ranges
         × (board.harts.items ≡ extents_of true ranges)

@@ -4,8 +4,8 @@ ghost use Rattle.std.specs.Prelude.{◌≡◌, ◌++◌, ◌∷◌, IfOk, OnOk, 
 ghost use Rattle.host_tree.specs.Extensions.{is_closed_name, kept_unit, open_from, open_names};
 
 use crate::fault::MakeFault;
-use std::alloc::Global;
 use crate::write_fault::WriteFault;
+use std::alloc::Global;
 
 /// Whether the monitor closes an extension of that name: its bits in `menvcfg`, `mseccfg` or `mstateen0` stay zero, or it wants
 /// calls that are not there.

@@ -12,6 +12,7 @@ const MAGIC: u32 = 0xd00d_feed;
 
 /// The version that is written, and the oldest that it is read as.
 const VERSION: u32 = 17;
+
 const OLDEST: u32 = 16;
 
 /// How many bytes the header has, and where the reservations begin.

@@ -15,12 +15,12 @@ use crate::put::{put_begin, put_end};
 use crate::reserved::Reserved;
 use crate::root::put_children;
 use crate::share::Share;
+use crate::whole::Ends;
+use crate::writer::TreeWriter;
 use board_ranges::{BoardReason, cells_of, head_of};
 use byteorder::{BigEndian, ByteOrder};
 use device_tree::{DeviceTree, PlacedPiece, TreeReason, read_tree};
 use std::alloc::Global;
-use crate::whole::Ends;
-use crate::writer::TreeWriter;
 
 /// Writes the host's tree of a board's, whose pieces these are.
 fn put_tree<'a>(

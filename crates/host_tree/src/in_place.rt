@@ -9,9 +9,9 @@ use crate::host::host_tree;
 use crate::platform::PlatformWords;
 use crate::reserved::{Purpose, Reserved};
 use crate::share::Share;
+use crate::write_fault::WriteFault;
 use board_ranges::Extent;
 use std::alloc::Global;
-use crate::write_fault::WriteFault;
 
 /// How many bytes are free after the tree for who adds to it, where there is room for them.
 const FREE: u32 = 4096;

@@ -15,9 +15,9 @@ use crate::fault::MakeFault;
 use crate::properties::put_properties;
 use crate::put::put_begin;
 use crate::share::Share;
+use crate::writer::TreeWriter;
 use board_ranges::{Cells, Head, Place, Way, is_hart};
 use std::alloc::Global;
-use crate::writer::TreeWriter;
 
 /// Writes the beginning of a node and its properties, by its place and its bus.
 pub(crate) fn put_head<'a>(

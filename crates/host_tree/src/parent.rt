@@ -10,10 +10,10 @@ ghost use Rattle.host_tree.specs.Ranges.{AllFit, parent_settings, with_ranges};
 use crate::fault::MakeFault;
 use crate::put::{put_begin, put_end, put_property};
 use crate::reserved::{Reserved, put_ranges};
+use crate::writer::TreeWriter;
 use board_ranges::Cells;
 use byteorder::{BigEndian, ByteOrder};
 use std::alloc::Global;
-use crate::writer::TreeWriter;
 
 /// A number of cells, which are at most four.
 fn count_bytes(cells: usize) -> [u8; 4]

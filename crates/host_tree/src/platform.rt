@@ -7,9 +7,9 @@ ghost use Rattle.host_tree.specs.Platforms.{IsClipped, IsFound, clipped_one, fla
 use crate::board::{Board, board_of};
 use crate::fault::{HostTreeFault, MakeFault};
 use crate::there::{harts_there, memory_there};
+use crate::write_fault::WriteFault;
 use board_ranges::Extent;
 use std::alloc::Global;
-use crate::write_fault::WriteFault;
 
 /// A platform as firmware has it: numbers of 64 bits, as `firmware/frames.h` lays them out.
 #[repr(C)]
@@ -135,11 +135,7 @@ impl PlatformWords {
 }
 
 /// Appends as much of a range as a board with this memory has, if it has some.
-fn put_clipped(
-    list: &mut Vec<Extent>,
-    memory: &[Extent],
-    range: Extent,
-) -> Result<(), MakeFault>
+fn put_clipped(list: &mut Vec<Extent>, memory: &[Extent], range: Extent) -> Result<(), MakeFault>
     ensures { OnOk result ((kept : List Extent)
         × (list.new.items ≡ list.old.items ++ kept) × clipped_one memory.now range kept) }
 {
@@ -157,11 +153,7 @@ fn put_clipped(
 }
 
 /// As much of each range as a board with this memory has.
-fn clipped(
-    alloc: Global,
-    memory: &[Extent],
-    ranges: &[Extent],
-) -> Result<Vec<Extent>, MakeFault>
+fn clipped(alloc: Global, memory: &[Extent], ranges: &[Extent]) -> Result<Vec<Extent>, MakeFault>
     ensures { IfOk result (λ list. IsClipped memory.now ranges.now list.items) }
 {
     let mut list = Vec::new(alloc);

@@ -8,9 +8,9 @@ ghost use Rattle.host_tree.specs.Settings.{host_settings, host_value, left_setti
 use crate::extensions::open_names;
 use crate::fault::MakeFault;
 use crate::put::put_property;
+use crate::writer::TreeWriter;
 use device_tree::{Piece, PlacedPiece};
 use std::alloc::Global;
-use crate::writer::TreeWriter;
 
 /// Whether a property of that name names a hart's extensions.
 fn names_extensions(name: &[u8]) -> bool

@@ -9,11 +9,11 @@ ghost use Rattle.host_tree.specs.Ranges.{AllFit, Fits, compatible_of, hex_digit,
 
 use crate::fault::MakeFault;
 use crate::put::{put_begin, put_end, put_property};
+use crate::write_fault::WriteFault;
+use crate::writer::TreeWriter;
 use board_ranges::{Cells, Extent};
 use byteorder::{BigEndian, ByteOrder};
 use std::alloc::Global;
-use crate::writer::TreeWriter;
-use crate::write_fault::WriteFault;
 
 /// What a range is reserved for.
 #[derive(Clone, Copy, Debug, PartialEq, Eq)]

@@ -17,10 +17,10 @@ use crate::put::put_end;
 use crate::reserved::{Reserved, put_ranges};
 use crate::share::Share;
 use crate::walk::put_nodes;
+use crate::writer::TreeWriter;
 use board_ranges::{Cells, Head, Place, Way, after_end, head_of, inner_of};
 use device_tree::PlacedPiece;
 use std::alloc::Global;
-use crate::writer::TreeWriter;
 
 /// Whether a node of that name has the ranges that are reserved.
 fn is_parent(name: &[u8]) -> bool

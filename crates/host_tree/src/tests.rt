@@ -1,13 +1,13 @@
 //! A small board, and the trees of its hosts.
 
+use crate::whole::Ends;
+use crate::write_fault::WriteFault;
+use crate::writer::TreeWriter;
 use crate::{Purpose, Reserved, Share, board_of, host_tree};
 use board_ranges::Extent;
 use device_tree::{Piece, PlacedPiece, read_tree};
 use std::alloc::Global;
 use std::process::Abort;
-use crate::whole::Ends;
-use crate::writer::TreeWriter;
-use crate::write_fault::WriteFault;
 
 fn put_cells(writer: &mut TreeWriter, size: &[u8]) -> Result<(), WriteFault> {
     writer.property(b"#address-cells".as_slice(), b"\0\0\0\x01".as_slice())?;
@@ -18,8 +18,14 @@ fn put_hart(writer: &mut TreeWriter, name: &[u8], number: &[u8]) -> Result<(), W
     writer.begin_node(name)?;
     writer.property(b"device_type".as_slice(), b"cpu\0".as_slice())?;
     writer.property(b"reg".as_slice(), number)?;
-    writer.property(b"riscv,isa".as_slice(), b"rv64imac_zkr_zicsr_ssctr\0".as_slice())?;
-    writer.property(b"riscv,isa-extensions".as_slice(), b"svadu\0i\0zkr\0".as_slice())?;
+    writer.property(
+        b"riscv,isa".as_slice(),
+        b"rv64imac_zkr_zicsr_ssctr\0".as_slice(),
+    )?;
+    writer.property(
+        b"riscv,isa-extensions".as_slice(),
+        b"svadu\0i\0zkr\0".as_slice(),
+    )?;
     writer.end_node()
 }
 
@@ -44,8 +50,16 @@ fn board(alloc: Global) -> Result<Vec<u8>, WriteFault> {
     put_hart(&mut writer, b"cpu@0".as_slice(), b"\0\0\0\0".as_slice())?;
     put_hart(&mut writer, b"cpu@1".as_slice(), b"\0\0\0\x01".as_slice())?;
     writer.end_node()?;
-    put_device(&mut writer, b"uart@8000".as_slice(), b"\0\0\x80\0\0\0\0\x08".as_slice())?;
-    put_device(&mut writer, b"rtc@9000".as_slice(), b"\0\0\x90\0\0\0\0\x08".as_slice())?;
+    put_device(
+        &mut writer,
+        b"uart@8000".as_slice(),
+        b"\0\0\x80\0\0\0\0\x08".as_slice(),
+    )?;
+    put_device(
+        &mut writer,
+        b"rtc@9000".as_slice(),
+        b"\0\0\x90\0\0\0\0\x08".as_slice(),
+    )?;
     writer.end_node()?;
     let ends = Ends {
         reservations: [].as_slice(),
@@ -82,9 +96,30 @@ fn expect_pieces<'a>(rt: &impl Abort, pieces: &'a [PlacedPiece<'a>]) {
     let disabled = b"disabled\0".as_slice();
     let status = b"status".as_slice();
     let first = place_of(pieces, b"cpu@0".as_slice());
-    assert!(rt; is_property(pieces, first + 3, b"riscv,isa".as_slice(), b"rv64imac_zicsr\0".as_slice()));
-    assert!(rt; is_property(pieces, first + 4, b"riscv,isa-extensions".as_slice(), b"i\0".as_slice()));
-    assert!(rt; is_property(pieces, place_of(pieces, b"cpu@1".as_slice()) + 1, status, disabled));
+    assert!(rt;
+        is_property(
+            pieces,
+            first + 3,
+            b"riscv,isa".as_slice(),
+            b"rv64imac_zicsr\0".as_slice()
+        )
+    );
+    assert!(rt;
+        is_property(
+            pieces,
+            first + 4,
+            b"riscv,isa-extensions".as_slice(),
+            b"i\0".as_slice()
+        )
+    );
+    assert!(rt;
+        is_property(
+            pieces,
+            place_of(pieces, b"cpu@1".as_slice()) + 1,
+            status,
+            disabled
+        )
+    );
     let uart = place_of(pieces, b"uart@8000".as_slice());
     assert!(rt; is_property(pieces, uart + 2, status, b"okay\0".as_slice()));
     let rtc = place_of(pieces, b"rtc@9000".as_slice());
@@ -92,7 +127,14 @@ fn expect_pieces<'a>(rt: &impl Abort, pieces: &'a [PlacedPiece<'a>]) {
     assert!(rt; !is_property(pieces, rtc + 3, status, b"okay\0".as_slice()));
     let range = place_of(pieces, b"monitor@1000".as_slice());
     assert!(rt; range == place_of(pieces, b"reserved-memory".as_slice()) + 4);
-    assert!(rt; is_property(pieces, range + 1, b"reg".as_slice(), b"\0\0\x10\0\0\0\x08\0".as_slice()));
+    assert!(rt;
+        is_property(
+            pieces,
+            range + 1,
+            b"reg".as_slice(),
+            b"\0\0\x10\0\0\0\x08\0".as_slice()
+        )
+    );
     assert!(rt; is_property(pieces, range + 2, b"no-map".as_slice(), b"".as_slice()));
 }
 

@@ -12,10 +12,10 @@ use crate::fault::MakeFault;
 use crate::own_node::put_head;
 use crate::put::put_end;
 use crate::share::Share;
+use crate::writer::TreeWriter;
 use board_ranges::{Cells, Place, Way, after_end, head_of, inner_of};
 use device_tree::PlacedPiece;
 use std::alloc::Global;
-use crate::writer::TreeWriter;
 
 /// Writes the nodes in front as the host has them, and answers the pieces behind them.
 pub(crate) fn put_nodes<'a>(

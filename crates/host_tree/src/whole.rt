@@ -7,10 +7,10 @@ ghost use Rattle.device_tree.specs.Words.{word_at};
 ghost use Rattle.host_tree.specs.Written.{HasWritten};
 
 use crate::bytes::{put_bytes, put_word, put_zeros};
-use crate::write_fault::WriteFault;
 use crate::header::{HEADER, Header, put_header};
 use crate::names::word_of;
 use crate::reservations::put_reservations;
+use crate::write_fault::WriteFault;
 use crate::writer::TreeWriter;
 use device_tree::Reservation;
 use std::alloc::Global;

@@ -6,8 +6,8 @@ ghost use Rattle.host_tree.specs.Written.{Adds, HasWritten, setting};
 
 use crate::blocks::{put_begin, put_end, put_property};
 use crate::bytes::is_text;
-use crate::write_fault::WriteFault;
 use crate::names::place_of;
+use crate::write_fault::WriteFault;
 use std::alloc::Global;
 
 /// A tree that is being written: the names of its properties, each once, and its structure block so far.

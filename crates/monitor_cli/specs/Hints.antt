@@ -23,6 +23,7 @@ use Rattle.commands.specs.CertifiedPlan.{AreNeeded}
 use Rattle.command_inputs.specs.Inputs.{HasBytes, IsUnread, Reading}
 use Rattle.commands.specs.Lint.{IsListingLint, IsMapLint, IsPlatformLint, names_platform}
 use Rattle.platform_file.specs.Document.{IsPlatformFile}
+use Rattle.board_texts.specs.Boards.{is_tree}
 use Rattle.monitor_cli.specs.declared.forms.Form.{Form}
 use Rattle.monitor_cli.specs.declared.forms.Form.TheVariants.{Map, Platform, Listing, Trace}
 use Rattle.monitor_cli.specs.declared.needs.Bounds.{Bounds}
@@ -160,10 +161,21 @@ HasLintHints kinds.Trace (Some platform) name first second hints =
     InOrder (HasHints Platform platform.now second) (HasSizeHints files.Trace name first) first
     hints
 
+-- the hints of `map`: a device tree has none, and a listing of registers those of its lint
+pub data HasSourceHints {R : Type 0} (xlen : Xlen) (name : List ℕ) (source : Reading R) : Option
+    (List ℕ) → Type 0 where
+  of_tree : (bytes : List ℕ) → HasBytes (most_bytes files.ListingOrTree) source bytes
+      → is_tree bytes ≡ true → HasSourceHints xlen name source None
+  of_listing : (bytes : List ℕ) (hints : Option (List ℕ))
+      → HasBytes (most_bytes files.ListingOrTree) source bytes → is_tree bytes ≡ false
+      → AreHints (IsListingLint xlen name bytes) hints → HasSourceHints xlen name source hints
+  of_size : IsTooLarge (most_bytes files.ListingOrTree) source
+      → HasSourceHints xlen name source (Some (size_hint files.ListingOrTree name))
+
 -- the hints of a task: those of its first input that is not what it should be, or that is a map or
--- a platform which needs more entries than it may. A certificate has none but of its size, and the
--- file of an enclave none; a trace is for the harts of its platform in `run`, and otherwise for
--- `judge`
+-- a platform which needs more entries than it may. A certificate and the tree of a platform have
+-- none but of their size, and the file of an enclave none; a trace is for the harts of its platform
+-- in `run`, and otherwise for `judge`
 abbrev pub HasTaskHints : {R : Type 0} → Task → Options → Reading R → Reading R → Option (List ℕ)
     → Type 0
 HasTaskHints (tasks.Run platform trace measure) options first second hints =
@@ -180,8 +192,8 @@ HasTaskHints (tasks.Check map file) options first second hints =
 HasTaskHints (tasks.Audit map registers) options first second hints =
     InOrder (HasHints Map map.now first) (HasHints (Listing options.xlen) registers.now second)
     second hints
-HasTaskHints (tasks.Map registers) options first second hints =
-    HasHints (Listing options.xlen) registers.now first hints × IsUnread second
+HasTaskHints (tasks.Map file) options first second hints =
+    HasSourceHints options.xlen file.now first hints × IsUnread second
 HasTaskHints (tasks.Lint file platform) options first second hints =
     HasLintHints options.kind platform file.now first second hints
 HasTaskHints (tasks.Show map limit) options first second hints =
@@ -189,6 +201,8 @@ HasTaskHints (tasks.Show map limit) options first second hints =
     × IsUnread second
 HasTaskHints (tasks.Measure file layout) options first second hints = (hints ≡ None)
     × IsUnread first × IsUnread second
+HasTaskHints (tasks.Platform board monitor) options first second hints =
+    HasSizeHints files.Tree board.now first hints × IsUnread second
 
 -- the hints of a task are written to standard error, whole or up to where the device fails; and
 -- nothing where it has none, or where an input could not be had or memory was refused

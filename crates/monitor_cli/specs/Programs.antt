@@ -22,6 +22,7 @@ use Rattle.commands.specs.Lint.{Lints, LintsListing}
 use Rattle.commands.specs.Map.{Maps}
 use Rattle.commands.specs.Measure.{Measures}
 use Rattle.commands.specs.Plan.{Plans}
+use Rattle.commands.specs.Platform.{PrintsPlatform}
 use Rattle.commands.specs.Show.{ShowsAs}
 use Rattle.monitor_cli.specs.Runs.{Runs}
 use Rattle.commands.specs.Traces.{LintsTrace}
@@ -54,8 +55,8 @@ Performs (tasks.Check map file) options first second cert out done =
 Performs (tasks.Audit map registers) options first second cert out done =
     Noting [] (Audits map registers options.xlen options.mode options.all first second out) done
     × WritesNothing cert
-Performs (tasks.Map registers) options first second cert out done =
-    Maps registers options.xlen options.mode first out done × IsUnread second × WritesNothing cert
+Performs (tasks.Map file) options first second cert out done =
+    Maps file options.xlen options.mode first out done × IsUnread second × WritesNothing cert
 Performs (tasks.Lint file platform) options first second cert out done =
     Noting [] (LintsAs options.kind options.xlen file platform first second out) done
     × WritesNothing cert
@@ -64,6 +65,8 @@ Performs (tasks.Show map limit) options first second cert out done =
     options.table options.costs first out) done × IsUnread second × WritesNothing cert
 Performs (tasks.Measure file layout) options first second cert out done =
     Noting [] (Measures file layout first out) done × IsUnread second × WritesNothing cert
+Performs (tasks.Platform board monitor) options first second cert out done =
+    Noting [] (PrintsPlatform board monitor first out) done × IsUnread second × WritesNothing cert
 
 -- what is said beside a status is written to standard error, whole or up to where the device fails;
 -- and nothing where nothing is said

@@ -6,11 +6,12 @@ ghost use Rattle.hart_sim.specs.After.{IsBooted};
 ghost use Rattle.byte_streams.specs.Writings.{writing};
 ghost use Rattle.command_inputs.specs.Inputs.{reading};
 ghost use Rattle.commands.specs.Lint.{names_platform};
-ghost use Rattle.monitor_cli.specs.Hints.{named_kind, AreMapHints, AreRunHints, HasFileHints, HasHints, HasLintHints, HasMapHints, HasRunHints, HasSizeHints, HasTaskHints, InOrder, boot_hint, PrintsHints};
+ghost use Rattle.monitor_cli.specs.Hints.{named_kind, AreMapHints, AreRunHints, HasFileHints, HasHints, HasLintHints, HasMapHints, HasRunHints, HasSizeHints, HasSourceHints, HasTaskHints, InOrder, boot_hint, PrintsHints};
 
 use crate::forms::{Form, hints_for, hints_in_order, hints_of};
 use crate::needs::{Bounds, bank_bounds, boot_hint, need_hint, plan_bounds, table_bounds};
 use crate::sizes::{FileKind, FileOrHint, bytes_or_hint, size_hints};
+use board_texts::is_tree;
 use byte_streams::{Sink, Source, write_whole};
 use command_inputs::{Trouble, platform_in};
 use commands::{names_platform, needed_by};
@@ -189,6 +190,28 @@ fn hints_of_check<'a, R: Source>(
     size_hints(alloc, FileKind::Certificate, cert, second)
 }
 
+/// The hints of `map`: a device tree has none, and a listing of registers those of its lint.
+fn hints_of_source<'a, R: Source>(
+    alloc: Global,
+    xlen: Xlen,
+    name: &'a str,
+    source: &mut R,
+) -> Result<Option<Vec<u8>>, Trouble<'a>>
+    ensures { IfOk result (λ hints. HasSourceHints xlen name.entry.now
+        (reading R.remaining R.failures source.old source.new)
+        (option_map (λ text. text.items) hints)) }
+{
+    match bytes_or_hint(alloc, FileKind::ListingOrTree, name, source)? {
+        FileOrHint::Bytes(bytes) => {
+            if is_tree(bytes.as_slice()) {
+                return Ok(None);
+            }
+            hints_for(alloc, Form::Listing { xlen }, name, bytes.as_slice())
+        }
+        FileOrHint::Hint(hint) => Ok(Some(hint)),
+    }
+}
+
 /// What a file is that `lint` takes by its name.
 fn named_kind(name: &str) -> FileKind
     ensures { result ≡ named_kind name.now }
@@ -278,7 +301,7 @@ fn task_hints<'a, R: Source>(
             let listing = (Form::Listing { xlen }, registers);
             hints_in_order(alloc, (Form::Map, map), listing, first, second)
         }
-        Task::Map { registers } => hints_of(alloc, Form::Listing { xlen }, registers, first),
+        Task::Map { file } => hints_of_source(alloc, xlen, file, first),
         Task::Show { map, .. } => {
             let bounds = table_bounds(options.at_most);
             hints_of_file(alloc, options.registers, xlen, map, bounds, first)
@@ -287,6 +310,7 @@ fn task_hints<'a, R: Source>(
             hints_of_lint(alloc, options.kind, platform, file, first, second)
         }
         Task::Measure { .. } => Ok(None),
+        Task::Platform { board, .. } => size_hints(alloc, FileKind::Tree, board, first),
     }
 }
 

@@ -14,7 +14,8 @@ use byte_streams::{Sink, Source, write_whole};
 use command_inputs::Trouble;
 use commands::{
     Answered, Asked, CertificateSink, Straight, Table, Whole, do_audit, do_check, do_judge_as,
-    do_lint, do_lint_listing, do_lint_trace, do_map, do_measure, do_plan, do_show_as, quiet,
+    do_lint, do_lint_listing, do_lint_trace, do_map, do_measure, do_plan, do_platform, do_show_as,
+    quiet,
 };
 use pmp_encoding::Limit;
 use program_files::WholeSink;
@@ -156,7 +157,7 @@ fn run_task<'a, R: Source, M, C: CertificateSink<M>, W: Sink>(
             let all = options.all;
             quiet(do_audit(alloc, map, registers, xlen, mode, all, first, second, out))
         }
-        Task::Map { registers } => do_map(alloc, registers, xlen, mode, first, out),
+        Task::Map { file } => do_map(alloc, file, xlen, mode, first, out),
         Task::Lint { file, platform } => {
             quiet(lint_as(alloc, options, file, platform, first, second, out))
         }
@@ -165,6 +166,7 @@ fn run_task<'a, R: Source, M, C: CertificateSink<M>, W: Sink>(
             quiet(do_show_as(alloc, listed, map, asked, first, out))
         }
         Task::Measure { file, layout } => quiet(do_measure(alloc, file, layout, first, out)),
+        Task::Platform { board, monitor } => quiet(do_platform(alloc, board, monitor, first, out)),
     }
 }
 

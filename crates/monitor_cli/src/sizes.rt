@@ -10,7 +10,7 @@ use byte_streams::Source;
 use command_inputs::{
     CERTIFICATE_BYTES, MAP_BYTES, PLATFORM_BYTES, REGISTER_BYTES, Trouble, bytes_in,
 };
-use commands::TRACE_BYTES;
+use commands::{TRACE_BYTES, TREE_BYTES};
 use program_files::has_more;
 use std::alloc::{AllocError, Global};
 
@@ -23,6 +23,10 @@ pub(crate) enum FileKind {
     Platform,
     /// A listing of registers.
     Listing,
+    /// A listing of registers or a device tree.
+    ListingOrTree,
+    /// A device tree.
+    Tree,
     /// A certificate.
     Certificate,
     /// A trace.
@@ -38,7 +42,8 @@ impl FileKind {
         match self {
             FileKind::Map => MAP_BYTES,
             FileKind::Platform => PLATFORM_BYTES,
-            FileKind::Listing => REGISTER_BYTES,
+            FileKind::Listing | FileKind::ListingOrTree => REGISTER_BYTES,
+            FileKind::Tree => TREE_BYTES,
             FileKind::Certificate => CERTIFICATE_BYTES,
             FileKind::Trace => TRACE_BYTES,
         }
@@ -54,6 +59,10 @@ impl FileKind {
             FileKind::Listing => {
                 ": more than 1048576 bytes; a listing of registers has at most 1 MiB\n"
             }
+            FileKind::ListingOrTree => {
+                ": more than 1048576 bytes; a listing of registers or a device tree has at most 1 MiB\n"
+            }
+            FileKind::Tree => ": more than 1048576 bytes; a device tree has at most 1 MiB\n",
             FileKind::Certificate => {
                 ": more than 67108864 bytes; a certificate has at most 64 MiB\n"
             }

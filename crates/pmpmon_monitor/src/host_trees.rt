@@ -14,8 +14,11 @@ use std::alloc::Global;
 
 /// The numbers of what may come of it.
 const DONE: i64 = 0;
+
 const NOT_READ: i64 = 1;
+
 const NO_ROOM: i64 = 2;
+
 const NO_MEMORY: i64 = 3;
 
 /// Whether memory was refused.

@@ -24,7 +24,6 @@ ghost use Rattle.sbi_calls.specs.Owners.{world_of};
 ghost use Rattle.sbi_calls.specs.declared.decision.Decision.{Decision};
 
 pub use host_trees::{pmpmon_find_platform, pmpmon_put_host_tree};
-
 use sbi_calls::{Action, BankWords, Caller, Harts, HostCall, action_of, decide, world_of};
 use std::alloc::Global;
 use std::io::{Stdin, Stdout};

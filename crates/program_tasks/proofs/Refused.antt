@@ -1,5 +1,5 @@
 -- The first demand that values lack leaves no sound task.
-use Rattle.std.proofs.Common.{[], ◌∷◌, ◌≡◌, ◌≢◌, ◌∙◌, ℕ, List, Option, Some, None, Bool, true, false, IfSome, ap, codes, find, inl, inr, option_map, refl, subst}
+use Rattle.std.proofs.Common.{[], ◌∷◌, ◌≡◌, ◌≢◌, ◌∙◌, ◌⊎◌, ℕ, List, Option, Some, None, Bool, true, false, IfSome, ap, codes, find, inl, inr, option_map, refl, subst}
 use Rattle.std.proofs.Common.{sym, true≢false}
 use Rattle.std.specs.Borrow.{Bor}
 use Rattle.std.specs.Str.{bytes_eq}
@@ -14,9 +14,11 @@ use Rattle.program_tasks.specs.declared.options.LintKind.{LintKind}
 use Rattle.program_tasks.specs.declared.options.LintKind.TheVariants as kinds
 use Rattle.program_tasks.specs.declared.options.Options.{Options}
 use Rattle.program_tasks.specs.declared.task.Task.{Task}
-use Rattle.program_tasks.specs.declared.task.Task.TheVariants.{Run, Plan, Judge, Check, Show, Audit, Map, Lint, Measure}
+use Rattle.program_tasks.specs.declared.task.Task.TheVariants.{Run, Plan, Judge, Check, Show, Audit, Map, Lint, Measure, Platform}
 use Rattle.program_tasks.specs.Faults.{Demand, IsFirst, Lacks, demands_of}
+use Rattle.text_lines.specs.Numbers.{number_of}
 use Rattle.program_tasks.specs.Layouts.{IsNumber}
+use Rattle.program_tasks.specs.Monitors.{AreWholePages, IsOfPages, Spells, base_name, size_name}
 use Rattle.program_tasks.specs.Subcommands.{Text, subcommand_of, subcommand_word}
 use Rattle.program_tasks.specs.Tasks.{HasAnswers, HasKind, HasValues, IsGiven, IsSound, NamesNone, is_identifier, mode_word, table_format_word}
 
@@ -43,7 +45,7 @@ met_all value flag (demand ∷ demands) fault met first = elim first [
 of_word : Text → Option Subcommand
 of_word word = find (λ subcommand. bytes_eq word (subcommand_word subcommand))
     (subcommands.Run ∷ subcommands.Plan ∷ subcommands.Judge ∷ subcommands.Check ∷ subcommands.Show ∷ subcommands.Audit ∷ subcommands.Map ∷ subcommands.Lint ∷
-    subcommands.Measure ∷ [])
+    subcommands.Measure ∷ subcommands.Platform ∷ [])
 
 known : (subcommand : Subcommand) → of_word (subcommand_word subcommand) ≡ Some subcommand
 unfolding of_word
@@ -56,6 +58,7 @@ known subcommands.Audit = refl
 known subcommands.Map = refl
 known subcommands.Lint = refl
 known subcommands.Measure = refl
+known subcommands.Platform = refl
 
 one_subcommand : (a b : Subcommand) → Some a ≡ Some b → a ≡ b
 one_subcommand a b e = cc
@@ -98,6 +101,28 @@ not_both b e f = true≢false (sym e ∙ f)
 numbered : (value : Option Text) (n : ℕ) → IsNumber value n → value ≡ None → ⊥
 numbered None n is none = is
 numbered (Some word) n is none = cc
+
+one_number : (a b : ℕ) → Some a ≡ Some b → a ≡ b
+one_number a b e = cc
+
+-- of two words that spell a monitor, neither is no number
+both_spelled :
+    (base size it : Option Text) (monitor : Option (ℕ × ℕ)) → Spells base size monitor
+    → ((b n word : Text) × (base ≡ Some b) × (size ≡ Some n) × (it ≡ Some word) × (number_of word ≡ None)) → (it ≡ base) ⊎ (it ≡ size) → ⊥
+both_spelled None size it monitor is lacks which = cc
+both_spelled (Some b) None it monitor is lacks which = cc
+both_spelled (Some b) (Some n) it monitor is lacks (inl e) = cc
+both_spelled (Some b) (Some n) it monitor is lacks (inr e) = cc
+
+-- and their numbers are whole pages
+in_pages :
+    (base size : Option Text) (monitor : Option (ℕ × ℕ)) → Spells base size monitor → IsOfPages monitor
+    → ((b n : ℕ) × IsNumber base b × IsNumber size n × ¬ AreWholePages b n) → ⊥
+in_pages None size monitor is sound lacks = lacks.2
+in_pages (Some base) None monitor is sound lacks = lacks.3
+in_pages (Some base) (Some size) monitor is sound lacks =
+    let there = subst IsOfPages is.4 sound in
+    lacks.4 (rw (one_number _ _ (sym is.2 ∙ lacks.2), one_number _ _ (sym is.3 ∙ lacks.3)) at there)
 
 -- a sound task's values meet what its subcommand asks
 met : (value flag : Text → Option Text) (task : Task) (options : Options) → HasValues value flag task options → IsSound task options
@@ -206,7 +231,7 @@ met value flag (Audit map registers) options v sound = (
     ),
   ),
 )
-met value flag (Map registers) options v sound =
+met value flag (Map file) options v sound =
     (given value _ _ v.0, (given value _ _ v.1, (λ lacks. lacks options.xlen v.1, (given value _ _ v.2, (λ lacks. lacks options.mode v.2, tt)))))
 met value flag (Lint file platform) options v sound = (
   given value _ _ v.0,
@@ -241,6 +266,16 @@ met value flag (Measure file layout) options v sound =
         ),
       ),
     )
+met value flag (Platform board monitor) options v sound = (
+  given value _ _ v.0,
+  (
+    λ lacks. both_spelled (value base_name) (value size_name) (value base_name) monitor v.1 lacks (inl refl),
+    (
+      λ lacks. both_spelled (value base_name) (value size_name) (value size_name) monitor v.1 lacks (inr refl),
+      (λ lacks. in_pages (value base_name) (value size_name) monitor v.1 sound lacks, tt),
+    ),
+  ),
+)
 
 -- no sound task is a subcommand with values that lack one of its demands
 pub none_of : (subcommand : Subcommand) (value flag : Text → Option Text) (fault : Fault) → IsFirst value flag (demands_of subcommand) fault

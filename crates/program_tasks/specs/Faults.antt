@@ -17,6 +17,8 @@ use Rattle.measurement.specs.declared.measured.Layout.{Layout}
 use Rattle.measurement.specs.Requests.{HasCounts, HasEntry}
 use Rattle.program_tasks.specs.Hints.{hints_word}
 use Rattle.program_tasks.specs.Layouts.{IsLaidOut, IsNumber, at_zero}
+use Rattle.program_tasks.specs.Monitors.{AreWholePages, base_name, size_name}
+use Rattle.text_lines.specs.Numbers.{number_of}
 use Rattle.program_tasks.specs.Subcommands.{Text, subcommand_word}
 use Rattle.program_tasks.specs.Tasks.{BeginsAt, Counts, IsGiven, format_word, table_format_word}
 use Rattle.program_tasks.specs.Tasks.{input_word, is_identifier, limit_word, mode_word, width_word}
@@ -66,6 +68,10 @@ fault_text (faults.Number option word) = value_text word.now
 fault_text faults.Pages =
     codes "an enclave has 1 to 1024 pages of text and data, 1 of text at least, and at most 256 shared"
 fault_text faults.EntryOffset = codes "'--entry <N>' has to be even and less than the bytes of the text"
+fault_text (faults.Monitor word) = value_text word.now
+    (codes "' for '--monitor <BASE> <SIZE>': no number below 2^64")
+fault_text faults.MonitorPages =
+    codes "'--monitor <BASE> <SIZE>' has to be whole pages of 4096 bytes, one at least, and none past 2^56"
 
 -- what a subcommand asks of the values of its arguments, one thing at a time
 pub data Demand : Type 0 where
@@ -90,6 +96,8 @@ pub data Demand : Type 0 where
   numbers : Text → Demand
   has_pages : Demand
   enters_text : Demand
+  spells : Text → Demand
+  has_whole_pages : Demand
 
 -- the values lack it: the argument of that name has no value; the word of `--entries` names no
 -- limit, that of `--format` no format of a plan or of a table, that of `--xlen` no width, that of
@@ -98,8 +106,9 @@ pub data Demand : Type 0 where
 -- and that other file are both standard input; the certificate is the map; the file is said to be a
 -- listing and a trace; answers are to be explained and to be compared; a platform is named where it
 -- is said to be no trace; of registers another table is asked for than the text, or costs of what
--- is no text of a map, or machine mode of a map; the word of that option is no number; or no
--- enclave has pages like those, or an entry like that
+-- is no text of a map, or machine mode of a map; the word of that option is no number; no enclave
+-- has pages like those, or an entry like that; a word of a monitor's two is no number; or these are
+-- no whole pages
 abbrev pub Lacks : (Text → Option Text) → (Text → Option Text) → Demand → Type 0
 Lacks value flag (has name) = value name ≡ None
 Lacks value flag names_limit = (limit : Limit) → value (codes "entries") ≢ Some (limit_word limit)
@@ -133,6 +142,10 @@ Lacks value flag has_pages = (layout : Layout) → IsLaidOut value layout
     → ¬ HasCounts (at_zero layout)
 Lacks value flag enters_text = (layout : Layout) → IsLaidOut value layout
     → ¬ HasEntry (at_zero layout)
+Lacks value flag (spells name) = (base size word : Text) × (value base_name ≡ Some base)
+    × (value size_name ≡ Some size) × (value name ≡ Some word) × (number_of word ≡ None)
+Lacks value flag has_whole_pages = (base size : ℕ) × IsNumber (value base_name) base
+    × IsNumber (value size_name) size × ¬ AreWholePages base size
 
 -- what is reported where they lack it: a value of an option with its word, a certificate in the
 -- place of its map with the map
@@ -159,6 +172,8 @@ Tells value (numbers name) (faults.Number option word) = (option.now ≡ name)
     × (value name ≡ Some word.now)
 Tells value has_pages fault = fault ≡ faults.Pages
 Tells value enters_text fault = fault ≡ faults.EntryOffset
+Tells value (spells name) (faults.Monitor word) = value name ≡ Some word.now
+Tells value has_whole_pages fault = fault ≡ faults.MonitorPages
 Tells value demand fault = ⊥
 
 -- the fault of one demand: the values lack it, and that is reported
@@ -177,6 +192,10 @@ of_layout = has (codes "text") ∷ numbers (codes "text") ∷ has (codes "data")
     ∷ numbers (codes "data") ∷ has (codes "shared") ∷ numbers (codes "shared")
     ∷ has (codes "entry") ∷ numbers (codes "entry") ∷ has_pages ∷ enters_text ∷ []
 
+-- what is asked of where a monitor is
+abbrev pub of_monitor : List Demand
+of_monitor = spells base_name ∷ spells size_name ∷ has_whole_pages ∷ []
+
 -- what each subcommand asks, in the order in which it is looked at
 abbrev pub demands_of : Subcommand → List Demand
 demands_of subcommands.Run = has (codes "PLATFORM") ∷ has (codes "TRACE") ∷ one_answer ∷ []
@@ -193,11 +212,12 @@ demands_of subcommands.Show = has (codes "MAP") ∷ has (codes "entries") ∷ na
 demands_of subcommands.Audit = has (codes "MAP") ∷ has (codes "REGISTERS")
     ∷ reads_once (codes "REGISTERS") ∷ has (codes "xlen") ∷ names_width ∷ has (codes "mode")
     ∷ names_mode ∷ []
-demands_of subcommands.Map = has (codes "REGISTERS") ∷ has (codes "xlen") ∷ names_width
+demands_of subcommands.Map = has (codes "FILE") ∷ has (codes "xlen") ∷ names_width
     ∷ has (codes "mode") ∷ names_mode ∷ []
 demands_of subcommands.Lint = has (codes "FILE") ∷ one_kind ∷ of_trace ∷ has (codes "xlen")
     ∷ names_width ∷ []
 demands_of subcommands.Measure = has (codes "FILE") ∷ of_layout
+demands_of subcommands.Platform = has (codes "BOARD") ∷ of_monitor
 
 -- the fault of a subcommand's values: the first demand that they lack tells it, and a word that is
 -- no subcommand is a required argument that is missing

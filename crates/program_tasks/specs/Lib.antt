@@ -10,3 +10,4 @@ pub mod Layouts
 pub mod Inputs
 pub mod Places
 pub mod Words
+pub mod Monitors

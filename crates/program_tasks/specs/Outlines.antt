@@ -19,14 +19,16 @@ outline_of (tasks.Check map cert) =
     record { subcommand = subcommands.Check; first = map; second = Some cert; cert = None }
 outline_of (tasks.Audit map registers) =
     record { subcommand = subcommands.Audit; first = map; second = Some registers; cert = None }
-outline_of (tasks.Map registers) =
-    record { subcommand = subcommands.Map; first = registers; second = None; cert = None }
+outline_of (tasks.Map file) =
+    record { subcommand = subcommands.Map; first = file; second = None; cert = None }
 outline_of (tasks.Lint file platform) =
     record { subcommand = subcommands.Lint; first = file; second = platform; cert = None }
 outline_of (tasks.Show map limit) =
     record { subcommand = subcommands.Show; first = map; second = None; cert = None }
 outline_of (tasks.Measure file layout) =
     record { subcommand = subcommands.Measure; first = file; second = None; cert = None }
+outline_of (tasks.Platform board monitor) =
+    record { subcommand = subcommands.Platform; first = board; second = None; cert = None }
 
 -- the name of a file, where there is one, and otherwise that of none
 abbrev pub name_or_none : Option (Bor (List ℕ)) → List ℕ

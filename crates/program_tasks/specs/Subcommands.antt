@@ -20,6 +20,7 @@ subcommand_word subcommands.Audit = codes "audit"
 subcommand_word subcommands.Map = codes "map"
 subcommand_word subcommands.Lint = codes "lint"
 subcommand_word subcommands.Measure = codes "measure"
+subcommand_word subcommands.Platform = codes "platform"
 
 -- the program's word and the subcommand's, as a user enters them
 abbrev pub usage_words : Subcommand → Text

@@ -24,8 +24,9 @@ use Rattle.program_tasks.specs.declared.request.Request.{Request}
 use Rattle.program_tasks.specs.declared.task.Subcommand.{Subcommand}
 use Rattle.program_tasks.specs.declared.task.Task.{Task}
 use Rattle.program_tasks.specs.declared.task.Task.TheVariants.{Run, Plan, Judge, Check, Show, Audit}
-use Rattle.program_tasks.specs.declared.task.Task.TheVariants.{Map, Lint, Measure}
+use Rattle.program_tasks.specs.declared.task.Task.TheVariants.{Map, Lint, Measure, Platform}
 use Rattle.program_tasks.specs.Layouts.{IsEnclave, IsLaidOut}
+use Rattle.program_tasks.specs.Monitors.{IsMonitor, IsOfPages}
 use Rattle.program_tasks.specs.Subcommands.{Text, subcommand_of, word_of}
 
 -- the word that names a limit
@@ -151,8 +152,8 @@ HasValues value flag (Audit map registers) options =
     × IsFlag (flag (codes "all")) options.all
     × (value (codes "xlen") ≡ Some (width_word options.xlen))
     × (value (codes "mode") ≡ Some (mode_word options.mode))
-HasValues value flag (Map registers) options =
-    (value (codes "REGISTERS") ≡ Some registers.now)
+HasValues value flag (Map file) options =
+    (value (codes "FILE") ≡ Some file.now)
     × (value (codes "xlen") ≡ Some (width_word options.xlen))
     × (value (codes "mode") ≡ Some (mode_word options.mode))
 HasValues value flag (Lint file platform) options =
@@ -163,6 +164,9 @@ HasValues value flag (Lint file platform) options =
 HasValues value flag (Measure file layout) options =
     (value (codes "FILE") ≡ Some file.now)
     × IsLaidOut value layout
+HasValues value flag (Platform board monitor) options =
+    (value (codes "BOARD") ≡ Some board.now)
+    × IsMonitor value monitor
 
 -- a word that means standard input
 abbrev pub input_word : Text
@@ -183,7 +187,8 @@ IsOfRegisters registers mode = mode ≡ Machine → registers ≡ true
 -- standard input is not both a map and the trace or the registers beside it. A certificate does not
 -- take the place of its map. The name of a plan is an identifier, and its first entry is one that
 -- such a hart has. Registers have a table as text alone, costs are in the text of a map's table
--- alone, and machine mode is asked for of registers alone. What is measured is an enclave
+-- alone, and machine mode is asked for of registers alone. What is measured is an enclave. The
+-- monitor of a platform has whole pages
 abbrev pub IsSound : Task → Options → Type 0
 IsSound (Plan map cert limit) options =
     (option_map (λ s. s.now) cert ≢ Some map.now)
@@ -195,6 +200,7 @@ IsSound (Show map limit) options = IsOfMap options.registers options.table
     × IsOfText options.registers options.table options.costs
     × IsOfRegisters options.registers options.mode
 IsSound (Measure file layout) options = IsEnclave layout
+IsSound (Platform board monitor) options = IsOfPages monitor
 IsSound task options = Unit {0}
 
 -- no sound task is that subcommand with these values

@@ -55,6 +55,10 @@ pub enum Fault<'a> {
     Pages,
     /// No enclave of that text is entered there.
     EntryOffset,
+    /// A value of `--monitor` is no number.
+    Monitor(&'a str),
+    /// Its values are no whole pages of the space.
+    MonitorPages,
 }
 
 /// What comes after the word that `--entries` does not take.
@@ -121,6 +125,13 @@ const NO_PAGES: &str =
 /// Of an entry that no enclave of that text has.
 const NO_ENTRY_OFFSET: &str = "'--entry <N>' has to be even and less than the bytes of the text";
 
+/// After a value of `--monitor` that is no number.
+const NO_MONITOR: &str = "' for '--monitor <BASE> <SIZE>': no number below 2^64";
+
+/// Of values of it that are no whole pages.
+const NO_WHOLE_PAGES: &str =
+    "'--monitor <BASE> <SIZE>' has to be whole pages of 4096 bytes, one at least, and none past 2^56";
+
 /// What is said of a value that an option does not take.
 fn value_text(alloc: Global, word: &str, taken: &str) -> Result<String, AllocError>
     ensures { IfOk result (λ text. text.bytes.items ≡ value_text word.now taken.now) }
@@ -165,6 +176,8 @@ impl Fault<'_> {
             Fault::Number { option, word } => number_text(alloc, option, word),
             Fault::Pages => String::from_str(alloc, NO_PAGES),
             Fault::EntryOffset => String::from_str(alloc, NO_ENTRY_OFFSET),
+            Fault::Monitor(word) => value_text(alloc, word, NO_MONITOR),
+            Fault::MonitorPages => String::from_str(alloc, NO_WHOLE_PAGES),
         }
     }
 }

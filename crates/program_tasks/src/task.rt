@@ -52,10 +52,10 @@ pub enum Task<'a> {
         /// The listing of the registers.
         registers: &'a str,
     },
-    /// Print the map that registers mean.
+    /// Print the map that registers mean, or that of a board's device tree.
     Map {
-        /// The listing of the registers.
-        registers: &'a str,
+        /// The listing of the registers, or the device tree.
+        file: &'a str,
     },
     /// Say what is wrong with a file, line by line.
     Lint {
@@ -77,6 +77,13 @@ pub enum Task<'a> {
         file: &'a str,
         /// What is measured beside its pages.
         layout: Layout,
+    },
+    /// Print the platform of a board's device tree.
+    Platform {
+        /// The device tree.
+        board: &'a str,
+        /// Where the monitor is, its base and its size in bytes, where that is given.
+        monitor: Option<(u64, u64)>,
     },
 }
 
@@ -135,10 +142,11 @@ pub fn outline_of<'a>(task: &Task<'a>) -> TaskOutline<'a>
         Task::Audit { map, registers } => {
             TaskOutline::reads(Subcommand::Audit, map, Some(registers))
         }
-        Task::Map { registers } => TaskOutline::reads(Subcommand::Map, registers, None),
+        Task::Map { file } => TaskOutline::reads(Subcommand::Map, file, None),
         Task::Lint { file, platform } => TaskOutline::reads(Subcommand::Lint, file, platform),
         Task::Show { map, .. } => TaskOutline::reads(Subcommand::Show, map, None),
         Task::Measure { file, .. } => TaskOutline::reads(Subcommand::Measure, file, None),
+        Task::Platform { board, .. } => TaskOutline::reads(Subcommand::Platform, board, None),
     }
 }
 
@@ -173,10 +181,12 @@ pub enum Subcommand {
     Lint,
     /// `measure`.
     Measure,
+    /// `platform`.
+    Platform,
 }
 
 /// All of them, as the program's help lists them.
-pub const SUBCOMMANDS: [Subcommand; 9] = [
+pub const SUBCOMMANDS: [Subcommand; 10] = [
     Subcommand::Run,
     Subcommand::Plan,
     Subcommand::Judge,
@@ -186,6 +196,7 @@ pub const SUBCOMMANDS: [Subcommand; 9] = [
     Subcommand::Map,
     Subcommand::Lint,
     Subcommand::Measure,
+    Subcommand::Platform,
 ];
 
 impl Subcommand {
@@ -203,6 +214,7 @@ impl Subcommand {
             Subcommand::Map => "map",
             Subcommand::Lint => "lint",
             Subcommand::Measure => "measure",
+            Subcommand::Platform => "platform",
         }
     }
 
@@ -220,6 +232,7 @@ impl Subcommand {
             Subcommand::Map => "pmpmon map",
             Subcommand::Lint => "pmpmon lint",
             Subcommand::Measure => "pmpmon measure",
+            Subcommand::Platform => "pmpmon platform",
         }
     }
 

@@ -14,6 +14,7 @@ use crate::arguments::{
 use crate::fault::Fault;
 use crate::given::Values;
 use crate::layout::layout_in;
+use crate::monitor::monitor_in;
 use crate::options::{Answers, LintKind, Options, TableFormat};
 use crate::request::Request;
 use crate::task::{Subcommand, Task};
@@ -258,10 +259,10 @@ fn map_in<'a, V: Values<'a>>(given: &V, base: Options<'a>) -> Result<Request<'a>
     ensures fault { IfErr result (IsFirst (V.value given.now) (V.flag given.now)
         (demands_of Subcommand.Map)) }
 {
-    let registers = value_in(given, "REGISTERS")?;
+    let file = value_in(given, "FILE")?;
     let xlen = width_in(given)?;
     let mode = mode_in(given)?;
-    let task = Task::Map { registers };
+    let task = Task::Map { file };
     let options = Options { xlen, mode, ..base };
     Ok(Request { task, options })
 }
@@ -320,6 +321,21 @@ fn measure_in<'a, V: Values<'a>>(given: &V, base: Options<'a>) -> Result<Request
     })
 }
 
+fn platform_in<'a, V: Values<'a>>(given: &V, base: Options<'a>) -> Result<Request<'a>, Fault<'a>>
+    ensures task { IfOk result (IsRequestOf Subcommand.Platform base.entry.hints
+        (V.value given.now) (V.flag given.now)) }
+    ensures fault { IfErr result (IsFirst (V.value given.now) (V.flag given.now)
+        (demands_of Subcommand.Platform)) }
+{
+    let board = value_in(given, "BOARD")?;
+    let monitor = monitor_in(given)?;
+    let task = Task::Platform { board, monitor };
+    Ok(Request {
+        task,
+        options: base,
+    })
+}
+
 /// The task of a subcommand with its values.
 fn task_in<'a, V: Values<'a>>(
     subcommand: Subcommand,
@@ -341,6 +357,7 @@ fn task_in<'a, V: Values<'a>>(
         Subcommand::Map => map_in(given, base),
         Subcommand::Lint => lint_in(given, base),
         Subcommand::Measure => measure_in(given, base),
+        Subcommand::Platform => platform_in(given, base),
     }
 }
 

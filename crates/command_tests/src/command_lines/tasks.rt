@@ -153,14 +153,12 @@ const OF_TWO_FILES: &[Row<'static>] = &[
     ),
     (
         &["pmpmon", "map", "board.txt"],
-        Task::Map {
-            registers: "board.txt",
-        },
+        Task::Map { file: "board.txt" },
         PLAIN,
     ),
     (
         &["pmpmon", "map", "b", "--xlen", "32", "--mode", "m"],
-        Task::Map { registers: "b" },
+        Task::Map { file: "b" },
         Options {
             xlen: Xlen::Rv32,
             mode: Mode::Machine,
@@ -172,6 +170,52 @@ const OF_TWO_FILES: &[Row<'static>] = &[
 #[test]
 fn check_audit_and_map_take_their_files(rt: HostRuntime) {
     are_tasks(&rt, rt.alloc(), OF_TWO_FILES);
+}
+
+const PLATFORMS: &[Row<'static>] = &[
+    (
+        &["pmpmon", "platform", "board.dtb"],
+        Task::Platform {
+            board: "board.dtb",
+            monitor: None,
+        },
+        PLAIN,
+    ),
+    (
+        &[
+            "pmpmon",
+            "platform",
+            "--monitor",
+            "0x80000000",
+            "524288",
+            "-",
+        ],
+        Task::Platform {
+            board: "-",
+            monitor: Some((0x80000000, 0x80000)),
+        },
+        PLAIN,
+    ),
+    (
+        &[
+            "pmpmon",
+            "platform",
+            "b",
+            "--monitor",
+            "0",
+            "0x100000000000000",
+        ],
+        Task::Platform {
+            board: "b",
+            monitor: Some((0, 1 << 56)),
+        },
+        PLAIN,
+    ),
+];
+
+#[test]
+fn platform_takes_its_monitor(rt: HostRuntime) {
+    are_tasks(&rt, rt.alloc(), PLATFORMS);
 }
 
 const LINTED: &[Row<'static>] = &[

@@ -1,5 +1,6 @@
 //! Each read and each write fails in turn under each command.
 
+use super::boards::BOARD;
 use super::devices::{Failing, Tried, try_on};
 use super::runs::{certificate, printed};
 use std::alloc::Global;
@@ -151,6 +152,11 @@ fn a_failing_device_ends_each_command_with_its_text(rt: HostRuntime) {
             (&["pmpmon", "audit", "m", "s"], MAP, LISTING),
             (&["pmpmon", "show", "m"], MAP, b""),
             (&["pmpmon", "map", "m"], LISTING, b""),
+            (
+                &["pmpmon", "platform", "m", "--monitor", "0x80000000", "4096"],
+                BOARD,
+                b"",
+            ),
             (&["pmpmon", "lint", "m"], IDLE, b""),
         ],
     );

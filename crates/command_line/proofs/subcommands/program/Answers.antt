@@ -1,7 +1,7 @@
 use Rattle.std.proofs.Common.{◌∙◌, ◌||◌, ap, ap₂, sym, [], ◌∷◌}
 use Rattle.clap.specs.Words.{app_of}
 use Rattle.command_line.specs.ClapModel.{with_subcommands}
-use Rattle.program_tasks.specs.declared.task.Subcommand.TheVariants.{Audit, Check, Judge, Lint, Map, Measure, Plan, Run, Show}
+use Rattle.program_tasks.specs.declared.task.Subcommand.TheVariants.{Audit, Check, Judge, Lint, Map, Measure, Plan, Platform, Run, Show}
 use Rattle.command_line.proofs.Building.{none_left, with_next_subcommand}
 use Rattle.command_line.proofs.subcommands.program.Goals as goal
 
@@ -9,7 +9,7 @@ pub loop-subcommand-init : goal.loop-subcommand-init
 unfolding with_subcommands
 loop-subcommand-init c = record {
   local = c.bare_program-program.ensures.local;
-  app = ap (λ app. with_subcommands app (Run ∷ Plan ∷ Judge ∷ Check ∷ Show ∷ Audit ∷ Map ∷ Lint ∷ Measure ∷ [])) c.bare_program-program.ensures.app;
+  app = ap (λ app. with_subcommands app (Run ∷ Plan ∷ Judge ∷ Check ∷ Show ∷ Audit ∷ Map ∷ Lint ∷ Measure ∷ Platform ∷ [])) c.bare_program-program.ensures.app;
 }
 
 pub loop-subcommand-preserved : goal.loop-subcommand-preserved

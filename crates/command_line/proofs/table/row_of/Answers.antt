@@ -37,3 +37,7 @@ returns-in-Lint c = rw c.in-Lint.is refl
 pub returns-in-Measure : goal.returns-in-Measure
 unfolding with_arguments
 returns-in-Measure c = rw c.in-Measure.is refl
+
+pub returns-in-Platform : goal.returns-in-Platform
+unfolding with_arguments
+returns-in-Platform c = rw c.in-Platform.is refl

@@ -5,7 +5,9 @@ use Rattle.host_tree.proofs.blocks.put_begin.Goals as goal
 
 pub returns : goal.returns
 returns c =
-    let name = c.args.name.now in
-    (word_bytes 1 ++ text_bytes name, two_joined c.args.block.now.items _ _ (word_bytes 1) (text_bytes name) c.in_ok-put_word.ensures
-        c.in_ok-put_text.ensures,
-    λ names rest. begin_front names name rest c.requires)
+    let name = c.args.name.now in (
+      word_bytes 1 ++ text_bytes name,
+      two_joined c.args.block.now.items _ _ (word_bytes 1) (text_bytes name) c.in_ok-put_word.ensures
+          c.in_ok-put_text.ensures,
+      λ names rest. begin_front names name rest c.requires,
+    )

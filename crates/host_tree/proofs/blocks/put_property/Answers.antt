@@ -16,6 +16,8 @@ returns c =
     let p = c.in_ok-place.ensures in
     let joined = four_joined c.args.block.now.items _ _ _ _ (word_bytes 3) (word_bytes c.in_ok-len.len) (word_bytes c.in_ok-place.place) (value_bytes value)
     c.in_ok-put_word.ensures c.in_ok-put_word-2.ensures c.in_ok-put_word-3.ensures c.in_ok-put_value.ensures in
-    let same = bytes_are c.in_ok-len.len c.in_ok-place.place (length value) c.args.place value l.same p.same refl in
-    (property_bytes c.args.place value, joined ∙ ap (λ (x : List ℕ). c.args.block.now.items ++ x) same,
-    λ names rest name named. property_front names value rest name c.args.place l.fits p.fits named)
+    let same = bytes_are c.in_ok-len.len c.in_ok-place.place (length value) c.args.place value l.same p.same refl in (
+      property_bytes c.args.place value,
+      joined ∙ ap (λ (x : List ℕ). c.args.block.now.items ++ x) same,
+      λ names rest name named. property_front names value rest name c.args.place l.fits p.fits named,
+    )

@@ -10,9 +10,6 @@ use Rattle.host_tree.proofs.Adding.{adds_both, adds_same}
 use Rattle.host_tree.proofs.Ranged.{kept_settings}
 use Rattle.host_tree.proofs.host.put_tree.Goals as goal
 
-
-
-
 pub returns : goal.returns
 returns c = λ board e.
     let root = c.in-Some.root in
@@ -33,7 +30,7 @@ returns c = λ board e.
     let more = adds_both _ _ _ own (parts_of_nodes made ++ (ends ∷ [])) a2 last in
     let all = adds_both _ _ _ (begins root.name.now ∷ []) (own ++ (parts_of_nodes made ++ (ends ∷ []))) a1 more in
     let same : (begins root.name.now ∷ []) ++ (own ++ (parts_of_nodes made ++ (ends ∷ []))) ≡ begins [] ∷ (map has s ++ (parts_of_nodes made ++ (ends ∷
-        []))) = cc in (
+    []))) = cc in (
       record { properties = s; children = made },
       record {
         cells = cells;

@@ -18,7 +18,9 @@ returns c =
     let name = c.args.name.now in
     let first = c.in_ok-put_bytes.ensures in
     let last : c.put_bytes-2.new.out.items ≡ c.put_bytes.new.out.items ++ 0 ∷ [] = c.in_ok-put_bytes-2.ensures ∙ ap (λ (x : List ℕ).
-        c.put_bytes.new.out.items ++ x) c.as_slice.ensures in
-    let whole = two names _ name _ first last in
-    (at_end _ names name c.put_bytes-2.new.out.items (ap length c.as_slice-place.ensures.value) whole (name_added names name c.requires), name ++ 0 ∷ [],
-        whole ∙ append_assoc names name (0 ∷ []))
+    c.put_bytes.new.out.items ++ x) c.as_slice.ensures in
+    let whole = two names _ name _ first last in (
+      at_end _ names name c.put_bytes-2.new.out.items (ap length c.as_slice-place.ensures.value) whole (name_added names name c.requires),
+      name ++ 0 ∷ [],
+      whole ∙ append_assoc names name (0 ∷ []),
+    )

@@ -12,7 +12,8 @@ use Rattle.host_tree.proofs.own_node.put_head.Goals as goal
 pub returns : goal.returns
 returns c =
     let closed = c.in_ok-is_closed.ensures in (
-      closed.0, closed.1,
+      closed.0,
+      closed.1,
       λ own e.
           let Q = parts_of c.args.head.now.properties.now in
           let n = c.args.head.now.name.now in
@@ -23,7 +24,7 @@ returns c =
           let closed_is : c.in_ok-is_closed.is_closed ≡ is_closed share.harts share.ranges.now way (live_kind place (map has own)) closed.0 (map has own) =
           closed.2 ∙ ap (λ (x : List Part). is_closed share.harts share.ranges.now way (live_kind place x) closed.0 x) e in
           let same : map has (host_settings c.is_hart.result c.in_ok-is_closed.is_closed own) ≡ map has (node_settings (portion_of share) place way
-              closed.0 own) =
+          closed.0 own) =
           ap (λ (x : Bool). map has (host_settings x c.in_ok-is_closed.is_closed own)) hart_is
           ∙ ap (λ (x : Bool). map has (host_settings (has_type (codes "cpu") (map has own)) x own)) closed_is in
           adds_same _ _ ((begins n ∷ []) ++ map has (host_settings c.is_hart.result c.in_ok-is_closed.is_closed own))

@@ -14,8 +14,8 @@ returns c =
     let s = setting (codes "#size-cells") (big_bytes 4 cells.size) in
     let r = setting (codes "ranges") [] in
     let first = property_is _ _ _ (codes "#address-cells") _ (big_bytes 4 cells.address) c.as_slice.ensures (c.as_slice-2.ensures ∙
-        c.count_bytes-address.ensures) c.in_ok-put_property.ensures in
+    c.count_bytes-address.ensures) c.in_ok-put_property.ensures in
     let second = property_is _ _ _ (codes "#size-cells") _ (big_bytes 4 cells.size) c.as_slice-3.ensures (c.as_slice-4.ensures ∙
-        c.count_bytes-size.ensures) c.in_ok-put_property-2.ensures in
+    c.count_bytes-size.ensures) c.in_ok-put_property-2.ensures in
     let third = property_is _ _ _ (codes "ranges") _ [] c.as_slice-5.ensures c.as_slice-6.ensures c.in_ok-put_property-3.ensures in
     adds_both _ _ _ (has a ∷ []) (has s ∷ has r ∷ []) first (adds_both _ _ _ (has s ∷ []) (has r ∷ []) second third)

@@ -13,7 +13,10 @@ returns c =
     let address = c.args.address in
     let size = c.args.size in
     let a = double_word_bytes address in
-    let s = double_word_bytes size in
-    (a ++ s, two_joined c.args.out.now.items _ _ a s c.in_ok-put_double_word.ensures c.in_ok-put_double_word-2.ensures, sixteen address size,
-    λ rest one later ea es h. pair_front address size rest one later (omega arith) (omega arith) ea es
-    (λ p q. let yes = c.is_end.ensures.1 (p, q) in cc (yes, c.if-is_end.false)) h)
+    let s = double_word_bytes size in (
+      a ++ s,
+      two_joined c.args.out.now.items _ _ a s c.in_ok-put_double_word.ensures c.in_ok-put_double_word-2.ensures,
+      sixteen address size,
+      λ rest one later ea es h. pair_front address size rest one later (omega arith) (omega arith) ea es
+          (λ p q. let yes = c.is_end.ensures.1 (p, q) in cc (yes, c.if-is_end.false)) h,
+    )

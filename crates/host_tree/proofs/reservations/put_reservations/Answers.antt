@@ -21,16 +21,21 @@ pub loop-one-preserved : goal.loop-one-preserved
 loop-one-preserved c =
     let was = c.loop-one.invariant in
     let one = c.in_ok-put_reservation.ensures in
-    let both = length-append was.0 one.0 in
-    (was.0 ++ one.0, two_joined c.args.out.now.items _ _ was.0 one.0 was.1 one.1, omega (arith, was.2, one.2, both),
-    held_step was.0 one.0 c.args.list.now c.loop-one.one-index _ (omega arith) was.3 one.3)
+    let both = length-append was.0 one.0 in (
+      was.0 ++ one.0,
+      two_joined c.args.out.now.items _ _ was.0 one.0 was.1 one.1,
+      omega (arith, was.2, one.2, both),
+      held_step was.0 one.0 c.args.list.now c.loop-one.one-index _ (omega arith) was.3 one.3,
+    )
 
 pub returns : goal.returns
 returns c =
     let was = c.loop-one.invariant in
     let ended = c.in_ok-put_end.ensures in
     let list = c.args.list.now in
-    let at_end : length list ≡ c.loop-one.one-index = omega arith in
-    (was.0 ++ ended.0, two_joined c.args.out.now.items _ _ was.0 ended.0 was.1 ended.1,
-    all_there (length was.0) (length ended.0) _ c.loop-one.one-index (length list) was.2 ended.2 (sym at_end) (length-append was.0 ended.0),
-    last was.0 ended.0 list c.loop-one.one-index at_end was.3 ended.3)
+    let at_end : length list ≡ c.loop-one.one-index = omega arith in (
+      was.0 ++ ended.0,
+      two_joined c.args.out.now.items _ _ was.0 ended.0 was.1 ended.1,
+      all_there (length was.0) (length ended.0) _ c.loop-one.one-index (length list) was.2 ended.2 (sym at_end) (length-append was.0 ended.0),
+      last was.0 ended.0 list c.loop-one.one-index at_end was.3 ended.3,
+    )

@@ -13,5 +13,5 @@ returns-in_ok-put_property-in-Pool c =
     let one = setting (codes "compatible") (codes "pmpmon,pool" ++ 0 ∷ []) in
     let written : Adds c.args.writer.now _ (has one ∷ []) =
     property_is _ _ _ (codes "compatible") _ (codes "pmpmon,pool" ++ 0 ∷ []) c.as_slice.ensures c.as_slice-in-Pool.ensures
-        c.in_ok-put_property-in-Pool.ensures in
+    c.in_ok-put_property-in-Pool.ensures in
     adds_same _ _ (has one ∷ []) (map has (compatible_of c.args.purpose)) (ap (λ (p : Purpose). map has (compatible_of p)) (sym c.in-Pool.is)) written

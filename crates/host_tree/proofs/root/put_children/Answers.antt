@@ -24,13 +24,13 @@ nodes-preserved c =
     next (with_ranges cells ranges) (portion_of c.args.share.now) BelowRoot cells same (parts_of c.args.pieces.now) (parts_of c.nodes.rest.now)
     c.args.writer.now c.nodes.writer c.nodes.invariant head.name.now parts.0 (parts_of head.inner.now) (parts_of head.properties.now) parts.1 parts.2 parts.3
     (goes_on cells ranges head.name.now other) (parts_of c.in-Ok.behind.now) c.put_child.new.writer c.put_end.new.writer c.in-Ok.ensures.ok
-        c.in-Ok-put_end.ensures
+    c.in-Ok-put_end.ensures
     (parts_of c.after_end-rest.result.now) c.after_end-rest.ensures.parts
 
 pub returns-in_default-clause-ok : goal.returns-in_default-clause-ok
 returns-in_default-clause-ok c = λ nodes behind e none.
     let done = at_end (with_ranges c.args.cells.now c.args.ranges.now) (portion_of c.args.share.now) BelowRoot c.args.cells.now same (parts_of
-        c.args.pieces.now)
+    c.args.pieces.now)
     (parts_of c.nodes.rest.now) c.args.writer.now c.nodes.writer c.put_parent.new.writer c.nodes.invariant c.in_default.ensures.parts
     c.in_ok-put_parent.ensures.written nodes behind e none in
     (done.1, done.2, done.3)

@@ -11,7 +11,8 @@ returns-in-Ok c = record {
   ok = λ later behind e none.
       let rest = c.after_end-later.ensures.parts (parts_of_nodes later ++ behind) e in
       let noted = c.in-Ok.ensures.ok later behind rest none in (
-        noted.1, noted.2,
+        noted.1,
+        noted.2,
         adds_both _ _ _ (parts_of_nodes (range_nodes c.args.cells.now c.args.ranges.now)) (ends ∷ parts_of_nodes noted.1) c.in_ok-put_ranges.ensures.written
             (adds_both _ _ _ (ends ∷ []) (parts_of_nodes noted.1) c.in_ok-put_end.ensures noted.3),
       );

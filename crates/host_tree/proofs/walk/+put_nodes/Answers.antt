@@ -25,7 +25,7 @@ nodes-preserved t c =
     let one = child host c.args.place cells way head.name.now (parts_of head.properties.now) (parts_of head.inner.now)
     (parts_of c.in-Ok-put_nodes.behind.now) c.nodes.writer c.put_head.new.writer c.put_nodes.new.writer own.0 own.1 own.2
     c.in-Ok-inner_of.inner.cells inner.0 c.in-Ok-inner_of.inner.place (path_of c.in-Ok-inner_of.inner.way) inner.1 inner.2 inner.3 inner.4
-        c.in-Ok-put_nodes.ensures.ok in
+    c.in-Ok-put_nodes.ensures.ok in
     record {
       len = omega (arith, c.nodes.invariant.len, c.in-Some.ensures.shorter, c.in-Ok-put_nodes.ensures.len, c.after_end-rest.ensures.len);
       whole = next (λ (x : Nodes). x) host c.args.place cells way (parts_of c.args.pieces.now) (parts_of c.nodes.rest.now) c.args.writer.now c.nodes.writer
@@ -46,7 +46,7 @@ nodes-preserved-in-Ok-put_end t c =
     let one = child host c.args.place cells way head.name.now (parts_of head.properties.now) (parts_of head.inner.now)
     (parts_of c.in-Ok-put_nodes.behind.now) c.nodes.writer c.put_head.new.writer c.put_nodes.new.writer own.0 own.1 own.2
     c.in-Ok-inner_of.inner.cells inner.0 c.in-Ok-inner_of.inner.place (path_of c.in-Ok-inner_of.inner.way) inner.1 inner.2 inner.3 inner.4
-        c.in-Ok-put_nodes.ensures.ok in
+    c.in-Ok-put_nodes.ensures.ok in
     record {
       len = omega (arith, c.nodes.invariant.len, c.in-Some.ensures.shorter, c.in-Ok-put_nodes.ensures.len, c.after_end-rest.ensures.len);
       whole = next (λ (x : Nodes). x) host c.args.place cells way (parts_of c.args.pieces.now) (parts_of c.nodes.rest.now) c.args.writer.now c.nodes.writer

@@ -12,7 +12,7 @@ returns-in_err-xlen-clause-fault g c =
     let flag = g.V.Values.flag c.args.given.now in
     handed_on c.from_residual-in_err-xlen.result c.in_err-xlen.field-0.0 (IsFirst value flag (demands_of subcommands.Map)) c.from_residual-in_err-xlen.ensures.1
     (inr (
-      given value _ _ c.in_ok-registers.ensures.value,
+      given value _ _ c.in_ok-file.ensures.value,
       longer value flag (has (codes "xlen") ∷ names_width ∷ []) (has (codes "mode") ∷ names_mode ∷ []) _ c.in_err-xlen.ensures.fault,
     ))
 
@@ -21,4 +21,4 @@ returns-in_err-mode-clause-fault g c =
     let value = g.V.Values.value c.args.given.now in
     let flag = g.V.Values.flag c.args.given.now in
     handed_on c.from_residual-in_err-mode.result c.in_err-mode.field-0.0 (IsFirst value flag (demands_of subcommands.Map)) c.from_residual-in_err-mode.ensures.1
-    (inr (given value _ _ c.in_ok-registers.ensures.value, moded_wrongly value flag _ _ c.in_ok-xlen.ensures.value c.in_err-mode.ensures.fault))
+    (inr (given value _ _ c.in_ok-file.ensures.value, moded_wrongly value flag _ _ c.in_ok-xlen.ensures.value c.in_err-mode.ensures.fault))

@@ -7,8 +7,10 @@ use Rattle.host_tree.proofs.Texts.{name_stays}
 use Rattle.host_tree.proofs.writer.TreeWriter.end_node.Goals as goal
 
 pub returns : goal.returns
-returns c = λ parts h. record { spelt = λ more.
-    let names = c.args.self.now.names.items ++ more in
-    let added = c.in_ok-put_end.ensures in
-    subst (λ (x : List ℕ). SpellsFront names x (parts ++ ends ∷ [])) (sym added.1)
-    (and_part names c.args.self.now.block.items added.0 parts ends (h.spelt more) (λ rest. added.2 names rest)); }
+returns c = λ parts h. record {
+  spelt = λ more.
+      let names = c.args.self.now.names.items ++ more in
+      let added = c.in_ok-put_end.ensures in
+      subst (λ (x : List ℕ). SpellsFront names x (parts ++ ends ∷ [])) (sym added.1)
+      (and_part names c.args.self.now.block.items added.0 parts ends (h.spelt more) (λ rest. added.2 names rest));
+}

@@ -16,12 +16,12 @@ returns-clause-spelt c = λ tree has_written.
     let n = c.args.self.now.names.items in
     let z = replicate {A = ℕ} c.args.ends.now.free 0 in
     let e3 : c.put_bytes.new.out.items ≡ c.put_reservations.new.out.items ++ b = c.in_ok-put_bytes.ensures ∙ ap (λ (x : List ℕ).
-        c.put_reservations.new.out.items ++ x) c.as_slice-3.ensures.value in
+    c.put_reservations.new.out.items ++ x) c.as_slice-3.ensures.value in
     let e5 : c.put_bytes-2.new.out.items ≡ c.put_word.new.out.items ++ n = c.in_ok-put_bytes-2.ensures ∙ ap (λ (x : List ℕ). c.put_word.new.out.items ++
-        x) c.as_slice-4.ensures.value in
+    x) c.as_slice-4.ensures.value in
     let whole_is = appended h c.in-Ok.out.items c.put_header.new.out.items c.put_reservations.new.out.items c.put_bytes.new.out.items c.put_word.new.out.items
     c.put_bytes-2.new.out.items c.put_zeros.new.out.items r.0 b n z c.in-Ok.ensures.items c.in_ok-put_header.ensures r.1 e3 c.in_ok-put_word.ensures e5
-        c.in_ok-put_zeros.ensures in
+    c.in_ok-put_zeros.ensures in
     let bl : length c.as_slice.result.now ≡ length b = ap length c.as_slice.ensures.value in
     let nl : length c.as_slice-2.result.now ≡ length n = ap length c.as_slice-2.ensures.value in
     let zl = length-replicate {A = ℕ} c.args.ends.now.free 0 in
@@ -46,12 +46,12 @@ returns-clause-boot_hart c =
     let n = c.args.self.now.names.items in
     let z = replicate {A = ℕ} c.args.ends.now.free 0 in
     let e3 : c.put_bytes.new.out.items ≡ c.put_reservations.new.out.items ++ b = c.in_ok-put_bytes.ensures ∙ ap (λ (x : List ℕ).
-        c.put_reservations.new.out.items ++ x) c.as_slice-3.ensures.value in
+    c.put_reservations.new.out.items ++ x) c.as_slice-3.ensures.value in
     let e5 : c.put_bytes-2.new.out.items ≡ c.put_word.new.out.items ++ n = c.in_ok-put_bytes-2.ensures ∙ ap (λ (x : List ℕ). c.put_word.new.out.items ++
-        x) c.as_slice-4.ensures.value in
+    x) c.as_slice-4.ensures.value in
     let whole_is = appended h c.in-Ok.out.items c.put_header.new.out.items c.put_reservations.new.out.items c.put_bytes.new.out.items c.put_word.new.out.items
     c.put_bytes-2.new.out.items c.put_zeros.new.out.items r.0 b n z c.in-Ok.ensures.items c.in_ok-put_header.ensures r.1 e3 c.in_ok-put_word.ensures e5
-        c.in_ok-put_zeros.ensures in
+    c.in_ok-put_zeros.ensures in
     let bl : length c.as_slice.result.now ≡ length b = ap length c.as_slice.ensures.value in
     let nl : length c.as_slice-2.result.now ≡ length n = ap length c.as_slice-2.ensures.value in
     let zl = length-replicate {A = ℕ} c.args.ends.now.free 0 in

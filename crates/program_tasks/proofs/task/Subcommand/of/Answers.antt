@@ -16,7 +16,7 @@ loop-subcommand-preserved c =
 each :
     (P : Subcommand → Type 0)
     → All P (subcommands.Run ∷ subcommands.Plan ∷ subcommands.Judge ∷ subcommands.Check ∷ subcommands.Show ∷ subcommands.Audit ∷ subcommands.Map
-    ∷ subcommands.Lint ∷ subcommands.Measure ∷ [])
+    ∷ subcommands.Lint ∷ subcommands.Measure ∷ subcommands.Platform ∷ [])
     → (subcommand : Subcommand) → P subcommand
 each P all subcommands.Run = all 0 subcommands.Run (omega arith)
 each P all subcommands.Plan = all 1 subcommands.Run (omega arith)
@@ -27,6 +27,7 @@ each P all subcommands.Audit = all 5 subcommands.Run (omega arith)
 each P all subcommands.Map = all 6 subcommands.Run (omega arith)
 each P all subcommands.Lint = all 7 subcommands.Run (omega arith)
 each P all subcommands.Measure = all 8 subcommands.Run (omega arith)
+each P all subcommands.Platform = all 9 subcommands.Run (omega arith)
 
 pub returns-clause-none : goal.returns-clause-none
 returns-clause-none c = λ none subcommand.

@@ -1,0 +1,21 @@
+use Rattle.std.proofs.lemmas.Result.{err_from_is_err_and}
+use Rattle.byte_streams.proofs.Writings.{breaks_after, breaks_before, prints_on}
+use Rattle.command_inputs.proofs.trouble.about_board.Goals as goal
+
+pub returns-in_err-write_whole : goal.returns-in_err-write_whole
+returns-in_err-write_whole g c =
+    rw (err_from_is_err_and c.from_residual.result c.from_residual.ensures.1).1
+    (breaks_before g.E.Sink.contents g.E.Sink.failures g.E.Sink.stalls _ c.in_err-write_whole.ensures)
+
+pub returns-in_err-write_shown : goal.returns-in_err-write_shown
+returns-in_err-write_shown g c =
+    let name = rw c.as_bytes.ensures.value at c.in_err-write_shown.ensures in
+    rw (err_from_is_err_and c.from_residual-in_err-write_shown.result c.from_residual-in_err-write_shown.ensures.1).1
+    (breaks_after g.E.Sink.contents g.E.Sink.failures g.E.Sink.stalls c.in_ok-write_whole.ensures
+    (breaks_before g.E.Sink.contents g.E.Sink.failures g.E.Sink.stalls _ name))
+
+pub returns : goal.returns
+returns g c =
+    let name = rw c.as_bytes.ensures.value at c.in_ok-write_shown.ensures in
+    prints_on g.E.Sink.contents g.E.Sink.failures g.E.Sink.stalls _ _ _ _ _ c.write_reason.result c.in_ok-write_whole.ensures
+    (prints_on g.E.Sink.contents g.E.Sink.failures g.E.Sink.stalls _ _ _ _ _ c.write_reason.result name c.write_reason.ensures)
