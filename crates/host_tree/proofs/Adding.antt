@@ -1,7 +1,7 @@
 -- Parts that a writer has written one after another.
 use Rattle.std.proofs.Common.{◌≡◌, ℕ, List, [], ◌∷◌, ◌++◌, append_assoc, append-nil, map, sym, ap, subst, refl, ◌∙◌}
 use Rattle.device_tree.specs.Pieces.{Part, Setting, begins, ends, has}
-use Rattle.device_tree.specs.Nodes.{Nodes, no_nodes, node, parts_of_nodes}
+use Rattle.device_tree.specs.Nodes.{Nodes, node, parts_of_nodes}
 use Rattle.host_tree.specs.declared.writer.TreeWriter.{TreeWriter}
 use Rattle.host_tree.specs.Written.{Adds, HasWritten, setting}
 

@@ -1,5 +1,5 @@
 -- The blocks of a tree, appended one behind another.
-use Rattle.std.proofs.Common.{◌≡◌, ℕ, List, [], ◌∷◌, ◌++◌, append_assoc, sym, ap, refl, ◌∙◌}
+use Rattle.std.proofs.Common.{◌≡◌, ℕ, List, [], ◌++◌, sym, ap, ◌∙◌}
 use Rattle.host_tree.specs.declared.header.Header.{Header}
 use Rattle.host_tree.specs.Header.{header_words}
 use Rattle.host_tree.specs.Written.{word_bytes, words_bytes}

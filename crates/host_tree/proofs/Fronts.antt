@@ -1,35 +1,7 @@
 -- Parts in front of others, and the bytes that are written of them.
-use Rattle.std.proofs.Common.{
-  ◌≡◌,
-  ℕ,
-  zero,
-  suc,
-  ◌+◌,
-  ◌*◌,
-  ◌-◌,
-  ◌/◌,
-  ◌^◌,
-  ◌<◌,
-  ◌≤◌,
-  List,
-  [],
-  ◌∷◌,
-  ◌++◌,
-  length,
-  drop,
-  take,
-  replicate,
-  append_assoc,
-  length-append,
-  sym,
-  ap,
-  subst,
-  refl,
-  ◌∙◌,
-  arith,
-}
+use Rattle.std.proofs.Common.{◌≡◌, ℕ, suc, ◌+◌, ◌-◌, ◌^◌, ◌<◌, List, [], ◌∷◌, ◌++◌, length, drop, take, replicate, append_assoc, length-append, sym, ap, subst, refl, ◌∙◌, arith}
 use Rattle.std.proofs.lemmas.List.{length-replicate}
-use Rattle.device_tree.specs.Pieces.{Part, SpellsPart, SpellsParts, begins, ends, has, part}
+use Rattle.device_tree.specs.Pieces.{Part, SpellsPart, begins, ends, has, part}
 use Rattle.device_tree.specs.Words.{BeginsWith, BeginsWithText, Leaves, padded, word_at}
 use Rattle.host_tree.specs.Written.{IsText, SpellsFront, setting, text_bytes, value_bytes, word_bytes}
 use Rattle.host_tree.proofs.Numbers.{drop_front, length-word, past, read-word, take_front}

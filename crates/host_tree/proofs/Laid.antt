@@ -1,42 +1,14 @@
 -- The blocks of a whole tree.
-use Rattle.std.proofs.Common.{
-  ◌≡◌,
-  ℕ,
-  zero,
-  suc,
-  ◌+◌,
-  ◌*◌,
-  ◌%◌,
-  ◌^◌,
-  ◌<◌,
-  ◌≤◌,
-  List,
-  [],
-  ◌∷◌,
-  ◌++◌,
-  length,
-  drop,
-  take,
-  get_or,
-  append_assoc,
-  append-nil,
-  length-append,
-  sym,
-  ap,
-  subst,
-  refl,
-  ◌∙◌,
-  arith,
-}
+use Rattle.std.proofs.Common.{◌≡◌, ℕ, ◌+◌, ◌*◌, ◌%◌, ◌^◌, ◌<◌, List, [], ◌∷◌, ◌++◌, length, drop, take, get_or, append_assoc, append-nil, length-append, sym, ap, subst, refl, ◌∙◌, arith}
 use Rattle.device_tree.specs.declared.reservations.Reservation.{Reservation}
 use Rattle.device_tree.specs.Nodes.{Tree, parts_of_tree}
 use Rattle.device_tree.specs.Pieces.{Part, SpellsParts, the_end}
-use Rattle.device_tree.specs.Trees.{AreBlocks, BeginsWithReservations, IsBlock, IsHeader, SpellsTree, reservations_of, strings_of, structure_of}
+use Rattle.device_tree.specs.Trees.{BeginsWithReservations, SpellsTree, reservations_of, strings_of, structure_of}
 use Rattle.device_tree.specs.Words.{double_word_at, word_at}
 use Rattle.host_tree.specs.declared.header.Header.{Header}
 use Rattle.host_tree.specs.Header.{header_words}
 use Rattle.host_tree.specs.Written.{SpellsFront, double_word_bytes, word_bytes, words_bytes}
-use Rattle.host_tree.proofs.Numbers.{drop_front, length-double, length-word, length-words, past, read-double, take_front, words_at}
+use Rattle.host_tree.proofs.Numbers.{drop_front, length-double, length-word, length-words, read-double, take_front, words_at}
 use Rattle.host_tree.proofs.Fronts.{word_front}
 
 -- a reservation in front

@@ -1,34 +1,9 @@
 -- Numbers of four and of eight bytes in front of others.
-use Rattle.std.proofs.Common.{
-  ◌≡◌,
-  ℕ,
-  zero,
-  suc,
-  ◌+◌,
-  ◌*◌,
-  ◌^◌,
-  ◌<◌,
-  ◌≤◌,
-  List,
-  [],
-  ◌∷◌,
-  ◌++◌,
-  length,
-  drop,
-  take,
-  get_or,
-  append_assoc,
-  length-append,
-  sym,
-  ap,
-  refl,
-  ◌∙◌,
-  arith,
-}
+use Rattle.std.proofs.Common.{◌≡◌, ℕ, zero, suc, ◌+◌, ◌*◌, ◌^◌, ◌<◌, List, [], ◌∷◌, ◌++◌, length, drop, take, get_or, append_assoc, length-append, sym, ap, refl, ◌∙◌, arith}
 use Rattle.std.proofs.lemmas.List.{drop-drop, drop-append-le, drop_all, take-append-le, take_all}
 use Rattle.byteorder.specs.Endian.{big_number}
 use Rattle.byteorder.specs.Numbers.{big_number-reads_back, length-bytes_high_first}
-use Rattle.device_tree.specs.Words.{word_at, double_word_at}
+use Rattle.device_tree.specs.Words.{word_at}
 use Rattle.host_tree.specs.Written.{word_bytes, double_word_bytes, words_bytes}
 
 pub length-word : (x : ℕ) → length (word_bytes x) ≡ 4

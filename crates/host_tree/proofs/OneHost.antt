@@ -1,5 +1,5 @@
 -- A node in front of nodes, and the host's.
-use Rattle.std.proofs.Common.{◌≡◌, ℕ, List, [], ◌∷◌, ◌++◌, Option, map, codes, sym, ap, subst, refl, ◌∙◌, append_assoc, append-nil}
+use Rattle.std.proofs.Common.{◌≡◌, ℕ, List, [], ◌∷◌, ◌++◌, Option, map, codes, sym, ap, subst, refl, ◌∙◌, append_assoc}
 use Rattle.device_tree.specs.Pieces.{Part, Setting, begins, has, ends}
 use Rattle.device_tree.specs.Nodes.{Nodes, no_nodes, node, parts_of_nodes, BeginsNoNode, HasNoProperty}
 use Rattle.device_tree.proofs.OneTree.{ends_begins_none}

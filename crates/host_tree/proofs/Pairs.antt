@@ -1,27 +1,5 @@
 -- Pairs of a base and a size, one behind another.
-use Rattle.std.proofs.Common.{
-  ◌≡◌,
-  ℕ,
-  zero,
-  suc,
-  ◌-◌,
-  ◌<◌,
-  ◌≤◌,
-  List,
-  [],
-  ◌∷◌,
-  ◌++◌,
-  length,
-  drop,
-  slice_index,
-  append_assoc,
-  sym,
-  ap,
-  subst,
-  refl,
-  ◌∙◌,
-  arith,
-}
+use Rattle.std.proofs.Common.{◌≡◌, ℕ, zero, suc, ◌-◌, ◌<◌, ◌≤◌, List, [], ◌∷◌, ◌++◌, length, drop, slice_index, append_assoc, sym, ap, refl, ◌∙◌, arith}
 use Rattle.board_ranges.specs.declared.rows.Extent.{Extent}
 use Rattle.host_tree.specs.Platforms.{flat_words, pairs_in, triples_in}
 

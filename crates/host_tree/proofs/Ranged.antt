@@ -5,8 +5,8 @@ use Rattle.device_tree.specs.Pieces.{Part, Setting, begins, has, ends}
 use Rattle.device_tree.specs.Nodes.{Nodes, no_nodes, node, parts_of_nodes}
 use Rattle.board_ranges.specs.declared.cells.Cells.{Cells}
 use Rattle.host_tree.specs.declared.reserved.Reserved.{Reserved}
-use Rattle.host_tree.specs.Settings.{host_settings, left_settings}
-use Rattle.host_tree.specs.Ranges.{and_nodes, parent_settings, range_nodes, with_ranges}
+use Rattle.host_tree.specs.Settings.{left_settings}
+use Rattle.host_tree.specs.Ranges.{and_nodes, range_nodes, with_ranges}
 
 pub parts-and : (x y : Nodes) → parts_of_nodes (and_nodes x y) ≡ parts_of_nodes x ++ parts_of_nodes y
 parts-and no_nodes y = refl

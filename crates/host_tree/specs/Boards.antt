@@ -1,6 +1,6 @@
 -- What a board has, of the ranges that its tree says.
-use Rattle.std.specs.Prelude.{◌≡◌, ◌⊎◌, ℕ, ◌+◌, ◌*◌, ◌%◌, ◌<◌, ◌≤◌}
-use Rattle.std.specs.Prelude.{Bool, true, false, not, cond, List, [], ◌∷◌, ◌++◌}
+use Rattle.std.specs.Prelude.{◌≡◌, ◌⊎◌, ℕ, ◌+◌, ◌%◌, ◌<◌, ◌≤◌}
+use Rattle.std.specs.Prelude.{Bool, false, not, cond, List, [], ◌∷◌, ◌++◌}
 use Rattle.board_ranges.specs.declared.kinds.Kind.{Kind}
 use Rattle.board_ranges.specs.declared.kinds.Kind.TheVariants.{Memory, Device, Machine}
 use Rattle.board_ranges.specs.declared.kinds.Kind.TheVariants.{Reserved, Hart}

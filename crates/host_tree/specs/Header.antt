@@ -1,7 +1,6 @@
 -- The bytes of a header. Devicetree Specification 0.4, section 5.2.
 use Rattle.std.specs.Prelude.{ℕ, List, [], ◌∷◌, ◌++◌}
 use Rattle.host_tree.specs.declared.header.Header.{Header}
-use Rattle.host_tree.specs.Written.{words_bytes}
 
 -- the magic number, the size of all, and where the structure, the names and the reservations begin
 abbrev pub first_words : Header → List ℕ

@@ -1,5 +1,5 @@
 -- A platform as firmware has it, and what of it a board has.
-use Rattle.std.specs.Prelude.{◌≡◌, ◌⊎◌, ℕ, zero, suc, ◌<◌, cond, eqb}
+use Rattle.std.specs.Prelude.{◌≡◌, ℕ, zero, suc, cond, eqb}
 use Rattle.std.specs.Prelude.{List, [], ◌∷◌, ◌++◌, true, false}
 use Rattle.device_tree.specs.declared.reservations.Reservation.{Reservation}
 use Rattle.device_tree.specs.Nodes.{Tree}

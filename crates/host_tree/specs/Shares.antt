@@ -1,5 +1,5 @@
 -- What a host has of the board, and which nodes are not its own.
-use Rattle.std.specs.Prelude.{ℕ, ◌+◌, ◌-◌, Bool, true, false, ◌&&◌, ◌||◌, not, leb, ltb}
+use Rattle.std.specs.Prelude.{ℕ, ◌-◌, Bool, true, false, ◌&&◌, ◌||◌, not, leb, ltb}
 use Rattle.std.specs.Prelude.{List, [], ◌∷◌, Option, None, Some, codes}
 use Rattle.device_tree.specs.Pieces.{Part}
 use Rattle.board_ranges.specs.declared.kinds.Kind.{Kind}

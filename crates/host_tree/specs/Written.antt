@@ -1,5 +1,5 @@
 -- What a writer has written of a tree. Devicetree Specification 0.4, section 5.4.
-use Rattle.std.specs.Prelude.{◌≡◌, ℕ, ◌+◌, ◌-◌, ◌<◌, List, [], ◌∷◌, ◌++◌, length, replicate}
+use Rattle.std.specs.Prelude.{◌≡◌, ℕ, ◌+◌, ◌-◌, List, [], ◌∷◌, ◌++◌, length, replicate}
 use Rattle.byteorder.specs.Endian.{big_bytes}
 use Rattle.device_tree.specs.Words.{padded, text_len}
 use Rattle.device_tree.specs.Pieces.{Part, Setting, SpellsParts}

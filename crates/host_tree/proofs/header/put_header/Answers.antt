@@ -1,4 +1,4 @@
-use Rattle.std.proofs.Common.{◌≡◌, ◌++◌, ◌∙◌, ℕ, List, [], ◌∷◌, append_assoc, ap}
+use Rattle.std.proofs.Common.{◌++◌, ◌∙◌, ℕ, List, append_assoc, ap}
 use Rattle.host_tree.proofs.Fronts.{two_joined}
 use Rattle.host_tree.proofs.header.put_header.Goals as goal
 

@@ -1,6 +1,6 @@
 use Rattle.std.proofs.Common.{◌≡◌, ◌++◌, ◌∷◌, [], ◌∙◌, false, List, map, sym, ap, subst, refl}
 use Rattle.device_tree.specs.Pieces.{Part, Setting, begins, ends, has, parts_of}
-use Rattle.device_tree.specs.Nodes.{Tree, parts_of_nodes, parts_of_tree}
+use Rattle.device_tree.specs.Nodes.{parts_of_nodes, parts_of_tree}
 use Rattle.device_tree.proofs.OneTree.{ends_begins_none}
 use Rattle.board_ranges.specs.Meaning.{AreCells}
 use Rattle.board_ranges.proofs.OneNode.{root_front}

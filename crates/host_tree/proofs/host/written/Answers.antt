@@ -1,4 +1,4 @@
-use Rattle.std.proofs.Common.{◌≡◌, ◌∙◌, [], List, ap, subst}
+use Rattle.std.proofs.Common.{◌∙◌, [], List, ap, subst}
 use Rattle.device_tree.specs.declared.reservations.Reservation.{Reservation}
 use Rattle.device_tree.specs.declared.pieces.PlacedPiece.{PlacedPiece}
 use Rattle.device_tree.specs.Pieces.{parts_of}

@@ -1,4 +1,4 @@
-use Rattle.std.proofs.Common.{◌≡◌, ◌++◌, ◌∷◌, ◌∙◌, [], Bool, List, codes, map, sym, ap, subst}
+use Rattle.std.proofs.Common.{◌≡◌, ◌++◌, ◌∷◌, ◌∙◌, [], Bool, List, codes, map, ap}
 use Rattle.device_tree.specs.Pieces.{Part, begins, has, parts_of}
 use Rattle.board_ranges.specs.Windows.{path_of}
 use Rattle.board_ranges.specs.Meaning.{has_type, live_kind}

@@ -1,10 +1,8 @@
-use Rattle.std.proofs.Common.{◌≡◌, ◌++◌, ◌∷◌, ◌∙◌, [], ℕ, List, map, codes, sym, ap, refl}
-use Rattle.device_tree.specs.Pieces.{Part, begins, ends, has}
-use Rattle.device_tree.specs.Nodes.{parts_of_nodes}
+use Rattle.std.proofs.Common.{◌∷◌, ◌∙◌, [], codes}
+use Rattle.device_tree.specs.Pieces.{has}
 use Rattle.byteorder.specs.Endian.{big_bytes}
-use Rattle.host_tree.specs.Ranges.{parent_settings, range_name, range_nodes, range_settings}
 use Rattle.host_tree.specs.Written.{setting}
-use Rattle.host_tree.proofs.Adding.{adds_both, begin_is, property_is}
+use Rattle.host_tree.proofs.Adding.{adds_both, property_is}
 use Rattle.host_tree.proofs.parent.put_settings.Goals as goal
 
 pub returns : goal.returns

@@ -1,4 +1,4 @@
-use Rattle.std.proofs.Common.{◌≡◌, ◌∙◌, List, ap, refl, subst, sym, true, false}
+use Rattle.std.proofs.Common.{◌∙◌, List, refl, subst, sym, false}
 use Rattle.board_ranges.specs.declared.rows.Extent.{Extent}
 use Rattle.host_tree.specs.Boards.{HartsThere, extents_of}
 use Rattle.host_tree.specs.Platforms.{IsClipped, pairs_in}

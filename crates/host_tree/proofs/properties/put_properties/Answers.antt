@@ -1,5 +1,5 @@
-use Rattle.std.proofs.Common.{◌≡◌, ◌++◌, List, map, sym}
-use Rattle.device_tree.specs.Pieces.{Part, has}
+use Rattle.std.proofs.Common.{◌++◌, map, sym}
+use Rattle.device_tree.specs.Pieces.{has}
 use Rattle.host_tree.specs.Settings.{host_settings, left_settings, status_of}
 use Rattle.host_tree.proofs.Adding.{adds_both, adds_same, map-both}
 use Rattle.host_tree.proofs.properties.put_properties.Goals as goal

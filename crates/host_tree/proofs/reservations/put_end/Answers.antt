@@ -1,4 +1,4 @@
-use Rattle.std.proofs.Common.{◌≡◌, ℕ, List, ◌++◌, length, length-append, arith}
+use Rattle.std.proofs.Common.{◌≡◌, ℕ, ◌++◌, length, length-append, arith}
 use Rattle.host_tree.specs.Written.{double_word_bytes}
 use Rattle.host_tree.proofs.Numbers.{length-double}
 use Rattle.host_tree.proofs.Fronts.{two_joined}

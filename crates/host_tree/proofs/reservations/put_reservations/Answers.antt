@@ -1,4 +1,4 @@
-use Rattle.std.proofs.Common.{◌≡◌, ℕ, List, [], ◌∷◌, ◌++◌, ◌+◌, ◌*◌, length, length-append, append_assoc, append-nil, drop, subst, sym, ap, refl, ◌∙◌, arith}
+use Rattle.std.proofs.Common.{◌≡◌, ℕ, List, [], ◌++◌, ◌+◌, ◌*◌, length, length-append, append_assoc, drop, subst, sym, arith}
 use Rattle.std.proofs.lemmas.List.{drop_all}
 use Rattle.device_tree.specs.Trees.{BeginsWithReservations}
 use Rattle.device_tree.specs.declared.reservations.Reservation.{Reservation}

@@ -1,7 +1,5 @@
-use Rattle.std.proofs.Common.{◌≡◌, ◌++◌, ◌∷◌, ◌∙◌, [], ℕ, List, map, codes, sym, ap, refl}
-use Rattle.device_tree.specs.Pieces.{Part, begins, ends, has}
-use Rattle.device_tree.specs.Nodes.{parts_of_nodes}
-use Rattle.byteorder.specs.Endian.{big_bytes}
+use Rattle.std.proofs.Common.{◌++◌, ◌∷◌, [], map, codes, sym, ap}
+use Rattle.device_tree.specs.Pieces.{has}
 use Rattle.host_tree.specs.Ranges.{compatible_of}
 use Rattle.host_tree.specs.declared.reserved.Purpose.{Purpose}
 use Rattle.host_tree.specs.Written.{Adds, setting}

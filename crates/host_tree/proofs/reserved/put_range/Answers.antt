@@ -1,10 +1,7 @@
-use Rattle.std.proofs.Common.{◌≡◌, ◌++◌, ◌∷◌, ◌∙◌, [], ℕ, List, map, codes, sym, ap, refl}
-use Rattle.device_tree.specs.Pieces.{Part, begins, ends, has}
-use Rattle.device_tree.specs.Nodes.{parts_of_nodes}
-use Rattle.byteorder.specs.Endian.{big_bytes}
-use Rattle.host_tree.specs.Ranges.{parent_settings, range_name, range_nodes, range_settings}
-use Rattle.host_tree.specs.Written.{setting}
-use Rattle.host_tree.proofs.Adding.{adds_both, begin_is, property_is}
+use Rattle.std.proofs.Common.{◌++◌, ◌∷◌, ◌∙◌, [], map}
+use Rattle.device_tree.specs.Pieces.{begins, ends, has}
+use Rattle.host_tree.specs.Ranges.{range_name, range_settings}
+use Rattle.host_tree.proofs.Adding.{adds_both, begin_is}
 use Rattle.host_tree.proofs.reserved.put_range.Goals as goal
 
 pub returns-clause-written : goal.returns-clause-written

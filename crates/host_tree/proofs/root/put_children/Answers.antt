@@ -1,7 +1,7 @@
-use Rattle.std.proofs.Common.{◌≡◌, ◌++◌, ◌∷◌, [], ◌∙◌, sym, subst, refl, arith, true, false}
+use Rattle.std.proofs.Common.{◌≡◌, ◌∙◌, sym, true, false}
 use Rattle.std.specs.Prelude.{bytes_eq, codes}
 use Rattle.device_tree.specs.Pieces.{parts_of}
-use Rattle.device_tree.specs.Nodes.{no_nodes, parts_of_nodes}
+use Rattle.device_tree.specs.Nodes.{parts_of_nodes}
 use Rattle.board_ranges.specs.declared.kinds.Place.TheVariants.{BelowRoot}
 use Rattle.board_ranges.specs.Windows.{same}
 use Rattle.host_tree.specs.HostTrees.{portion_of}

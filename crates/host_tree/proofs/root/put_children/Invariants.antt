@@ -1,4 +1,4 @@
-use Rattle.std.proofs.Common.{◌≤◌, length}
+use Rattle.std.proofs.Common.{length}
 use Rattle.device_tree.specs.Pieces.{parts_of}
 use Rattle.board_ranges.specs.declared.kinds.Place.TheVariants.{BelowRoot}
 use Rattle.board_ranges.specs.Windows.{same}

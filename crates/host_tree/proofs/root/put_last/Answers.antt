@@ -1,4 +1,4 @@
-use Rattle.std.proofs.Common.{◌≡◌, ◌++◌, ◌∷◌, [], ◌∙◌}
+use Rattle.std.proofs.Common.{◌++◌, ◌∷◌, []}
 use Rattle.device_tree.specs.Pieces.{ends}
 use Rattle.device_tree.specs.Nodes.{parts_of_nodes}
 use Rattle.host_tree.specs.Ranges.{range_nodes}

@@ -1,9 +1,7 @@
-use Rattle.std.proofs.Common.{◌≡◌, ℕ, List, [], ◌∷◌, ◌++◌, ◌∙◌, append_assoc, subst, sym, ap}
-use Rattle.device_tree.specs.Pieces.{Part, begins, ends, has}
-use Rattle.host_tree.specs.declared.writer.TreeWriter.{TreeWriter}
-use Rattle.host_tree.specs.Written.{HasWritten, SpellsFront, setting}
+use Rattle.std.proofs.Common.{ℕ, List, [], ◌∷◌, ◌++◌, subst, sym}
+use Rattle.device_tree.specs.Pieces.{ends}
+use Rattle.host_tree.specs.Written.{SpellsFront}
 use Rattle.host_tree.proofs.Fronts.{and_part}
-use Rattle.host_tree.proofs.Texts.{name_stays}
 use Rattle.host_tree.proofs.writer.TreeWriter.end_node.Goals as goal
 
 pub returns : goal.returns

@@ -1,4 +1,4 @@
-use Rattle.std.proofs.Common.{◌≡◌, ◌++◌, ◌∙◌, ℕ, List, [], ◌∷◌, length, replicate, sym, ap, subst, refl, append-nil, arith}
+use Rattle.std.proofs.Common.{◌≡◌, ◌++◌, ◌∙◌, ℕ, List, [], length, replicate, ap, subst, refl, append-nil, arith}
 use Rattle.std.proofs.lemmas.List.{length-replicate}
 use Rattle.device_tree.specs.Words.{word_at}
 use Rattle.device_tree.specs.Nodes.{parts_of_tree}

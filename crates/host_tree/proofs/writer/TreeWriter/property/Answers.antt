@@ -1,7 +1,6 @@
 use Rattle.std.proofs.Common.{◌≡◌, ℕ, List, [], ◌∷◌, ◌++◌, ◌∙◌, append_assoc, subst, sym, ap}
-use Rattle.device_tree.specs.Pieces.{Part, begins, ends, has}
-use Rattle.host_tree.specs.declared.writer.TreeWriter.{TreeWriter}
-use Rattle.host_tree.specs.Written.{HasWritten, SpellsFront, setting}
+use Rattle.device_tree.specs.Pieces.{has}
+use Rattle.host_tree.specs.Written.{SpellsFront, setting}
 use Rattle.host_tree.proofs.Fronts.{and_part}
 use Rattle.host_tree.proofs.Texts.{name_stays}
 use Rattle.host_tree.proofs.writer.TreeWriter.property.Goals as goal
