@@ -81,61 +81,64 @@ fn place_of<'a>(pieces: &'a [PlacedPiece<'a>], wanted: &[u8]) -> usize {
     pieces.len()
 }
 
-/// Whether the piece at a place is a property of that name and value.
-fn is_property<'a>(pieces: &'a [PlacedPiece<'a>], at: usize, name: &[u8], value: &[u8]) -> bool {
-    if at >= pieces.len() {
-        return false;
+/// The piece that many pieces behind a place, if there is one.
+fn piece_at<'a>(pieces: &'a [PlacedPiece<'a>], place: usize, behind: usize) -> Option<Piece<'a>> {
+    if place >= pieces.len() || behind >= pieces.len() - place {
+        return None;
     }
-    match pieces[at].piece {
-        Piece::Has(found, bytes) => found == name && bytes == value,
-        _ => false,
-    }
+    Some(pieces[place + behind].piece)
+}
+
+/// What is expected there: a property of that name and value.
+fn expect_property<'a>(
+    rt: &impl Abort,
+    pieces: &'a [PlacedPiece<'a>],
+    place: (usize, usize),
+    name: &[u8],
+    value: &[u8],
+) {
+    let (node, behind) = place;
+    let Some(Piece::Has(found, bytes)) = piece_at(pieces, node, behind) else {
+        panic!(rt; "no property");
+    };
+    assert!(rt; found == name);
+    assert!(rt; bytes == value);
 }
 
 fn expect_pieces<'a>(rt: &impl Abort, pieces: &'a [PlacedPiece<'a>]) {
     let disabled = b"disabled\0".as_slice();
     let status = b"status".as_slice();
-    let first = place_of(pieces, b"cpu@0".as_slice());
-    assert!(rt;
-        is_property(
-            pieces,
-            first + 3,
-            b"riscv,isa".as_slice(),
-            b"rv64imac_zicsr\0".as_slice()
-        )
-    );
-    assert!(rt;
-        is_property(
-            pieces,
-            first + 4,
-            b"riscv,isa-extensions".as_slice(),
-            b"i\0".as_slice()
-        )
-    );
-    assert!(rt;
-        is_property(
-            pieces,
-            place_of(pieces, b"cpu@1".as_slice()) + 1,
-            status,
-            disabled
-        )
-    );
+    let hart = place_of(pieces, b"cpu@0".as_slice());
+    let isa = b"riscv,isa".as_slice();
+    expect_property(rt, pieces, (hart, 3), isa, b"rv64imac_zicsr\0".as_slice());
+    let list = b"riscv,isa-extensions".as_slice();
+    expect_property(rt, pieces, (hart, 4), list, b"i\0".as_slice());
+    let other = place_of(pieces, b"cpu@1".as_slice());
+    expect_property(rt, pieces, (other, 1), status, disabled);
     let uart = place_of(pieces, b"uart@8000".as_slice());
-    assert!(rt; is_property(pieces, uart + 2, status, b"okay\0".as_slice()));
+    expect_property(rt, pieces, (uart, 2), status, b"okay\0".as_slice());
     let rtc = place_of(pieces, b"rtc@9000".as_slice());
-    assert!(rt; is_property(pieces, rtc + 1, status, disabled));
-    assert!(rt; !is_property(pieces, rtc + 3, status, b"okay\0".as_slice()));
-    let range = place_of(pieces, b"monitor@1000".as_slice());
-    assert!(rt; range == place_of(pieces, b"reserved-memory".as_slice()) + 4);
-    assert!(rt;
-        is_property(
-            pieces,
-            range + 1,
-            b"reg".as_slice(),
-            b"\0\0\x10\0\0\0\x08\0".as_slice()
-        )
+    expect_property(rt, pieces, (rtc, 1), status, disabled);
+    let Some(Piece::Ends) = piece_at(pieces, rtc, 3) else {
+        panic!(rt; "a second status");
+    };
+}
+
+fn expect_range<'a>(rt: &impl Abort, pieces: &'a [PlacedPiece<'a>]) {
+    let parent = place_of(pieces, b"reserved-memory".as_slice());
+    let Some(Piece::Begins(name)) = piece_at(pieces, parent, 4) else {
+        panic!(rt; "no range");
+    };
+    assert!(rt; name == b"monitor@1000".as_slice());
+    let reg = b"\0\0\x10\0\0\0\x08\0".as_slice();
+    expect_property(rt, pieces, (parent, 5), b"reg".as_slice(), reg);
+    expect_property(
+        rt,
+        pieces,
+        (parent, 6),
+        b"no-map".as_slice(),
+        b"".as_slice(),
     );
-    assert!(rt; is_property(pieces, range + 2, b"no-map".as_slice(), b"".as_slice()));
 }
 
 const MONITOR: Reserved = Reserved {
@@ -158,12 +161,15 @@ fn expect_host(rt: &impl Abort, alloc: Global, bytes: &[u8]) {
     let host = host_tree(alloc, &share, bytes, [MONITOR].as_slice(), 0).expect(rt, "a tree");
     let tree = read_tree(alloc, host.as_slice()).expect(rt, "a tree");
     expect_pieces(rt, tree.pieces.as_slice());
+    expect_range(rt, tree.pieces.as_slice());
 }
 
 #[test]
 fn a_host_has_its_tree(rt: HostRuntime) {
     let bytes = board(rt.alloc()).expect(&rt, "a tree");
     let found = board_of(rt.alloc(), bytes.as_slice()).expect(&rt, "a board");
-    assert!(&rt; found.harts.len() == 2 && found.harts[1].base == 1 && found.memory.len() == 1);
+    assert!(&rt; found.harts.len() == 2);
+    assert!(&rt; found.harts[1].base == 1);
+    assert!(&rt; found.memory.len() == 1);
     expect_host(&rt, rt.alloc(), bytes.as_slice());
 }
