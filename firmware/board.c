@@ -1,9 +1,20 @@
 /*
- * What the board has of the platform that the image was built for: one image serves boards with fewer harts and less memory. And
- * the device tree as the host gets it, with the ranges that are not its own.
+ * What the board has of the platform that the image was built for, and the device tree as the host gets it: the proved core reads
+ * the one and writes the other (crates/host_tree). One image serves boards with fewer harts and less memory.
  */
 #include "board.h"
-#include "device_tree.h"
+#include "heap.h"
+
+/* The proved core (crates/pmpmon_monitor). Both answer 0, or why nothing was changed. */
+int64_t pmpmon_find_platform(const uint8_t *tree, size_t room, struct platform_frame *platform);
+int64_t pmpmon_put_host_tree(const struct platform_frame *platform, uint64_t pool_base, uint64_t pool_size, uint8_t *tree, size_t room);
+
+/* The pool that the build was given: memory of the host, which its kernel does not use but for enclaves. */
+#ifndef POOL_BASE
+#define POOL_BASE 0ul
+#define POOL_SIZE 0ul
+#endif
+static const uint64_t pool_base = POOL_BASE, pool_size = POOL_SIZE;
 
 /* How many bytes from `at` on are memory of the host, one after another. */
 static uint64_t host_memory_at(uint64_t at)
@@ -20,73 +31,35 @@ static uint64_t host_memory_at(uint64_t at)
     return 0;
 }
 
-static void end_where(const char *why)
+static void end_where(int64_t fault)
 {
-    if (!why)
+    static const char *const words[] = {"", "cannot be read", "has no room", "needs more memory than the monitor has"};
+    if (!fault)
         return;
     put("monitor: the device tree ");
-    put(why);
+    put(words[fault & 3]);
     put("\n");
     power_off(1);
 }
 
-/* How many of `size` bytes from `base` on the board has, from the first on. */
-static uint64_t bytes_there(const struct board_in_tree *board, uint64_t base, uint64_t size)
-{
-    uint64_t there = 0;
-    for (uint32_t round = 0; round < board->ram_count; round++)
-        for (uint32_t i = 0; i < board->ram_count && there < size; i++)
-            if (base + there - board->ram[i].base < board->ram[i].size)
-                there = board->ram[i].base + board->ram[i].size - base;
-    return there < size ? there / PAGE * PAGE : size;
-}
-
-/* The harts from hart 0 on, and the memory from the start of each range on, that the platform has and the board. */
-static void find_platform(const struct board_in_tree *board)
-{
-    static struct platform_frame found;
-    uint64_t count = 0;
-    found = *platform;
-    while (found.harts > 1 && !(board->harts >> (found.harts - 1) & 1))
-        found.harts--;
-    for (uint64_t i = 0; i < platform->ram_count; i++) {
-        uint64_t size = bytes_there(board, platform->ram[i].base, platform->ram[i].size);
-        if (!size)
-            continue;
-        found.ram[count].base = platform->ram[i].base;
-        found.ram[count++].size = size;
-    }
-    for (uint64_t i = count; i < platform->ram_count; i++)
-        found.ram[i].base = found.ram[i].size = 0;
-    found.ram_count = count;
-    platform = &found;
-}
-
-/* The pool that the build was given: memory of the host, which its kernel does not use but for enclaves. */
-static const struct reserved pool[] = {
-#ifdef POOL_BASE
-    {"enclaves", "pmpmon,pool", POOL_BASE, POOL_SIZE},
-#endif
-};
-#define POOLS (sizeof pool / sizeof(struct reserved))
-
 static void find_pool(void)
 {
-    if (!POOLS || host_memory_at(pool->base) >= pool->size)
+    if (!pool_size || host_memory_at(pool_base) >= pool_size)
         return;
     put("monitor: the board has no memory for the pool of enclaves, ");
-    put_hex(pool->base);
+    put_hex(pool_base);
     put("\n");
     power_off(1);
 }
 
 void find_board(uint64_t tree)
 {
-    static struct board_in_tree board;
-    struct reserved ranges[1 + POOLS] = {{"monitor", 0, platform->monitor_base, platform->monitor_size}};
-    end_where(read_board((const uint8_t *)tree, host_memory_at(tree), &board));
-    find_platform(&board);
+    static struct platform_frame found;
+    uint8_t *at = (uint8_t *)tree;
+    found = *platform;
+    end_where(pmpmon_find_platform(at, host_memory_at(tree), &found));
+    platform = &found;
     find_pool();
-    memcpy(ranges + 1, pool, sizeof pool);
-    end_where(write_tree((uint8_t *)tree, host_memory_at(tree), platform, ranges, 1 + POOLS));
+    end_where(pmpmon_put_host_tree(platform, pool_base, pool_size, at, host_memory_at(tree)));
+    forget_heap();
 }

@@ -67,3 +67,13 @@ struct tried rattle_realloc(void *at, uint64_t had, uint64_t bytes, uint64_t ali
     }
     return got;
 }
+
+/* What is kept goes back into the arena, where no block is taken. */
+void forget_heap(void)
+{
+    if (heap_blocks)
+        return;
+    heap_most = 0;
+    for (unsigned i = 0; i < sizeof kept / sizeof kept[0]; i++)
+        kept[i] = 0;
+}

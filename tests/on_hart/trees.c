@@ -1,17 +1,28 @@
 /*
- * Tries firmware/device_tree.c on Linux, where a sanitizer sees each byte that it reads or writes.
+ * Tries the device trees of the proved module (crates/host_tree) on Linux, where a sanitizer sees each byte that C reads of them.
  *
  *   trees one IN ROOM BASE SIZE OUT    the tree of IN as a host gets it, with the monitor's range, or why not; OUT has its bytes
  *   trees pool IN ROOM BASE SIZE OUT   the same with the range of a pool too
- *   trees board IN                     the harts, as bits, and the memory that a tree has, or why they are not read
+ *   trees board IN                     how many harts, and which memory of the platform the board has, or why they are not read
  *   trees random IN ROOM COUNT         so many times with some bytes changed: how many were taken, and how many refused trees were changed
  */
-#include "device_tree.h"
+#include "frames.h"
+#include "heap.h"
 #include <stdio.h>
 #include <stdlib.h>
 #include <string.h>
 
 #define MOST (1u << 20)
+
+/* What the module's loop asks for, which is not called here. */
+int32_t rattle_errno(void)
+{
+    return 0;
+}
+
+int64_t pmpmon_find_platform(const uint8_t *tree, size_t room, struct platform_frame *platform);
+int64_t pmpmon_put_host_tree(const struct platform_frame *platform, uint64_t pool_base, uint64_t pool_size, uint8_t *tree, size_t room);
+static const char *const words[] = {"taken", "cannot be read", "has no room", "needs more memory than the monitor has"};
 
 static uint64_t seed = 1;
 
@@ -40,48 +51,49 @@ static const struct platform_frame platform = {
     .device = {{0x10000000, 0x1000, 3}, {0x101000, 0x1000, 3}},
 };
 
-static int one(const uint8_t *tree, size_t size, char **words, int is_pool)
+static int one(const uint8_t *tree, size_t size, char **given, int is_pool)
 {
-    size_t room = strtoul(words[0], 0, 0);
+    size_t room = strtoul(given[0], 0, 0);
     uint8_t *at = copy(tree, size, room);
-    struct reserved ranges[] = {{"monitor", 0, strtoul(words[1], 0, 0), strtoul(words[2], 0, 0)}, {"enclaves", "pmpmon,pool", 0x83000000, 0x1000000}};
-    const char *why = write_tree(at, room, &platform, ranges, 1 + (uint32_t)is_pool);
-    FILE *out = fopen(words[3], "wb");
+    struct platform_frame its = platform;
+    its.monitor_base = strtoul(given[1], 0, 0);
+    its.monitor_size = strtoul(given[2], 0, 0);
+    int64_t why = pmpmon_put_host_tree(&its, 0x83000000, is_pool ? 0x1000000 : 0, at, room);
+    FILE *out = fopen(given[3], "wb");
     fwrite(at, 1, room, out);
     fclose(out);
-    puts(why ? why : "taken");
+    puts(words[why]);
     free(at);
-    return 0;
+    return heap_blocks != 0;
 }
 
 static int board(const uint8_t *tree, size_t size)
 {
-    struct board_in_tree found;
+    struct platform_frame its = {.harts = 4, .ram_count = 3, .ram = {{0x80000000, 0x8000800}, {0x100000000, 0x80000000}, {0x200000000, 0x1000}}};
     uint8_t *at = copy(tree, size, size);
-    const char *why = read_board(at, size, &found);
+    int64_t why = pmpmon_find_platform(at, size, &its);
     free(at);
     if (why)
-        return puts(why) < 0;
-    printf("harts %lx", found.harts);
-    for (uint32_t i = 0; i < found.ram_count; i++)
-        printf(", %lx %lx", found.ram[i].base, found.ram[i].size);
+        return puts(words[why]) < 0;
+    printf("harts %lu", its.harts);
+    for (uint64_t i = 0; i < its.ram_count; i++)
+        printf(", %lx %lx", its.ram[i].base, its.ram[i].size);
     printf("\n");
     return 0;
 }
 
-static int many(const uint8_t *tree, size_t size, char **words)
+static int many(const uint8_t *tree, size_t size, char **given)
 {
-    static const struct reserved range = {"monitor", 0, 0x80000000, 0x80000};
-    struct board_in_tree found;
-    size_t room = strtoul(words[0], 0, 0), taken = 0, changed = 0;
-    for (size_t count = strtoul(words[1], 0, 0); count; count--) {
+    size_t room = strtoul(given[0], 0, 0), taken = 0, changed = 0;
+    for (size_t count = strtoul(given[1], 0, 0); count; count--) {
+        struct platform_frame its = platform;
         uint8_t *at = copy(tree, size, room), *before;
         /* A quarter of the changes is in the header. */
         for (uint32_t n = 1 + chance(4); n; n--)
             at[chance(chance(4) ? (uint32_t)size : 40)] ^= (uint8_t)(1u << chance(8));
         before = copy(at, room, room);
-        read_board(at, room, &found);
-        if (!write_tree(at, room, &platform, &range, 1))
+        pmpmon_find_platform(at, room, &its);
+        if (!pmpmon_put_host_tree(&platform, 0, 0, at, room))
             taken++;
         else
             changed += memcmp(at, before, room) != 0;
@@ -89,7 +101,7 @@ static int many(const uint8_t *tree, size_t size, char **words)
         free(before);
     }
     printf("%zu %zu\n", taken, changed);
-    return 0;
+    return heap_blocks != 0;
 }
 
 int main(int argc, char **argv)

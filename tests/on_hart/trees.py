@@ -1,4 +1,4 @@
-"""Device trees with the monitor's range: what tests/on_hart/run.py tries of firmware/device_tree.c, on Linux."""
+"""Device trees with the monitor's range: what tests/on_hart/run.py tries of the proved module, on Linux."""
 import shutil
 import struct
 import subprocess
@@ -6,9 +6,11 @@ from pathlib import Path
 
 TOP = Path(__file__).resolve().parents[2]
 HERE = Path(__file__).resolve().parent
+CLANG = Path(shutil.which("rt") or "rt").resolve().parents[1] / "toolchain/bin/clang"
+MODULE = TOP / "firmware/out/monitor.bc"
 FLAGS = ["-std=gnu11", "-O1", "-g", "-Wall", "-Wextra", "-Werror", "-fsanitize=address,undefined", "-fno-sanitize-recover=all"]
 BASE, SIZE, RANDOM = 0x80000000, 0x80000, 4000
-WITHOUT = "/dts-v1/; / {{ {cells} model = \"a\"; chosen {{ }}; memory@80000000 {{ reg = <{reg}>; }}; {more} }};"
+WITHOUT = "/dts-v1/; / {{ {cells} model = \"a\"; chosen {{ }}; memory@80000000 {{ device_type = \"memory\"; reg = <{reg}>; }}; {more} }};"
 RANGE = "monitor@80000000 {{ reg = <{range}>; no-map; }};"
 PARENT = "reserved-memory {{ {cells} ranges; {nodes} }};"
 TWO = {"cells": "#address-cells = <2>; #size-cells = <2>;", "reg": "0 0x80000000 0 0x8000000", "range": "0 0x80000000 0 0x80000"}
@@ -45,7 +47,9 @@ def trees(folder, told):
         print("left out: device trees, for want of dtc (on Debian: apt-get install --no-install-recommends device-tree-compiler)")
         return
     program = folder / "trees"
-    subprocess.run(["gcc", *FLAGS, f"-I{TOP}/firmware", "-o", program, HERE / "trees.c", TOP / "firmware/device_tree.c"], check=True)
+    module = folder / "trees.o"
+    subprocess.run([CLANG, "--no-default-config", "-O1", "-c", "-x", "ir", MODULE, "-o", module], check=True)
+    subprocess.run(["gcc", *FLAGS, "-DHEAP_SIZE=0x1000000", f"-I{TOP}/firmware", "-o", program, HERE / "trees.c", TOP / "firmware/heap.c", module], check=True)
 
     def answer(path, room, base=BASE):
         done = subprocess.run([program, "one", path, str(room), str(base), str(SIZE), folder / "out.dtb"], capture_output=True, text=True)
@@ -108,7 +112,7 @@ def pools(folder, told, program):
 # What the host has not is marked: {off} is put where a node gets the status, {on} where one keeps its own.
 BOARD = """
 cpus {{ #address-cells = <1>; #size-cells = <0>;
-    cpu@0 {{ reg = <0>; {on} riscv,isa = "rv64imafdch_zicsr{closed}_sstc"; riscv,isa-extensions = "i", "m"{closed_list}, "zicsr"; intc {{ reg = <9>; }}; }}; cpu@1 {{ reg = <1>; }}; cpu@2 {{ reg = <2>; {off} intc {{ reg = <9>; }}; }}; cpu@3 {{ {off} reg = <3>; }}; }};
+    cpu@0 {{ device_type = "cpu"; reg = <0>; {on} riscv,isa = "rv64imafdch_zicsr{closed}_sstc"; riscv,isa-extensions = "i", "m"{closed_list}, "zicsr"; intc {{ reg = <9>; }}; }}; cpu@1 {{ device_type = "cpu"; reg = <1>; }}; cpu@2 {{ device_type = "cpu"; reg = <2>; {off} intc {{ reg = <9>; }}; }}; cpu@3 {{ device_type = "cpu"; {off} reg = <3>; }}; }};
 soc {{ #address-cells = <2>; #size-cells = <2>; ranges;
     rtc@101000 {{ reg = <0 0x101000 0 0x1000>; {on} }}; test@100000 {{ reg = <0 0x100000 0 0x1000>; {off} }};
     serial@10000000 {{ reg = <0 0x10000000 0 0x100>; }}; two@10000000 {{ reg = <0 0x10000000 0 0x100 0 0x10001000 0 0x100>; {off} }};
@@ -136,18 +140,21 @@ def closed(folder, told, program):
 
 
 def boards(folder, told, program):
-    """Harts and memory of trees: in several nodes, in nodes with other cells, and beside nodes of other names."""
+    """What trees say of harts and memory: in several nodes, in nodes with other cells, and beside nodes of other names."""
     cpus = "cpus { #address-cells = <%d>; #size-cells = <0>; %s };"
     harts = "cpu@%x { device_type = \"cpu\"; reg = <%s>; interrupt-controller { reg = <9>; }; };"
     four = cpus % (1, " ".join(harts % (i, i) for i in range(4)) + " cpu-map { cpu@5 { reg = <5>; }; };")
-    two = cpus % (2, harts % (0, "0 0") + harts % (2, "0 2") + harts % (70, "0 70") + harts % (3, "1 3"))
-    more = "memory@100000000 { reg = <1 0 0 0x40000000 2 0 0 0x1000>; }; memory-controller@1 { reg = <0 1 0 1>; };"
-    rows = [("four harts", WITHOUT.format(more=four, **TWO), "harts f, 80000000 8000000")]
-    rows += [("harts of two cells, one that is not counted", WITHOUT.format(more=two, **TWO), "harts 5, 80000000 8000000")]
-    rows += [("cells of one word", WITHOUT.format(more=four, **ONE), "harts f, 80000000 8000000")]
-    rows += [("memory in three ranges", WITHOUT.format(more=four + more, **TWO), "harts f, 80000000 8000000, 100000000 40000000, 200000000 1000")]
-    rows += [("no harts", WITHOUT.format(more="", **TWO), "harts 0, 80000000 8000000")]
-    rows += [("memory that ends past the last address", WITHOUT.format(more="memory@1 { reg = <0xffffffff 0xfffff000 0 0x2000>; };", **TWO), "harts 0, 80000000 8000000")]
+    gap = cpus % (2, harts % (0, "0 0") + harts % (1, "0 1") + harts % (70, "0 70") + harts % (3, "1 2"))
+    memory = "memory@%x { device_type = \"memory\"; reg = <%s>; };"
+    more = memory % (1 << 32, "1 0 0 0x40000000 2 0 0 0x1000") + " memory-controller@1 { reg = <0 1 0 1>; };"
+    next_to = memory % (0x88000000, "0 0x88000000 0 0x1000")
+    rows = [("four harts", WITHOUT.format(more=four, **TWO), "harts 4, 80000000 8000000")]
+    rows += [("harts of two cells, of which two are the first", WITHOUT.format(more=gap, **TWO), "harts 2, 80000000 8000000")]
+    rows += [("cells of one word", WITHOUT.format(more=four, **ONE), "harts 4, 80000000 8000000")]
+    rows += [("memory in three ranges", WITHOUT.format(more=four + more, **TWO), "harts 4, 80000000 8000000, 100000000 40000000, 200000000 1000")]
+    rows += [("memory of two ranges that are one", WITHOUT.format(more=next_to, **TWO), "harts 1, 80000000 8000800")]
+    rows += [("no harts", WITHOUT.format(more="", **TWO), "harts 1, 80000000 8000000")]
+    rows += [("memory that ends past the last address", WITHOUT.format(more=memory % (1, "0xffffffff 0xfffff000 0 0x2000"), **TWO), "harts 1, 80000000 8000000")]
     rows += [("three cells", WITHOUT.format(more="", **{**TWO, "cells": "#address-cells = <3>; #size-cells = <2>;"}), "cannot be read")]
     for name, text, want in rows:
         said = subprocess.run([program, "board", compiled(folder, "board", text)], capture_output=True, text=True)

@@ -1,6 +1,6 @@
 mod OneByOne
 mod Live
-mod OneNode
+pub mod OneNode
 mod Either
 mod Uneven
 mod NoRanges

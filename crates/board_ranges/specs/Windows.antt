@@ -49,6 +49,7 @@ pub data Path : Type 0 where
   same : Path
   by : List Window → Path
 
+-- what the program's way says
 abbrev pub path_of : Way → Path
 path_of Same = same
 path_of (By windows) = by windows.items

@@ -9,11 +9,11 @@ use device_tree::{Piece, PlacedPiece};
 
 /// The beginning of a node and its properties, and the pieces after them.
 #[derive(Clone, Copy)]
-pub(crate) struct Head<'a> {
-    pub(crate) offset: usize,
-    pub(crate) name: &'a [u8],
-    pub(crate) properties: &'a [PlacedPiece<'a>],
-    pub(crate) inner: &'a [PlacedPiece<'a>],
+pub struct Head<'a> {
+    pub offset: usize,
+    pub name: &'a [u8],
+    pub properties: &'a [PlacedPiece<'a>],
+    pub inner: &'a [PlacedPiece<'a>],
 }
 
 /// What is behind that many pieces, which are there.
@@ -80,7 +80,7 @@ fn split_properties<'a>(
 }
 
 /// The node in front, if one begins there.
-pub(crate) fn head_of<'a>(pieces: &'a [PlacedPiece<'a>]) -> Option<Head<'a>>
+pub fn head_of<'a>(pieces: &'a [PlacedPiece<'a>]) -> Option<Head<'a>>
     ensures parts { MatchOption result (BeginsNoNode (parts_of pieces.now))
         (λ head. (properties : List Setting)
         × (parts_of pieces.now
@@ -105,8 +105,8 @@ pub(crate) fn head_of<'a>(pieces: &'a [PlacedPiece<'a>]) -> Option<Head<'a>>
     })
 }
 
-/// What is behind the end of a node.
-pub(crate) fn after_end<'a>(pieces: &'a [PlacedPiece<'a>]) -> &'a [PlacedPiece<'a>]
+/// What is behind the end of a node, which is the first of the pieces.
+pub fn after_end<'a>(pieces: &'a [PlacedPiece<'a>]) -> &'a [PlacedPiece<'a>]
     ensures parts { (later : List Part) → parts_of pieces.now ≡ ends ∷ later
         → parts_of result.now ≡ later }
     ensures pieces { (before : List PlacedPiece) × (pieces.now ≡ before ++ result.now) }

@@ -19,14 +19,16 @@ use std::alloc::Global;
 
 /// What the children of a node have from it: cells, a place, and how their addresses come to the root.
 #[derive(Drop)]
-pub(crate) struct Inner {
-    pub(crate) cells: Cells,
-    pub(crate) place: Place,
-    pub(crate) way: Way,
+pub struct Inner {
+    pub cells: Cells,
+    pub place: Place,
+    pub way: Way,
 }
 
-/// What the children of a node of that name have from it. On its bus an address has that many cells.
-pub(crate) fn inner_of<'a>(
+/// What the children of a node of that name have from it, by its own place and the cells and the way of its bus.
+///
+/// Refused where its cells are no numbers from 0 to 4, or its `ranges` has no rows. Memory can be refused for each row.
+pub fn inner_of<'a>(
     alloc: Global,
     name: &[u8],
     properties: &'a [PlacedPiece<'a>],

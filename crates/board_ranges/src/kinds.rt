@@ -17,9 +17,13 @@ pub enum Kind {
 
 /// Where a node is.
 #[derive(Clone, Copy)]
-pub(crate) enum Place {
+pub enum Place {
+    /// A child of the root.
     BelowRoot,
+    /// A child of `/reserved-memory`.
     InReserved,
+    /// On a bus in use whose addresses come to the root.
     OnBus,
+    /// On no such bus.
     Elsewhere,
 }

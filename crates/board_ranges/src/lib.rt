@@ -19,7 +19,11 @@ mod ways;
 
 pub use cells::Cells;
 pub use fault::{BoardFault, BoardReason};
-pub use kinds::Kind;
+pub use head::{Head, after_end, head_of};
+pub use inner::{Inner, inner_of};
+pub use kinds::{Kind, Place};
 pub use nodes::ranges_of;
-pub use registers::Found;
+pub use properties::value_of;
+pub use registers::{Found, cells_of, is_hart, kind_of};
 pub use rows::{Extent, RowFault, rows_of};
+pub use ways::{Way, Window};

@@ -8,7 +8,7 @@ use byteorder::{BigEndian, ByteOrder};
 use device_tree::{Piece, PlacedPiece};
 
 /// The value of the first property of that name.
-pub(crate) fn value_of<'a>(properties: &'a [PlacedPiece<'a>], wanted: &[u8]) -> Option<&'a [u8]>
+pub fn value_of<'a>(properties: &'a [PlacedPiece<'a>], wanted: &[u8]) -> Option<&'a [u8]>
     ensures { option_map (λ value. value.now) result
         ≡ value_in wanted.now (parts_of properties.now) }
 {

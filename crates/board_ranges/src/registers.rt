@@ -101,8 +101,8 @@ fn kind_by(
     }
 }
 
-/// What the registers of a node in use are.
-pub(crate) fn kind_of<'a>(place: Place, properties: &'a [PlacedPiece<'a>]) -> Option<Kind>
+/// What the registers of a node are, by its place and properties; nothing where its `status` says that it is not in use.
+pub fn kind_of<'a>(place: Place, properties: &'a [PlacedPiece<'a>]) -> Option<Kind>
     ensures { result ≡ live_kind place (parts_of properties.now) }
 {
     if !is_okay(properties) {
@@ -116,8 +116,18 @@ pub(crate) fn kind_of<'a>(place: Place, properties: &'a [PlacedPiece<'a>]) -> Op
     kind_by(place, is_hart, is_memory, is_unmapped, is_machine)
 }
 
+/// Whether the node is a hart: its `device_type` is `cpu`.
+pub fn is_hart<'a>(properties: &'a [PlacedPiece<'a>]) -> bool
+    ensures { result ≡ has_type (codes "cpu") (parts_of properties.now) }
+{
+    is_value(
+        value_of(properties, b"device_type".as_slice()),
+        b"cpu\0".as_slice(),
+    )
+}
+
 /// The cells that a node gives its children, where they are numbers up to four.
-pub(crate) fn cells_of<'a>(properties: &'a [PlacedPiece<'a>]) -> Option<Cells>
+pub fn cells_of<'a>(properties: &'a [PlacedPiece<'a>]) -> Option<Cells>
     ensures { MatchOption result (HasNoCells (parts_of properties.now))
         (AreCells (parts_of properties.now)) }
 {

@@ -58,7 +58,7 @@ fn through(windows: &[Window], extent: Extent) -> Option<Extent>
 
 impl Way {
     /// Where the root has the extent.
-    pub(crate) fn at_root(&self, extent: Extent) -> Option<Extent>
+    pub fn at_root(&self, extent: Extent) -> Option<Extent>
         ensures { result ≡ at_root (path_of self.now) extent }
     {
         match self {

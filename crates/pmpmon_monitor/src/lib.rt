@@ -9,8 +9,13 @@
 //! int64_t pmpmon_serve(void);
 //! void pmpmon_decide(uint64_t world, uint64_t cause, const struct host_call *call, const struct caller *caller,
 //!                    const struct bank *bank, struct harts *harts, struct action *action);
+//! int64_t pmpmon_find_platform(const uint8_t *tree, size_t room, struct platform_frame *platform);
+//! int64_t pmpmon_put_host_tree(const struct platform_frame *platform, uint64_t pool_base, uint64_t pool_size, uint8_t *tree,
+//!                              size_t room);
 //! ```
 #![tactic(auto)]
+
+mod host_trees;
 
 ghost use Rattle.std.specs.Prelude.{◌≡◌, ◌<◌};
 ghost use Rattle.sbi_calls.specs.Actions.{action_of};
@@ -18,6 +23,7 @@ ghost use Rattle.sbi_calls.specs.Decisions.{Decides};
 ghost use Rattle.sbi_calls.specs.Owners.{world_of};
 ghost use Rattle.sbi_calls.specs.declared.decision.Decision.{Decision};
 
+pub use host_trees::{pmpmon_find_platform, pmpmon_put_host_tree};
 use sbi_calls::{Action, BankWords, Caller, Harts, HostCall, action_of, decide, world_of};
 use std::alloc::Global;
 use std::io::{Stdin, Stdout};

@@ -1,0 +1,13 @@
+mod FirstZero
+mod Numbers
+mod Texts
+mod Fronts
+mod FiveWords
+mod Laid
+mod Chains
+mod HexTexts
+mod Adding
+mod OneHost
+mod Ranged
+mod Steps
+mod Pairs

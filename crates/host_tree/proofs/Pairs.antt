@@ -1,0 +1,44 @@
+-- Pairs of a base and a size, one behind another.
+use Rattle.std.proofs.Common.{◌≡◌, ℕ, zero, suc, ◌-◌, ◌<◌, ◌≤◌, List, [], ◌∷◌, ◌++◌, length, drop, slice_index, append_assoc, sym, ap, refl, ◌∙◌, arith}
+use Rattle.board_ranges.specs.declared.rows.Extent.{Extent}
+use Rattle.host_tree.specs.Platforms.{flat_words, pairs_in, triples_in}
+
+pub pair_step : (F : ℕ → List ℕ → List Extent) (left : ℕ) (rest later : List ℕ) (x : Extent) (old new all : List Extent) → 0 < left
+    → F (suc (left - 1)) rest ≡ x ∷ F (left - 1) later → new ≡ old ++ x ∷ [] → old ++ F left rest ≡ all → new ++ F (left - 1) later ≡ all
+pair_step F left rest later x old new all some first is was =
+    let e : suc (left - 1) ≡ left = omega arith in
+    ap (λ (z : List Extent). z ++ F (left - 1) later) is ∙ append_assoc old (x ∷ []) (F (left - 1) later)
+    ∙ ap (λ (z : List Extent). old ++ z) (sym first) ∙ ap (λ (n : ℕ). old ++ F n rest) e ∙ was
+
+pub flat_back : (xs : List Extent) (zeros : List ℕ) → pairs_in (length xs) (flat_words xs ++ zeros) ≡ xs
+flat_back [] zeros = refl
+flat_back (x ∷ xs) zeros = ap (λ (z : List Extent). x ∷ z) (flat_back xs zeros)
+
+pub pairs_are : (count : ℕ) (words zeros : List ℕ) (xs : List Extent) → count ≡ length xs → words ≡ flat_words xs ++ zeros → pairs_in count words ≡ xs
+pairs_are count words zeros xs e w = ap (λ (n : ℕ). pairs_in n words) e ∙ ap (λ (z : List ℕ). pairs_in (length xs) z) w ∙ flat_back xs zeros
+
+pub no_pair : (count : ℕ) (words : List ℕ) → length words < 2 → pairs_in count words ≡ []
+no_pair zero words h = refl
+no_pair (suc n) [] h = refl
+no_pair (suc n) (a ∷ []) h = refl
+no_pair (suc n) (a ∷ b ∷ later) h = absurd (omega (arith, h))
+
+pub one_pair : (count : ℕ) (words : List ℕ) → 2 ≤ length words
+    → pairs_in (suc count) words ≡ record { base = slice_index words 0; size = slice_index words 1 } ∷ pairs_in count (drop 2 words)
+one_pair n [] h = absurd (omega (arith, h))
+one_pair n (a ∷ []) h = absurd (omega (arith, h))
+one_pair n (a ∷ b ∷ later) h = refl
+
+pub no_triple : (count : ℕ) (words : List ℕ) → length words < 3 → triples_in count words ≡ []
+no_triple zero words h = refl
+no_triple (suc n) [] h = refl
+no_triple (suc n) (a ∷ []) h = refl
+no_triple (suc n) (a ∷ b ∷ []) h = refl
+no_triple (suc n) (a ∷ b ∷ d ∷ later) h = absurd (omega (arith, h))
+
+pub one_triple : (count : ℕ) (words : List ℕ) → 3 ≤ length words
+    → triples_in (suc count) words ≡ record { base = slice_index words 0; size = slice_index words 1 } ∷ triples_in count (drop 3 words)
+one_triple n [] h = absurd (omega (arith, h))
+one_triple n (a ∷ []) h = absurd (omega (arith, h))
+one_triple n (a ∷ b ∷ []) h = absurd (omega (arith, h))
+one_triple n (a ∷ b ∷ d ∷ later) h = refl

@@ -1,0 +1,23 @@
+use Rattle.std.proofs.Common.{◌≡◌, ◌++◌, ◌∙◌, ℕ, List, length, ap, refl}
+use Rattle.host_tree.specs.Written.{value_bytes, word_bytes}
+use Rattle.host_tree.proofs.Fronts.{four_joined, property_bytes, property_front}
+use Rattle.host_tree.proofs.blocks.put_property.Goals as goal
+
+bytes_are : (len place l p : ℕ) (value : List ℕ) → len ≡ l → place ≡ p → l ≡ length value
+    → word_bytes 3 ++ (word_bytes len ++ (word_bytes place ++ value_bytes value)) ≡ property_bytes p value
+unfolding property_bytes
+bytes_are len place l p value e w v = ap (λ (n : ℕ). word_bytes 3 ++ (word_bytes n ++ (word_bytes place ++ value_bytes value))) (e ∙ v)
+    ∙ ap (λ (n : ℕ). word_bytes 3 ++ (word_bytes (length value) ++ (word_bytes n ++ value_bytes value))) w
+
+pub returns : goal.returns
+returns c =
+    let value = c.args.value.now in
+    let l = c.in_ok-len.ensures in
+    let p = c.in_ok-place.ensures in
+    let joined = four_joined c.args.block.now.items _ _ _ _ (word_bytes 3) (word_bytes c.in_ok-len.len) (word_bytes c.in_ok-place.place) (value_bytes value)
+    c.in_ok-put_word.ensures c.in_ok-put_word-2.ensures c.in_ok-put_word-3.ensures c.in_ok-put_value.ensures in
+    let same = bytes_are c.in_ok-len.len c.in_ok-place.place (length value) c.args.place value l.same p.same refl in (
+      property_bytes c.args.place value,
+      joined ∙ ap (λ (x : List ℕ). c.args.block.now.items ++ x) same,
+      λ names rest name named. property_front names value rest name c.args.place l.fits p.fits named,
+    )

@@ -1,0 +1,45 @@
+use Rattle.std.proofs.Common.{◌≡◌, ◌++◌, ◌∷◌, [], ◌∙◌, false, List, map, sym, ap, subst, refl}
+use Rattle.device_tree.specs.Pieces.{Part, Setting, begins, ends, has, parts_of}
+use Rattle.device_tree.specs.Nodes.{parts_of_nodes, parts_of_tree}
+use Rattle.device_tree.proofs.OneTree.{ends_begins_none}
+use Rattle.board_ranges.specs.Meaning.{AreCells}
+use Rattle.board_ranges.proofs.OneNode.{root_front}
+use Rattle.host_tree.specs.Settings.{left_settings}
+use Rattle.host_tree.specs.Ranges.{with_ranges}
+use Rattle.host_tree.proofs.Adding.{adds_both, adds_same}
+use Rattle.host_tree.proofs.Ranged.{kept_settings}
+use Rattle.host_tree.proofs.host.put_tree.Goals as goal
+
+pub returns : goal.returns
+returns c = λ board e.
+    let root = c.in-Some.root in
+    let parts = c.in-Some.ensures.parts in
+    let front = root_front (parts_of c.args.pieces.now) root.name.now parts.0 (parts_of root.inner.now) board e parts.1 parts.3 in
+    let whole : begins root.name.now ∷ (map has parts.0 ++ parts_of root.inner.now) ≡ parts_of_tree board = sym parts.1 ∙ e in
+    let name : root.name.now ≡ [] = cc (whole) in
+    let cells = c.in-Some-cells_of.cells in
+    let children = c.in_ok-put_children.ensures.ok board.children (ends ∷ []) front.1 (ends_begins_none _) in
+    let made = with_ranges cells c.args.ranges.now children.0 in
+    let s = board.properties in
+    let own_is : parts_of root.properties.now ≡ map has s = parts.2 ∙ ap (λ (x : List Setting). map has x) front.0 in
+    let own : List Part = map has (left_settings false false s) in
+    let own_same : own ≡ map has s = ap (λ (x : List Setting). map has x) (kept_settings s) in
+    let a1 = c.in_ok-put_begin.ensures in
+    let a2 = c.in_ok-put_properties.ensures s own_is in
+    let last = adds_both _ _ _ (parts_of_nodes made) (ends ∷ []) children.2 c.in_ok-put_end.ensures in
+    let more = adds_both _ _ _ own (parts_of_nodes made ++ (ends ∷ [])) a2 last in
+    let all = adds_both _ _ _ (begins root.name.now ∷ []) (own ++ (parts_of_nodes made ++ (ends ∷ []))) a1 more in
+    let same : (begins root.name.now ∷ []) ++ (own ++ (parts_of_nodes made ++ (ends ∷ []))) ≡ begins [] ∷ (map has s ++ (parts_of_nodes made ++ (ends ∷
+    []))) = cc in (
+      record { properties = s; children = made },
+      record {
+        cells = cells;
+        cells_are = subst (λ (x : List Part). AreCells x cells) own_is c.in-Some-cells_of.ensures;
+        fit = c.in_ok-put_children.ensures.fit;
+        nodes = children.0;
+        nodes_are = children.1;
+        properties = refl;
+        children = refl;
+      },
+      adds_same _ _ _ _ same all,
+    )

@@ -1,0 +1,28 @@
+use Rattle.std.proofs.Common.{◌∙◌, List, refl, subst, sym, false}
+use Rattle.board_ranges.specs.declared.rows.Extent.{Extent}
+use Rattle.host_tree.specs.Boards.{HartsThere, extents_of}
+use Rattle.host_tree.specs.Platforms.{IsClipped, pairs_in}
+use Rattle.host_tree.proofs.Pairs.{pairs_are}
+use Rattle.host_tree.proofs.platform.find_platform.Goals as goal
+
+pub returns-clause-found : goal.returns-clause-found
+returns-clause-found c =
+    let b = c.in-Ok.ensures in
+    let l = c.in-Ok-left_of.ensures in
+    let old = c.args.platform.now in
+    record {
+      tree = b.0;
+      reservations = b.1;
+      ranges = b.3;
+      read = b.2;
+      said = b.4;
+      harts = subst (λ (x : List Extent). HartsThere x old.harts c.harts_there-platform.result) (c.as_slice.ensures.value ∙ b.5)
+          c.harts_there-platform.ensures;
+      memory = subst (λ (x : List Extent). IsClipped (extents_of false b.3) (pairs_in old.ram_count old.ram) x) (sym (pairs_are _ _ l.3 l.0 l.2 l.4))
+          (subst (λ (x : List Extent). IsClipped x (pairs_in old.ram_count old.ram) l.0) b.6 l.1);
+      entries = refl;
+      monitor_base = refl;
+      monitor_size = refl;
+      device_count = refl;
+      device = refl;
+    }

@@ -1,0 +1,48 @@
+use Rattle.std.proofs.Common.{◌≡◌, ◌∙◌, sym, true, false}
+use Rattle.std.specs.Prelude.{bytes_eq, codes}
+use Rattle.device_tree.specs.Pieces.{parts_of}
+use Rattle.device_tree.specs.Nodes.{parts_of_nodes}
+use Rattle.board_ranges.specs.declared.kinds.Place.TheVariants.{BelowRoot}
+use Rattle.board_ranges.specs.Windows.{same}
+use Rattle.host_tree.specs.HostTrees.{portion_of}
+use Rattle.host_tree.specs.Ranges.{range_nodes, with_ranges}
+use Rattle.host_tree.proofs.OneHost.{at_end, at_node, next, start}
+use Rattle.host_tree.proofs.Ranged.{ends_there, goes_on}
+use Rattle.host_tree.proofs.root.put_children.Goals as goal
+
+pub nodes-init : goal.nodes-init
+nodes-init c = start (with_ranges c.args.cells.now c.args.ranges.now) (portion_of c.args.share.now) BelowRoot c.args.cells.now same (parts_of
+    c.args.pieces.now) c.args.writer.now
+
+pub nodes-preserved : goal.nodes-preserved
+nodes-preserved c =
+    let head = c.in-Some.head in
+    let parts = c.in-Some.ensures.parts in
+    let cells = c.args.cells.now in
+    let ranges = c.args.ranges.now in
+    let other : bytes_eq head.name.now (codes "reserved-memory") ≡ false = sym c.is_parent.ensures ∙ c.if-is_parent.false in
+    next (with_ranges cells ranges) (portion_of c.args.share.now) BelowRoot cells same (parts_of c.args.pieces.now) (parts_of c.nodes.rest.now)
+    c.args.writer.now c.nodes.writer c.nodes.invariant head.name.now parts.0 (parts_of head.inner.now) (parts_of head.properties.now) parts.1 parts.2 parts.3
+    (goes_on cells ranges head.name.now other) (parts_of c.in-Ok.behind.now) c.put_child.new.writer c.put_end.new.writer c.in-Ok.ensures.ok
+    c.in-Ok-put_end.ensures
+    (parts_of c.after_end-rest.result.now) c.after_end-rest.ensures.parts
+
+pub returns-in_default-clause-ok : goal.returns-in_default-clause-ok
+returns-in_default-clause-ok c = λ nodes behind e none.
+    let done = at_end (with_ranges c.args.cells.now c.args.ranges.now) (portion_of c.args.share.now) BelowRoot c.args.cells.now same (parts_of
+    c.args.pieces.now)
+    (parts_of c.nodes.rest.now) c.args.writer.now c.nodes.writer c.put_parent.new.writer c.nodes.invariant c.in_default.ensures.parts
+    c.in_ok-put_parent.ensures.written nodes behind e none in
+    (done.1, done.2, done.3)
+
+pub returns-then-is_parent-clause-ok : goal.returns-then-is_parent-clause-ok
+returns-then-is_parent-clause-ok c = λ nodes behind e none.
+    let head = c.in-Some.head in
+    let parts = c.in-Some.ensures.parts in
+    let cells = c.args.cells.now in
+    let ranges = c.args.ranges.now in
+    let yes : bytes_eq head.name.now (codes "reserved-memory") ≡ true = sym c.is_parent.ensures ∙ c.if-is_parent.true in
+    at_node (with_ranges cells ranges) (portion_of c.args.share.now) BelowRoot cells same (parts_of c.args.pieces.now) (parts_of c.nodes.rest.now)
+    c.args.writer.now c.nodes.writer c.nodes.invariant head.name.now parts.0 (parts_of head.inner.now) (parts_of head.properties.now) parts.1 parts.2 parts.3
+    (parts_of_nodes (range_nodes cells ranges)) (ends_there cells ranges head.name.now yes) (parts_of c.in-Ok.behind.now) c.put_child.new.writer
+    c.put_last.new.writer c.in-Ok.ensures.ok c.in_ok-put_last.ensures.ok nodes behind e none

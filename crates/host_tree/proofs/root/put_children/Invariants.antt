@@ -1,0 +1,15 @@
+use Rattle.std.proofs.Common.{length}
+use Rattle.device_tree.specs.Pieces.{parts_of}
+use Rattle.board_ranges.specs.declared.kinds.Place.TheVariants.{BelowRoot}
+use Rattle.board_ranges.specs.Windows.{same}
+use Rattle.host_tree.specs.HostTrees.{portion_of}
+use Rattle.host_tree.specs.Ranges.{with_ranges}
+use Rattle.host_tree.proofs.OneHost.{Reached}
+use Rattle.host_tree.proofs.root.put_children.Given as goal
+
+abbrev pub invariant-nodes : goal.invariant-nodes
+invariant-nodes l = Reached (with_ranges l.cells l.ranges) (portion_of l.share) BelowRoot l.cells same (parts_of l.pieces) (parts_of l.rest)
+    l.initial.writer l.writer
+
+abbrev pub decreases-nodes : goal.decreases-nodes
+decreases-nodes l = length l.rest

@@ -1,0 +1,14 @@
+use Rattle.std.proofs.Common.{ℕ, List, [], ◌∷◌, ◌++◌, subst, sym}
+use Rattle.device_tree.specs.Pieces.{ends}
+use Rattle.host_tree.specs.Written.{SpellsFront}
+use Rattle.host_tree.proofs.Fronts.{and_part}
+use Rattle.host_tree.proofs.writer.TreeWriter.end_node.Goals as goal
+
+pub returns : goal.returns
+returns c = λ parts h. record {
+  spelt = λ more.
+      let names = c.args.self.now.names.items ++ more in
+      let added = c.in_ok-put_end.ensures in
+      subst (λ (x : List ℕ). SpellsFront names x (parts ++ ends ∷ [])) (sym added.1)
+      (and_part names c.args.self.now.block.items added.0 parts ends (h.spelt more) (λ rest. added.2 names rest));
+}

@@ -1,0 +1,23 @@
+use Rattle.std.proofs.Common.{◌≡◌, ℕ, List, [], ◌∷◌, ◌++◌, ◌∙◌, append_assoc, subst, sym, ap}
+use Rattle.device_tree.specs.Pieces.{has}
+use Rattle.host_tree.specs.Written.{SpellsFront, setting}
+use Rattle.host_tree.proofs.Fronts.{and_part}
+use Rattle.host_tree.proofs.Texts.{name_stays}
+use Rattle.host_tree.proofs.writer.TreeWriter.property.Goals as goal
+
+pub returns : goal.returns
+returns c = λ parts h. record {
+  spelt = λ more.
+      let name = c.args.name.now in
+      let value = c.args.value.now in
+      let place = c.in_ok-place.ensures in
+      let added = c.in_ok-put_property.ensures in
+      let names = c.place_of.new.names.items ++ more in
+      let same : names ≡ c.args.self.now.names.items ++ (place.1 ++ more) =
+      ap (λ (x : List ℕ). x ++ more) place.2 ∙ append_assoc c.args.self.now.names.items place.1 more in
+      let was : SpellsFront names c.args.self.now.block.items parts =
+      subst (λ (x : List ℕ). SpellsFront x c.args.self.now.block.items parts) (sym same) (h.spelt (place.1 ++ more)) in
+      subst (λ (x : List ℕ). SpellsFront names x (parts ++ has (setting name value) ∷ [])) (sym added.1)
+      (and_part names c.args.self.now.block.items added.0 parts (has (setting name value)) was
+      (λ rest. added.2 names rest name (name_stays c.place_of.new.names.items more name c.in_ok-place.place place.0)));
+}

@@ -1,0 +1,63 @@
+-- The nodes of a tree as the host has them.
+use Rattle.std.specs.Prelude.{◌≡◌, ℕ, List, [], ◌∷◌, ◌++◌, Option, None, Some, codes, map}
+use Rattle.device_tree.specs.Pieces.{Part, Setting, begins, has}
+use Rattle.device_tree.specs.Nodes.{BeginsNoNode, Nodes, no_nodes, node, parts_of_nodes}
+use Rattle.board_ranges.specs.declared.cells.Cells.{Cells}
+use Rattle.board_ranges.specs.declared.kinds.Kind.{Kind}
+use Rattle.board_ranges.specs.declared.kinds.Place.{Place}
+use Rattle.board_ranges.specs.declared.rows.Extent.{Extent}
+use Rattle.board_ranges.specs.Cells.{AreRows}
+use Rattle.board_ranges.specs.Windows.{Path}
+use Rattle.board_ranges.specs.Properties.{value_in}
+use Rattle.board_ranges.specs.Meaning.{AreCells, IsInnerWay, has_type, inner_place, live_kind}
+use Rattle.board_ranges.specs.Meaning.{path_or}
+use Rattle.host_tree.specs.declared.writer.TreeWriter.{TreeWriter}
+use Rattle.host_tree.specs.Written.{Adds}
+use Rattle.host_tree.specs.Shares.{is_closed}
+use Rattle.host_tree.specs.Settings.{host_settings}
+
+-- the rows of a node's registers: none where they are of no kind, or the node has no `reg`
+abbrev pub AreRegisters : Option Kind → Option (List ℕ) → Cells → List Extent → Type 0
+AreRegisters None reg cells rows = rows ≡ []
+AreRegisters (Some kind) None cells rows = rows ≡ []
+AreRegisters (Some kind) (Some reg) cells rows = AreRows cells reg rows
+
+-- what a host has of the board: the harts below a number, and ranges of addresses
+pub record Portion : Type 0 where
+  pub harts : ℕ
+  pub ranges : List Extent
+
+-- the properties of a node with these registers
+abbrev pub node_settings : Portion → Place → Path → List Extent → List Setting → List Setting
+node_settings host place way rows own = host_settings (has_type (codes "cpu") (map has own))
+    (is_closed host.harts host.ranges way (live_kind place (map has own)) rows (map has own)) own
+
+-- nodes on a bus with these cells, whose addresses the root has in this way, are these of the host:
+-- the same, one inside the other, in the same order, each with its properties as the host has them
+pub data HostNodes (host : Portion) : Place → Cells → Path → Nodes → Nodes → Type 0 where
+  nothing : {place : Place} {cells : Cells} {way : Path}
+      → HostNodes host place cells way no_nodes no_nodes
+  a_node : {place : Place} {cells : Cells} {way : Path} {name : List ℕ}
+      {properties : List Setting} {children later inside behind : Nodes} (rows : List Extent)
+      (inner : Cells) (found : Option Path)
+      → AreRegisters (live_kind place (map has properties))
+      (value_in (codes "reg") (map has properties)) cells rows
+      → AreCells (map has properties) inner
+      → IsInnerWay (value_in (codes "ranges") (map has properties)) inner cells.address way found
+      → HostNodes host (inner_place place name (map has properties) found) inner (path_or found)
+      children inside
+      → HostNodes host place cells way later behind
+      → HostNodes host place cells way (node name properties children later)
+      (node name (node_settings host place way rows properties) inside behind)
+
+-- of a node of this name, with these parts as properties, before parts that begin with its
+-- children, all was written as the host has it but for its end, and these parts are behind
+abbrev pub IsChild : Portion → Place → Cells → Path → List ℕ → List Part → List Part → List Part
+    → TreeWriter → TreeWriter → Type 0
+IsChild host place cells way name properties inner behind old new = (own : List Setting)
+    (children : Nodes) (rest : List Part) → properties ≡ map has own
+    → inner ≡ parts_of_nodes children ++ rest → BeginsNoNode rest
+    → (behind ≡ rest) × (made : List Setting) × (inside : Nodes)
+    × ((later more : Nodes) → HostNodes host place cells way later more
+    → HostNodes host place cells way (node name own children later) (node name made inside more))
+    × Adds old new (begins name ∷ (map has made ++ parts_of_nodes inside))

@@ -1,0 +1,39 @@
+-- The device tree as a host has it.
+use Rattle.std.specs.Prelude.{◌≡◌, ℕ, List, map}
+use Rattle.device_tree.specs.declared.reservations.Reservation.{Reservation}
+use Rattle.device_tree.specs.Pieces.{has}
+use Rattle.device_tree.specs.Nodes.{Nodes, Tree}
+use Rattle.device_tree.specs.Trees.{ReadsAs, SpellsTree}
+use Rattle.board_ranges.specs.declared.cells.Cells.{Cells}
+use Rattle.board_ranges.specs.declared.kinds.Place.TheVariants.{BelowRoot}
+use Rattle.board_ranges.specs.Windows.{same}
+use Rattle.board_ranges.specs.Meaning.{AreCells}
+use Rattle.host_tree.specs.declared.reserved.Reserved.{Reserved}
+use Rattle.host_tree.specs.declared.share.Share.{Share}
+use Rattle.host_tree.specs.HostNodes.{HostNodes, Portion}
+use Rattle.host_tree.specs.Ranges.{AllFit, with_ranges}
+
+-- what a host has, as the program says it
+abbrev pub portion_of : Share → Portion
+portion_of share = record { harts = share.harts; ranges = share.ranges.now }
+
+-- the host's tree of a board's: the root has its properties, its children are as the host has them,
+-- and ranges are reserved
+pub record IsHostTree (host : Portion) (ranges : List Reserved) (board made : Tree) : Type 0 where
+  pub cells : Cells
+  pub cells_are : AreCells (map has board.properties) cells
+  pub fit : AllFit cells ranges
+  pub nodes : Nodes
+  pub nodes_are : HostNodes host BelowRoot cells same board.children nodes
+  pub properties : made.properties ≡ board.properties
+  pub children : made.children ≡ with_ranges cells ranges nodes
+
+-- the bytes are the host's tree of the one that a board's bytes begin with, and the same
+-- reservations
+pub record IsHosts (host : Portion) (ranges : List Reserved) (bytes out : List ℕ) : Type 0 where
+  pub board : Tree
+  pub made : Tree
+  pub reservations : List Reservation
+  pub read : ReadsAs bytes board reservations
+  pub is_made : IsHostTree host ranges board made
+  pub spelt : SpellsTree out made reservations

@@ -1,0 +1,10 @@
+pub mod Written
+pub mod Header
+pub mod Shares
+pub mod Extensions
+pub mod Settings
+pub mod HostNodes
+pub mod Boards
+pub mod Ranges
+pub mod HostTrees
+pub mod Platforms

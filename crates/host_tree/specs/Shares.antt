@@ -1,0 +1,56 @@
+-- What a host has of the board, and which nodes are not its own.
+use Rattle.std.specs.Prelude.{ℕ, ◌-◌, Bool, true, false, ◌&&◌, ◌||◌, not, leb, ltb}
+use Rattle.std.specs.Prelude.{List, [], ◌∷◌, Option, None, Some, codes}
+use Rattle.device_tree.specs.Pieces.{Part}
+use Rattle.board_ranges.specs.declared.kinds.Kind.{Kind}
+use Rattle.board_ranges.specs.declared.kinds.Kind.TheVariants.{Memory, Device, Machine}
+use Rattle.board_ranges.specs.declared.kinds.Kind.TheVariants.{Reserved, Hart}
+use Rattle.board_ranges.specs.declared.rows.Extent.{Extent}
+use Rattle.board_ranges.specs.Windows.{Path, at_root}
+use Rattle.board_ranges.specs.Properties.{value_in}
+use Rattle.board_ranges.specs.Meaning.{is_there}
+
+-- all of an extent is in the range
+abbrev pub is_around : Extent → Extent → Bool
+is_around range extent = leb range.base extent.base
+    && (ltb (extent.base - range.base) range.size
+    && leb extent.size (range.size - (extent.base - range.base)))
+
+-- all of an extent is in one of the ranges
+abbrev pub is_within : List Extent → Extent → Bool
+is_within [] extent = false
+is_within (first ∷ later) extent = is_around first extent || is_within later extent
+
+-- an extent where the root has it is in one of the ranges, and the root has it
+abbrev pub is_reached : List Extent → Option Extent → Bool
+is_reached ranges None = false
+is_reached ranges (Some extent) = is_within ranges extent
+
+-- the host has a row of registers
+abbrev pub is_hosts : List Extent → Path → Extent → Bool
+is_hosts ranges way row = is_reached ranges (at_root way row)
+
+-- the host has all rows of registers
+abbrev pub are_hosts : List Extent → Path → List Extent → Bool
+are_hosts ranges way [] = true
+are_hosts ranges way (first ∷ later) = is_hosts ranges way first && are_hosts ranges way later
+
+-- the host has the hart: its first number is below that
+abbrev pub has_hart : ℕ → List Extent → Bool
+has_hart harts [] = false
+has_hart harts (first ∷ later) = ltb first.base harts
+
+-- a node with these registers is not the host's: a hart that the host has not, or a device of
+-- which it has not all registers
+abbrev pub is_kept : ℕ → List Extent → Path → Option Kind → List Extent → Bool
+is_kept harts ranges way None rows = true
+is_kept harts ranges way (Some Memory) rows = true
+is_kept harts ranges way (Some Reserved) rows = true
+is_kept harts ranges way (Some Hart) rows = has_hart harts rows
+is_kept harts ranges way (Some Device) rows = are_hosts ranges way rows
+is_kept harts ranges way (Some Machine) rows = are_hosts ranges way rows
+
+-- a node is not the host's: its registers are not, or they are another node's (`regmap`)
+abbrev pub is_closed : ℕ → List Extent → Path → Option Kind → List Extent → List Part → Bool
+is_closed harts ranges way kind rows properties = not (is_kept harts ranges way kind rows)
+    || is_there (value_in (codes "regmap") properties)

@@ -1,0 +1,47 @@
+-- What a writer has written of a tree. Devicetree Specification 0.4, section 5.4.
+use Rattle.std.specs.Prelude.{◌≡◌, ℕ, ◌+◌, ◌-◌, List, [], ◌∷◌, ◌++◌, length, replicate}
+use Rattle.byteorder.specs.Endian.{big_bytes}
+use Rattle.device_tree.specs.Words.{padded, text_len}
+use Rattle.device_tree.specs.Pieces.{Part, Setting, SpellsParts}
+use Rattle.host_tree.specs.declared.writer.TreeWriter.{TreeWriter}
+
+-- a number of four bytes, and one of eight, the highest byte first
+unfoldable pub word_bytes : ℕ → List ℕ
+word_bytes word = big_bytes 4 word
+
+unfoldable pub double_word_bytes : ℕ → List ℕ
+double_word_bytes word = big_bytes 8 word
+
+abbrev pub words_bytes : List ℕ → List ℕ
+words_bytes [] = []
+words_bytes (first ∷ later) = word_bytes first ++ words_bytes later
+
+-- no byte of a text is zero
+abbrev pub IsText : List ℕ → Type 0
+IsText text = text_len text ≡ length text
+
+-- a property of a name and a value
+abbrev pub setting : List ℕ → List ℕ → Setting
+setting name value = record { name = name; value = value }
+
+-- a value, with zeros up to a multiple of four
+abbrev pub value_bytes : List ℕ → List ℕ
+value_bytes value = value ++ replicate (padded (length value + 0) - length value) 0
+
+-- a text and the zero that ends it, with zeros up to a multiple of four
+abbrev pub text_bytes : List ℕ → List ℕ
+text_bytes text = text ++ replicate (padded (length text + 1) - length text) 0
+
+-- bytes in front of others are these parts, and the others' parts follow
+pub record SpellsFront (names bytes : List ℕ) (parts : List Part) : Type 0 where
+  pub before : (rest : List ℕ) (later : List Part) → SpellsParts names rest later
+      → SpellsParts names (bytes ++ rest) (parts ++ later)
+
+-- the writer has written these parts: its bytes are so, whatever names it adds to its own
+pub record HasWritten (writer : TreeWriter) (parts : List Part) : Type 0 where
+  pub spelt : (more : List ℕ)
+      → SpellsFront (writer.names.items ++ more) writer.block.items parts
+
+-- the writer has written these parts more
+abbrev pub Adds : TreeWriter → TreeWriter → List Part → Type 0
+Adds old new added = (parts : List Part) → HasWritten old parts → HasWritten new (parts ++ added)

@@ -1,0 +1,49 @@
+//! The parts of the structure block, one at the end of others.
+
+ghost use Rattle.std.specs.Prelude.{◌≡◌, ◌++◌, OnOk, List, ℕ, drop};
+ghost use Rattle.device_tree.specs.Pieces.{Setting, SpellsPart, begins, ends, has};
+ghost use Rattle.device_tree.specs.Words.{BeginsWithText};
+ghost use Rattle.host_tree.specs.Written.{IsText, setting};
+
+use crate::bytes::{put_text, put_value, put_word};
+use crate::names::word_of;
+use crate::write_fault::WriteFault;
+
+/// Appends the beginning of a node.
+pub(crate) fn put_begin(block: &mut Vec<u8>, name: &[u8]) -> Result<(), WriteFault>
+    requires { IsText name.now }
+    ensures { OnOk result ((added : List ℕ) × (block.new.items ≡ block.old.items ++ added)
+        × ((names rest : List ℕ) → SpellsPart names (added ++ rest) (begins name.now) rest)) }
+{
+    put_word(block, 1)?;
+    put_text(block, name)?;
+    Ok(())
+}
+
+/// Appends a property whose name is at that place of the names.
+pub(crate) fn put_property(
+    block: &mut Vec<u8>,
+    place: usize,
+    value: &[u8],
+) -> Result<(), WriteFault>
+    ensures { OnOk result ((added : List ℕ) × (block.new.items ≡ block.old.items ++ added)
+        × ((names rest name : List ℕ) → BeginsWithText (drop place names) name
+        → SpellsPart names (added ++ rest) (has (setting name value.now)) rest)) }
+{
+    let len = word_of(value.len())?;
+    let place = word_of(place)?;
+    put_word(block, 3)?;
+    put_word(block, len)?;
+    put_word(block, place)?;
+    put_value(block, value)?;
+    Ok(())
+}
+
+/// Appends the end of a node.
+pub(crate) fn put_end(block: &mut Vec<u8>) -> Result<(), WriteFault>
+    ensures { OnOk result ((added : List ℕ) × (block.new.items ≡ block.old.items ++ added)
+        × ((names rest : List ℕ) → SpellsPart names (added ++ rest) ends rest)) }
+{
+    put_word(block, 2)?;
+    Ok(())
+}

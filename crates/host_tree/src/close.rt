@@ -1,0 +1,107 @@
+//! Which nodes are not the host's.
+
+ghost use Rattle.std.specs.Prelude.{◌≡◌, List, IfOk, Option, None, Some, codes, drop, option_map};
+ghost use Rattle.device_tree.specs.Pieces.{parts_of};
+ghost use Rattle.board_ranges.specs.declared.rows.Extent.{Extent};
+ghost use Rattle.board_ranges.specs.Windows.{path_of};
+ghost use Rattle.board_ranges.specs.Properties.{value_in};
+ghost use Rattle.board_ranges.specs.Meaning.{is_there, live_kind};
+ghost use Rattle.host_tree.specs.Shares.{are_hosts, has_hart, is_closed, is_kept};
+ghost use Rattle.host_tree.specs.HostNodes.{AreRegisters};
+
+use crate::fault::{MakeFault, rows_fault};
+use crate::share::Share;
+use board_ranges::{Cells, Extent, Kind, Place, Way, kind_of, rows_of, value_of};
+use device_tree::PlacedPiece;
+use std::alloc::Global;
+
+/// Whether the host has all rows of registers.
+fn are_hosts(share: &Share<'_>, way: &Way, rows: &[Extent]) -> bool
+    ensures { result ≡ are_hosts share.now.ranges.now (path_of way.now) rows.now }
+{
+    for row in rows {
+        if !share.has(way, *row) {
+            return false;
+        }
+    }
+    true
+}
+
+/// Whether the host has a hart whose numbers are the bases of these rows: the first decides.
+fn has_hart(share: &Share<'_>, rows: &[Extent]) -> bool
+    ensures { result ≡ has_hart share.now.harts rows.now }
+{
+    match rows.first() {
+        Some(row) => row.base < share.harts,
+        None => false,
+    }
+}
+
+/// Whether a node with registers of that kind is the host's.
+fn is_kept(share: &Share<'_>, way: &Way, kind: Option<Kind>, rows: &[Extent]) -> bool
+    ensures { result
+        ≡ is_kept share.now.harts share.now.ranges.now (path_of way.now) kind rows.now }
+{
+    match kind {
+        None => true,
+        Some(Kind::Memory) => true,
+        Some(Kind::Reserved) => true,
+        Some(Kind::Hart) => has_hart(share, rows),
+        Some(Kind::Device) => are_hosts(share, way, rows),
+        Some(Kind::Machine) => are_hosts(share, way, rows),
+    }
+}
+
+/// The rows of a node's registers: none where they are of no kind, or it has none.
+fn registers_of(
+    alloc: Global,
+    kind: Option<Kind>,
+    reg: Option<&[u8]>,
+    cells: &Cells,
+) -> Result<Vec<Extent>, MakeFault>
+    ensures { IfOk result (λ rows. AreRegisters kind
+        (option_map (λ bytes. bytes.now) reg.entry) cells.now rows.items) }
+{
+    let Some(_) = kind else {
+        return Ok(Vec::new(alloc));
+    };
+    let Some(reg) = reg else {
+        return Ok(Vec::new(alloc));
+    };
+    match rows_of(alloc, reg, cells) {
+        Ok(rows) => Ok(rows),
+        Err(fault) => Err(rows_fault(fault)),
+    }
+}
+
+/// Whether the registers of a node with these properties are another node's.
+fn has_regmap<'a>(properties: &'a [PlacedPiece<'a>]) -> bool
+    ensures { result ≡ is_there (value_in (codes "regmap") (parts_of properties.now)) }
+{
+    match value_of(properties, b"regmap".as_slice()) {
+        Some(_) => true,
+        None => false,
+    }
+}
+
+/// Whether a node with these properties is not the host's, by its place and its bus.
+pub(crate) fn is_closed<'a>(
+    alloc: Global,
+    share: &Share<'_>,
+    properties: &'a [PlacedPiece<'a>],
+    place: Place,
+    bus: (&Cells, &Way),
+) -> Result<bool, MakeFault>
+    ensures { IfOk result (λ closed. (rows : List Extent)
+        × AreRegisters (live_kind place (parts_of properties.now))
+        (value_in (codes "reg") (parts_of properties.now)) bus.entry.0.now rows
+        × (closed ≡ is_closed share.now.harts share.now.ranges.now (path_of bus.entry.1.now)
+        (live_kind place (parts_of properties.now)) rows (parts_of properties.now))) }
+{
+    let (cells, way) = bus;
+    let kind = kind_of(place, properties);
+    let reg = value_of(properties, b"reg".as_slice());
+    let rows = registers_of(alloc, kind, reg, cells)?;
+    let is_kept = is_kept(share, way, kind, rows.as_slice());
+    Ok(!is_kept || has_regmap(properties))
+}

@@ -1,0 +1,100 @@
+//! The names of a hart's extensions, without those that the monitor closes.
+
+ghost use Rattle.std.specs.Prelude.{◌≡◌, ◌++◌, ◌∷◌, IfOk, OnOk, List, [], drop};
+ghost use Rattle.host_tree.specs.Extensions.{is_closed_name, kept_unit, open_from, open_names};
+
+use crate::fault::MakeFault;
+use crate::write_fault::WriteFault;
+use std::alloc::Global;
+
+/// Whether the monitor closes an extension of that name: its bits in `menvcfg`, `mseccfg` or `mstateen0` stay zero, or it wants
+/// calls that are not there.
+fn is_closed_name(name: &[u8]) -> bool
+    ensures { result ≡ is_closed_name name.now }
+{
+    name == b"svadu".as_slice()
+        || name == b"zkr".as_slice()
+        || name == b"zicfilp".as_slice()
+        || name == b"zicfiss".as_slice()
+        || name == b"ssnpm".as_slice()
+        || name == b"sscofpmf".as_slice()
+        || name == b"smcdeleg".as_slice()
+        || name == b"ssccfg".as_slice()
+        || name == b"ssctr".as_slice()
+        || name == b"ssdbltrp".as_slice()
+}
+
+/// Appends bytes.
+fn put_bytes(out: &mut Vec<u8>, bytes: &[u8]) -> Result<(), MakeFault>
+    ensures { OnOk result (out.new.items ≡ out.old.items ++ bytes.now) }
+{
+    let Ok(()) = out.extend_from_slice(bytes) else {
+        return Err(MakeFault::NotWritten(WriteFault::Memory));
+    };
+    Ok(())
+}
+
+/// Appends a separator and the name after it, where the name is not closed.
+fn put_unit(out: &mut Vec<u8>, unit: &[u8]) -> Result<(), MakeFault>
+    ensures { OnOk result (out.new.items ≡ out.old.items ++ kept_unit unit.now) }
+{
+    let Some((_, name)) = unit.split_first() else {
+        return Ok(());
+    };
+    if is_closed_name(name) {
+        return Ok(());
+    }
+    put_bytes(out, unit)
+}
+
+/// A unit of one byte in place of another.
+fn begin_unit(unit: &mut Vec<u8>, byte: u8) -> Result<(), MakeFault>
+    ensures { OnOk result (unit.new.items ≡ byte ∷ []) }
+{
+    unit.clear();
+    let Ok(()) = unit.push(byte) else {
+        return Err(MakeFault::NotWritten(WriteFault::Memory));
+    };
+    Ok(())
+}
+
+/// A unit and one byte more.
+fn add_byte(unit: &mut Vec<u8>, byte: u8) -> Result<(), MakeFault>
+    ensures { OnOk result (unit.new.items ≡ unit.old.items ++ byte ∷ []) }
+{
+    let Ok(()) = unit.push(byte) else {
+        return Err(MakeFault::NotWritten(WriteFault::Memory));
+    };
+    Ok(())
+}
+
+/// The names without those that are closed, with the `_` that comes before the first.
+fn open_units(alloc: Global, names: &[u8]) -> Result<Vec<u8>, MakeFault>
+    ensures { IfOk result (λ kept. kept.items ≡ open_from (95 ∷ []) names.now) }
+{
+    let mut open = Vec::new(alloc);
+    let mut unit = Vec::new(alloc);
+    begin_unit(&mut unit, b'_')?;
+    for byte in names {
+        if *byte == b'_' || *byte == 0 {
+            put_unit(&mut open, unit.as_slice())?;
+            begin_unit(&mut unit, *byte)?;
+        } else {
+            add_byte(&mut unit, *byte)?;
+        }
+    }
+    put_unit(&mut open, unit.as_slice())?;
+    Ok(open)
+}
+
+/// The value of `riscv,isa` or `riscv,isa-extensions` without the names that are closed.
+pub(crate) fn open_names(alloc: Global, names: &[u8]) -> Result<Vec<u8>, MakeFault>
+    ensures { IfOk result (λ kept. kept.items ≡ open_names names.now) }
+{
+    let units = open_units(alloc, names)?;
+    let mut open = Vec::new(alloc);
+    if let Some((_, later)) = units.as_slice().split_first() {
+        put_bytes(&mut open, later)?;
+    }
+    Ok(open)
+}

@@ -1,0 +1,113 @@
+//! The tree of the host.
+
+ghost use Rattle.std.specs.Prelude.{◌≡◌, ◌≢◌, Err, List, IfOk, OnOk};
+ghost use Rattle.device_tree.specs.declared.reservations.Reservation.{Reservation};
+ghost use Rattle.device_tree.specs.declared.fault.TreeFault.{TreeFault};
+ghost use Rattle.device_tree.specs.Pieces.{parts_of};
+ghost use Rattle.device_tree.specs.Nodes.{Tree, parts_of_tree};
+ghost use Rattle.device_tree.specs.Trees.{ReadsAs, SpellsTree};
+ghost use Rattle.host_tree.specs.Written.{Adds};
+ghost use Rattle.host_tree.specs.HostTrees.{IsHostTree, IsHosts, portion_of};
+
+use crate::fault::{HostTreeFault, MakeFault};
+use crate::properties::put_properties;
+use crate::put::{put_begin, put_end};
+use crate::reserved::Reserved;
+use crate::root::put_children;
+use crate::share::Share;
+use crate::whole::Ends;
+use crate::writer::TreeWriter;
+use board_ranges::{BoardReason, cells_of, head_of};
+use byteorder::{BigEndian, ByteOrder};
+use device_tree::{DeviceTree, PlacedPiece, TreeReason, read_tree};
+use std::alloc::Global;
+
+/// Writes the host's tree of a board's, whose pieces these are.
+fn put_tree<'a>(
+    alloc: Global,
+    share: &Share<'_>,
+    pieces: &'a [PlacedPiece<'a>],
+    ranges: &[Reserved],
+    writer: &mut TreeWriter,
+) -> Result<(), MakeFault>
+    ensures { OnOk result ((board : Tree) → parts_of pieces.now ≡ parts_of_tree board
+        → (made : Tree) × IsHostTree (portion_of share.now) ranges.now board made
+        × Adds writer.old writer.new (parts_of_tree made)) }
+{
+    let Some(root) = head_of(pieces) else {
+        return Ok(());
+    };
+    let Some(cells) = cells_of(root.properties) else {
+        return Err(MakeFault::NotUnderstood(BoardReason::BadCells));
+    };
+    put_begin(writer, root.name)?;
+    put_properties(alloc, writer, root.properties, false, false)?;
+    put_children(alloc, share, root.inner, &cells, ranges, writer)?;
+    put_end(writer)?;
+    Ok(())
+}
+
+/// The number of the hart that boots, as a tree's header says it.
+fn boot_hart_of(bytes: &[u8]) -> u32 {
+    if bytes.len() < 32 {
+        return 0;
+    }
+    BigEndian::read_u32(&bytes[28..])
+}
+
+/// The bytes of the host's tree of one that was read.
+fn written<'a>(
+    alloc: Global,
+    share: &Share<'_>,
+    read: &DeviceTree<'a>,
+    ranges: &[Reserved],
+    boot_hart: u32,
+    free: u32,
+) -> Result<Vec<u8>, MakeFault>
+    ensures { IfOk result (λ out. (board : Tree)
+        → parts_of read.now.pieces.items ≡ parts_of_tree board
+        → (made : Tree) × IsHostTree (portion_of share.now) ranges.now board made
+        × SpellsTree out.items made read.now.reservations.items) }
+{
+    let mut writer = TreeWriter::new(alloc);
+    put_tree(alloc, share, read.pieces.as_slice(), ranges, &mut writer)?;
+    let ends = Ends {
+        reservations: read.reservations.as_slice(),
+        boot_hart,
+        free,
+    };
+    match writer.finish(alloc, &ends) {
+        Ok(bytes) => Ok(bytes),
+        Err(fault) => Err(MakeFault::NotWritten(fault)),
+    }
+}
+
+/// The device tree as a host has it, of the one that a board's bytes begin with. A node with registers that are not the host's, and
+/// a hart that it has not, has the status `disabled` (Devicetree Specification 0.4, section 2.3.4). Extensions that the monitor
+/// closes are not named. Each range is a child of `/reserved-memory` with `no-map` (section 3.5). Nothing else is changed. So many
+/// bytes are free at its end.
+///
+/// Refused where the bytes begin with no tree, a node's cells or rows are not read, a range does not fit into the root's cells, which
+/// have to be one or two, or the tree would have 4 GiB. Memory can be refused for each piece and each byte.
+pub fn host_tree(
+    alloc: Global,
+    share: &Share<'_>,
+    bytes: &[u8],
+    ranges: &[Reserved],
+    free: u32,
+) -> Result<Vec<u8>, HostTreeFault>
+    ensures ok { IfOk result (λ out.
+        IsHosts (portion_of share.now) ranges.now bytes.now out.items) }
+    ensures refused { (fault : TreeFault) → result ≡ Err (HostTreeFault.NotRead fault)
+        → fault.reason ≢ TreeReason.Memory
+        → (tree : Tree) (reservations : List Reservation)
+        → ReadsAs bytes.now tree reservations → ⊥ }
+{
+    match read_tree(alloc, bytes) {
+        Ok(read) => match written(alloc, share, &read, ranges, boot_hart_of(bytes), free) {
+            Ok(out) => Ok(out),
+            Err(fault) => Err(HostTreeFault::NotMade(fault)),
+        },
+        Err(fault) => Err(HostTreeFault::NotRead(fault)),
+    }
+}

@@ -1,0 +1,118 @@
+//! The host's tree in place of the board's.
+
+ghost use Rattle.std.specs.Prelude.{◌≡◌, ◌++◌, IfOk, OnErr, OnOk, List, ℕ};
+ghost use Rattle.host_tree.specs.Platforms.{portion_in, reserved_in};
+ghost use Rattle.host_tree.specs.HostTrees.{IsHosts};
+
+use crate::fault::{HostTreeFault, MakeFault};
+use crate::host::host_tree;
+use crate::platform::PlatformWords;
+use crate::reserved::{Purpose, Reserved};
+use crate::share::Share;
+use crate::write_fault::WriteFault;
+use board_ranges::Extent;
+use std::alloc::Global;
+
+/// How many bytes are free after the tree for who adds to it, where there is room for them.
+const FREE: u32 = 4096;
+
+/// Why a board's tree is left as it is.
+#[derive(Clone, Copy, Debug, PartialEq, Eq)]
+pub enum PlaceFault {
+    /// There is no tree of the host.
+    NoTree(HostTreeFault),
+    /// It is longer than its place.
+    NoRoom,
+}
+
+/// The ranges that are reserved: the monitor's, and the pool of enclaves where there is one.
+fn reserved_in(
+    alloc: Global,
+    platform: &PlatformWords,
+    pool: Extent,
+) -> Result<Vec<Reserved>, MakeFault>
+    ensures { IfOk result (λ list. list.items ≡ reserved_in platform.now pool) }
+{
+    let mut list = Vec::new(alloc);
+    let monitor = Reserved {
+        purpose: Purpose::Monitor,
+        extent: Extent {
+            base: platform.monitor_base,
+            size: platform.monitor_size,
+        },
+    };
+    let Ok(()) = list.push(monitor) else {
+        return Err(MakeFault::NotWritten(WriteFault::Memory));
+    };
+    if pool.size == 0 {
+        return Ok(list);
+    }
+    let Ok(()) = list.push(Reserved {
+        purpose: Purpose::Pool,
+        extent: pool,
+    }) else {
+        return Err(MakeFault::NotWritten(WriteFault::Memory));
+    };
+    Ok(list)
+}
+
+/// Puts bytes in front of a place, where they have room.
+fn put_front(place: &mut [u8], bytes: &[u8]) -> Result<(), PlaceFault>
+    ensures done { OnOk result ((rest : List ℕ) × (place.new ≡ bytes.now ++ rest)) }
+    ensures kept { OnErr result (place.new ≡ place.old) }
+{
+    if bytes.len() > place.len() {
+        return Err(PlaceFault::NoRoom);
+    }
+    place[..bytes.len()].copy_from_slice(bytes);
+    Ok(())
+}
+
+/// The host's tree, with free bytes where there is room for them.
+fn tree_for(
+    alloc: Global,
+    platform: &PlatformWords,
+    pool: Extent,
+    place: &[u8],
+) -> Result<Vec<u8>, HostTreeFault>
+    ensures { IfOk result (λ out. IsHosts (portion_in platform.now)
+        (reserved_in platform.now pool) place.now out.items) }
+{
+    let ranges = match platform.ranges(alloc) {
+        Ok(ranges) => ranges,
+        Err(fault) => return Err(HostTreeFault::NotMade(fault)),
+    };
+    let share = Share {
+        harts: platform.harts,
+        ranges: ranges.as_slice(),
+    };
+    let reserved = match reserved_in(alloc, platform, pool) {
+        Ok(reserved) => reserved,
+        Err(fault) => return Err(HostTreeFault::NotMade(fault)),
+    };
+    let tree = host_tree(alloc, &share, place, reserved.as_slice(), FREE)?;
+    if tree.len() <= place.len() {
+        return Ok(tree);
+    }
+    let shorter = host_tree(alloc, &share, place, reserved.as_slice(), 0)?;
+    Ok(shorter)
+}
+
+/// Writes the host's tree in place of the board's, which the bytes begin with. The pool is reserved too where it has a size.
+///
+/// Refused where there is none or it has no room; then the bytes are as they were. Memory can be refused.
+pub fn put_host_tree(
+    alloc: Global,
+    platform: &PlatformWords,
+    pool: Extent,
+    place: &mut [u8],
+) -> Result<(), PlaceFault>
+    ensures done { OnOk result ((out rest : List ℕ) × (place.new ≡ out ++ rest)
+        × IsHosts (portion_in platform.now) (reserved_in platform.now pool) place.old out) }
+    ensures kept { OnErr result (place.new ≡ place.old) }
+{
+    match tree_for(alloc, platform, pool, place) {
+        Ok(tree) => put_front(place, tree.as_slice()),
+        Err(fault) => Err(PlaceFault::NoTree(fault)),
+    }
+}

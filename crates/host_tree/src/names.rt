@@ -1,0 +1,66 @@
+//! The strings block: the names of properties, each with the zero that ends it.
+
+ghost use Rattle.std.specs.Prelude.{◌≡◌, ◌+◌, ◌≤◌, ◌<◌, ◌^◌, ◌++◌, IfOk, IfSome, OnOk, List, ℕ, drop, length};
+ghost use Rattle.device_tree.specs.Words.{BeginsWithText};
+ghost use Rattle.host_tree.specs.Written.{IsText};
+
+use crate::bytes::{put_bytes, text_in};
+use crate::write_fault::WriteFault;
+
+/// What comes behind that many bytes, which are there.
+fn after(bytes: &[u8], n: usize) -> &[u8]
+    requires { n ≤ length bytes.now }
+    ensures { result.now ≡ drop n bytes.now }
+{
+    &bytes[n..]
+}
+
+/// Where the names have this one, if one of them is it.
+fn place_in(names: &[u8], name: &[u8]) -> Option<usize>
+    ensures { IfSome result (λ place. BeginsWithText (drop place names.now) name.now) }
+{
+    let mut at = 0;
+    'names: while at < names.len() {
+        let text = text_in(after(names, at))?;
+        if text == name {
+            return Some(at);
+        }
+        at += text.len() + 1;
+    }
+    None
+}
+
+/// A place as 32 bits have it.
+pub(crate) fn word_of(place: usize) -> Result<u32, WriteFault>
+    ensures same { IfOk result (λ word. word ≡ place) }
+    ensures fits { OnOk result (place < 2 ^ 32) }
+{
+    if place > u32::MAX as usize {
+        return Err(WriteFault::TooLarge);
+    }
+    Ok(place as u32)
+}
+
+/// Appends a name, and answers its place.
+fn add_name(names: &mut Vec<u8>, name: &[u8]) -> Result<usize, WriteFault>
+    requires { IsText name.now }
+    ensures { IfOk result (λ place. BeginsWithText (drop place names.new.items) name.now
+        × (added : List ℕ) × (names.new.items ≡ names.old.items ++ added)) }
+{
+    let place = names.as_slice().len();
+    put_bytes(names, name)?;
+    put_bytes(names, b"\0".as_slice())?;
+    Ok(place)
+}
+
+/// The place of a name, which is added where it is not there.
+pub(crate) fn place_of(names: &mut Vec<u8>, name: &[u8]) -> Result<usize, WriteFault>
+    requires { IsText name.now }
+    ensures { IfOk result (λ place. BeginsWithText (drop place names.new.items) name.now
+        × (added : List ℕ) × (names.new.items ≡ names.old.items ++ added)) }
+{
+    if let Some(place) = place_in(names.as_slice(), name) {
+        return Ok(place);
+    }
+    add_name(names, name)
+}

@@ -1,0 +1,48 @@
+//! The beginning of a node and its properties as the host has them.
+
+ghost use Rattle.std.specs.Prelude.{◌≡◌, ◌∷◌, OnOk, List, codes, map};
+ghost use Rattle.device_tree.specs.Pieces.{Setting, begins, has, parts_of};
+ghost use Rattle.board_ranges.specs.declared.rows.Extent.{Extent};
+ghost use Rattle.board_ranges.specs.Windows.{path_of};
+ghost use Rattle.board_ranges.specs.Properties.{value_in};
+ghost use Rattle.board_ranges.specs.Meaning.{live_kind};
+ghost use Rattle.host_tree.specs.Written.{Adds};
+ghost use Rattle.host_tree.specs.HostNodes.{AreRegisters, node_settings};
+ghost use Rattle.host_tree.specs.HostTrees.{portion_of};
+
+use crate::close::is_closed;
+use crate::fault::MakeFault;
+use crate::properties::put_properties;
+use crate::put::put_begin;
+use crate::share::Share;
+use crate::writer::TreeWriter;
+use board_ranges::{Cells, Head, Place, Way, is_hart};
+use std::alloc::Global;
+
+/// Writes the beginning of a node and its properties, by its place and its bus.
+pub(crate) fn put_head<'a>(
+    alloc: Global,
+    share: &Share<'_>,
+    head: &Head<'a>,
+    place: Place,
+    bus: (&Cells, &Way),
+    writer: &mut TreeWriter,
+) -> Result<(), MakeFault>
+    ensures { OnOk result ((rows : List Extent)
+        × AreRegisters (live_kind place (parts_of head.now.properties.now))
+        (value_in (codes "reg") (parts_of head.now.properties.now)) bus.entry.0.now rows
+        × ((own : List Setting) → parts_of head.now.properties.now ≡ map has own
+        → Adds writer.old writer.new (begins head.now.name.now ∷ map has
+        (node_settings (portion_of share.now) place (path_of bus.entry.1.now) rows own)))) }
+{
+    let is_closed = is_closed(alloc, share, head.properties, place, bus)?;
+    put_begin(writer, head.name)?;
+    put_properties(
+        alloc,
+        writer,
+        head.properties,
+        is_hart(head.properties),
+        is_closed,
+    )?;
+    Ok(())
+}

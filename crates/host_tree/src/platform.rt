@@ -1,0 +1,246 @@
+//! A platform as firmware has it, of which a board may have less.
+
+ghost use Rattle.std.specs.Prelude.{◌≡◌, ◌++◌, ◌∷◌, MatchOption, OnErr, OnOk, IfOk, List, [], ℕ, suc, ◌≤◌, drop, length};
+ghost use Rattle.board_ranges.specs.declared.rows.Extent.{Extent};
+ghost use Rattle.host_tree.specs.Platforms.{IsClipped, IsFound, clipped_one, flat_words, pairs_in, triples_in};
+
+use crate::board::{Board, board_of};
+use crate::fault::{HostTreeFault, MakeFault};
+use crate::there::{harts_there, memory_there};
+use crate::write_fault::WriteFault;
+use board_ranges::Extent;
+use std::alloc::Global;
+
+/// A platform as firmware has it: numbers of 64 bits, as `firmware/frames.h` lays them out.
+#[repr(C)]
+#[derive(Clone, Copy)]
+pub struct PlatformWords {
+    pub tag: u64,
+    pub harts: u64,
+    pub entries: u64,
+    pub monitor_base: u64,
+    pub monitor_size: u64,
+    pub ram_count: u64,
+    pub device_count: u64,
+    /// Base and size of each range of memory.
+    pub ram: [u64; 64],
+    /// Base, size and permission of each device.
+    pub device: [u64; 96],
+}
+
+/// Appends an extent.
+fn push(list: &mut Vec<Extent>, extent: Extent) -> Result<(), MakeFault>
+    ensures { OnOk result (list.new.items ≡ list.old.items ++ extent ∷ []) }
+{
+    let Ok(()) = list.push(extent) else {
+        return Err(MakeFault::NotWritten(WriteFault::Memory));
+    };
+    Ok(())
+}
+
+/// What comes behind that many words, which are there.
+fn behind(words: &[u64], n: usize) -> &[u64]
+    requires { n ≤ length words.now }
+    ensures { result.now ≡ drop n words.now }
+{
+    &words[n..]
+}
+
+/// The pair in front, of a base and a size, and the words behind it.
+#[tactic(auto, using(crate::proofs::Pairs::no_pair, crate::proofs::Pairs::one_pair))]
+fn first_pair(words: &[u64]) -> Option<(Extent, &[u64])>
+    ensures { MatchOption result ((count : ℕ) → pairs_in count words.now ≡ [])
+        (λ x. (count : ℕ) → pairs_in (suc count) words.now ≡ x.0 ∷ pairs_in count x.1.now) }
+{
+    if words.len() < 2 {
+        return None;
+    }
+    let extent = Extent {
+        base: words[0],
+        size: words[1],
+    };
+    Some((extent, behind(words, 2)))
+}
+
+/// The same of a base, a size and another number.
+#[tactic(auto, using(crate::proofs::Pairs::no_triple, crate::proofs::Pairs::one_triple))]
+fn first_triple(words: &[u64]) -> Option<(Extent, &[u64])>
+    ensures { MatchOption result ((count : ℕ) → triples_in count words.now ≡ [])
+        (λ x. (count : ℕ) → triples_in (suc count) words.now ≡ x.0 ∷ triples_in count x.1.now) }
+{
+    if words.len() < 3 {
+        return None;
+    }
+    let extent = Extent {
+        base: words[0],
+        size: words[1],
+    };
+    Some((extent, behind(words, 3)))
+}
+
+/// Appends the extents of so many pairs, or of as many as there are.
+fn put_pairs(list: &mut Vec<Extent>, words: &[u64], count: u64) -> Result<(), MakeFault>
+    ensures { OnOk result (list.new.items ≡ list.old.items ++ pairs_in count words.now) }
+{
+    let mut left = count;
+    let mut rest = words;
+    'pairs: while left > 0 {
+        let Some((extent, later)) = first_pair(rest) else {
+            break 'pairs;
+        };
+        push(list, extent)?;
+        rest = later;
+        left -= 1;
+    }
+    Ok(())
+}
+
+/// The same of a base, a size and another number.
+fn put_triples(list: &mut Vec<Extent>, words: &[u64], count: u64) -> Result<(), MakeFault>
+    ensures { OnOk result (list.new.items ≡ list.old.items ++ triples_in count words.now) }
+{
+    let mut left = count;
+    let mut rest = words;
+    'triples: while left > 0 {
+        let Some((extent, later)) = first_triple(rest) else {
+            break 'triples;
+        };
+        push(list, extent)?;
+        rest = later;
+        left -= 1;
+    }
+    Ok(())
+}
+
+impl PlatformWords {
+    /// The ranges of memory.
+    fn memory(&self, alloc: Global) -> Result<Vec<Extent>, MakeFault>
+        ensures { IfOk result (λ list. list.items ≡ pairs_in self.now.ram_count self.now.ram) }
+    {
+        let mut list = Vec::new(alloc);
+        put_pairs(&mut list, self.ram.as_slice(), self.ram_count)?;
+        Ok(list)
+    }
+
+    /// The ranges of addresses that its host has: memory and devices.
+    pub fn ranges(&self, alloc: Global) -> Result<Vec<Extent>, MakeFault>
+        ensures { IfOk result (λ list. list.items ≡ pairs_in self.now.ram_count self.now.ram
+            ++ triples_in self.now.device_count self.now.device) }
+    {
+        let mut list = Vec::new(alloc);
+        put_pairs(&mut list, self.ram.as_slice(), self.ram_count)?;
+        put_triples(&mut list, self.device.as_slice(), self.device_count)?;
+        Ok(list)
+    }
+}
+
+/// Appends as much of a range as a board with this memory has, if it has some.
+fn put_clipped(list: &mut Vec<Extent>, memory: &[Extent], range: Extent) -> Result<(), MakeFault>
+    ensures { OnOk result ((kept : List Extent)
+        × (list.new.items ≡ list.old.items ++ kept) × clipped_one memory.now range kept) }
+{
+    let size = memory_there(memory, range.base, range.size);
+    if size == 0 {
+        return Ok(());
+    }
+    push(
+        list,
+        Extent {
+            base: range.base,
+            size,
+        },
+    )
+}
+
+/// As much of each range as a board with this memory has.
+fn clipped(alloc: Global, memory: &[Extent], ranges: &[Extent]) -> Result<Vec<Extent>, MakeFault>
+    ensures { IfOk result (λ list. IsClipped memory.now ranges.now list.items) }
+{
+    let mut list = Vec::new(alloc);
+    for range in ranges {
+        put_clipped(&mut list, memory, *range)?;
+    }
+    Ok(list)
+}
+
+/// Appends a base and a size.
+fn put_words(words: &mut Vec<u64>, range: Extent) -> Result<(), MakeFault>
+    ensures { OnOk result (words.new.items
+        ≡ words.old.items ++ range.base ∷ range.size ∷ []) }
+{
+    let Ok(()) = words.push(range.base) else {
+        return Err(MakeFault::NotWritten(WriteFault::Memory));
+    };
+    let Ok(()) = words.push(range.size) else {
+        return Err(MakeFault::NotWritten(WriteFault::Memory));
+    };
+    Ok(())
+}
+
+/// The words of ranges, one after another.
+fn flat_words(alloc: Global, ranges: &[Extent]) -> Result<Vec<u64>, MakeFault>
+    ensures { IfOk result (λ words. words.items ≡ flat_words ranges.now) }
+{
+    let mut words = Vec::new(alloc);
+    for range in ranges {
+        put_words(&mut words, *range)?;
+    }
+    Ok(words)
+}
+
+/// The words of ranges, of which a platform has at most 32, and zeros behind them.
+fn words_of(alloc: Global, ranges: &[Extent]) -> Result<[u64; 64], MakeFault>
+    ensures { IfOk result (λ words. (zeros : List ℕ)
+        × (words ≡ flat_words ranges.now ++ zeros)) }
+{
+    let flat = flat_words(alloc, ranges)?;
+    if flat.len() > 64 {
+        return Err(MakeFault::NotWritten(WriteFault::TooLarge));
+    }
+    let mut words = [0; 64];
+    words[..flat.len()].copy_from_slice(flat.as_slice());
+    Ok(words)
+}
+
+/// The ranges of a platform's memory that a board has, and their words.
+fn left_of(
+    alloc: Global,
+    board: &Board,
+    platform: &PlatformWords,
+) -> Result<(u64, [u64; 64]), MakeFault>
+    ensures { IfOk result (λ left. (ranges : List Extent)
+        × IsClipped board.now.memory.items (pairs_in platform.now.ram_count platform.now.ram) ranges
+        × (left.0 ≡ length ranges) × (zeros : List ℕ) × (left.1 ≡ flat_words ranges ++ zeros)) }
+{
+    let ranges = platform.memory(alloc)?;
+    let left = clipped(alloc, board.memory.as_slice(), ranges.as_slice())?;
+    let words = words_of(alloc, left.as_slice())?;
+    Ok((left.as_slice().len() as u64, words))
+}
+
+/// Leaves of the platform what the board has whose tree the bytes begin with: harts from hart 0 on, and of each range of memory
+/// whole pages from its start on.
+///
+/// Refused where the bytes begin with no tree, or a node's cells or rows are not read; then the platform is as it was. Memory can be
+/// refused.
+pub fn find_platform(
+    alloc: Global,
+    bytes: &[u8],
+    platform: &mut PlatformWords,
+) -> Result<(), HostTreeFault>
+    ensures found { OnOk result (IsFound bytes.now platform.old platform.new) }
+    ensures kept { OnErr result (platform.new ≡ platform.old) }
+{
+    let board = match board_of(alloc, bytes) {
+        Ok(board) => board,
+        Err(fault) => return Err(fault),
+    };
+    let (count, words) = match left_of(alloc, &board, platform) {
+        Ok(left) => left,
+        Err(fault) => return Err(HostTreeFault::NotMade(fault)),
+    };
+    platform.harts = harts_there(board.harts.as_slice(), platform.harts);
+    platform.ram_count = count;
+    platform.ram = words;
+    Ok(())
+}

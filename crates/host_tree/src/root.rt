@@ -1,0 +1,120 @@
+//! The children of the root, and among them `/reserved-memory`.
+
+ghost use Rattle.std.specs.Prelude.{◌≡◌, ◌≤◌, ◌++◌, ◌∷◌, IfOk, OnOk, List, bytes_eq, codes, length};
+ghost use Rattle.device_tree.specs.Pieces.{Part, ends, parts_of};
+ghost use Rattle.device_tree.specs.Nodes.{BeginsNoNode, Nodes, parts_of_nodes};
+ghost use Rattle.board_ranges.specs.declared.kinds.Place.TheVariants.{BelowRoot};
+ghost use Rattle.board_ranges.specs.Windows.{same};
+ghost use Rattle.host_tree.specs.Written.{Adds};
+ghost use Rattle.host_tree.specs.HostNodes.{HostNodes, IsChild};
+ghost use Rattle.host_tree.specs.HostTrees.{portion_of};
+ghost use Rattle.host_tree.specs.Ranges.{AllFit, range_nodes, with_ranges};
+
+use crate::fault::MakeFault;
+use crate::own_node::put_head;
+use crate::parent::put_parent;
+use crate::put::put_end;
+use crate::reserved::{Reserved, put_ranges};
+use crate::share::Share;
+use crate::walk::put_nodes;
+use crate::writer::TreeWriter;
+use board_ranges::{Cells, Head, Place, Way, after_end, head_of, inner_of};
+use device_tree::PlacedPiece;
+use std::alloc::Global;
+
+/// Whether a node of that name has the ranges that are reserved.
+fn is_parent(name: &[u8]) -> bool
+    ensures { result ≡ bytes_eq name.now (codes "reserved-memory") }
+{
+    name == b"reserved-memory".as_slice()
+}
+
+/// Writes a child of the root but for its end, and answers the pieces from there on.
+fn put_child<'a>(
+    alloc: Global,
+    share: &Share<'_>,
+    head: &Head<'a>,
+    cells: &Cells,
+    writer: &mut TreeWriter,
+) -> Result<&'a [PlacedPiece<'a>], MakeFault>
+    ensures len { IfOk result (λ behind. length behind.now ≤ length head.now.inner.now) }
+    ensures ok { IfOk result (λ behind. IsChild (portion_of share.now) BelowRoot cells.now same
+        head.now.name.now (parts_of head.now.properties.now) (parts_of head.now.inner.now)
+        (parts_of behind.now) writer.old writer.new) }
+{
+    let bus = (cells, &Way::Same);
+    put_head(alloc, share, head, Place::BelowRoot, bus, writer)?;
+    let inner = match inner_of(alloc, head.name, head.properties, Place::BelowRoot, bus) {
+        Ok(inner) => inner,
+        Err(reason) => return Err(MakeFault::NotUnderstood(reason)),
+    };
+    let inner_bus = (&inner.cells, &inner.way);
+    match put_nodes(alloc, share, head.inner, inner.place, inner_bus, writer) {
+        Ok(behind) => Ok(behind),
+        Err(fault) => Err(fault),
+    }
+}
+
+/// Writes the children of the root as the host has them, with ranges that are reserved.
+pub(crate) fn put_children<'a>(
+    alloc: Global,
+    share: &Share<'_>,
+    pieces: &'a [PlacedPiece<'a>],
+    cells: &Cells,
+    ranges: &[Reserved],
+    writer: &mut TreeWriter,
+) -> Result<(), MakeFault>
+    ensures fit { OnOk result (AllFit cells.now ranges.now) }
+    ensures ok { OnOk result ((nodes : Nodes) (behind : List Part)
+        → parts_of pieces.now ≡ parts_of_nodes nodes ++ behind → BeginsNoNode behind
+        → (made : Nodes) × HostNodes (portion_of share.now) BelowRoot cells.now same nodes made
+        × Adds writer.old writer.new
+        (parts_of_nodes (with_ranges cells.now ranges.now made))) }
+{
+    let mut rest = pieces;
+    'nodes: loop {
+        let Some(head) = head_of(rest) else {
+            put_parent(alloc, writer, cells, ranges)?;
+            return Ok(());
+        };
+        let behind = match put_child(alloc, share, &head, cells, writer) {
+            Ok(behind) => behind,
+            Err(fault) => return Err(fault),
+        };
+        if is_parent(head.name) {
+            put_last(alloc, share, behind, cells, ranges, writer)?;
+            return Ok(());
+        }
+        match put_end(writer) {
+            Ok(()) => {}
+            Err(fault) => return Err(fault),
+        }
+        rest = after_end(behind);
+    }
+}
+
+/// Writes ranges and the end of `/reserved-memory`, and the nodes behind it.
+fn put_last<'a>(
+    alloc: Global,
+    share: &Share<'_>,
+    pieces: &'a [PlacedPiece<'a>],
+    cells: &Cells,
+    ranges: &[Reserved],
+    writer: &mut TreeWriter,
+) -> Result<(), MakeFault>
+    ensures fit { OnOk result (AllFit cells.now ranges.now) }
+    ensures ok { OnOk result ((later : Nodes) (behind : List Part)
+        → parts_of pieces.now ≡ ends ∷ (parts_of_nodes later ++ behind) → BeginsNoNode behind
+        → (made : Nodes) × HostNodes (portion_of share.now) BelowRoot cells.now same later made
+        × Adds writer.old writer.new (parts_of_nodes (range_nodes cells.now ranges.now)
+        ++ (ends ∷ parts_of_nodes made))) }
+{
+    put_ranges(alloc, writer, cells, ranges)?;
+    put_end(writer)?;
+    let bus = (cells, &Way::Same);
+    let later = after_end(pieces);
+    match put_nodes(alloc, share, later, Place::BelowRoot, bus, writer) {
+        Ok(_) => Ok(()),
+        Err(fault) => Err(fault),
+    }
+}

@@ -1,0 +1,47 @@
+//! What a host has of the board.
+
+ghost use Rattle.std.specs.Prelude.{◌≡◌, drop};
+ghost use Rattle.board_ranges.specs.Windows.{path_of};
+ghost use Rattle.host_tree.specs.Shares.{is_around, is_hosts, is_within};
+
+use board_ranges::{Extent, Way};
+
+/// What a host has of the board: the harts below this number, and ranges of addresses, of devices and of memory.
+#[derive(Clone, Copy)]
+pub struct Share<'a> {
+    pub harts: u64,
+    pub ranges: &'a [Extent],
+}
+
+/// Whether all of an extent is in a range.
+fn is_around(range: Extent, extent: Extent) -> bool
+    ensures { result ≡ is_around range extent }
+{
+    range.base <= extent.base
+        && extent.base - range.base < range.size
+        && extent.size <= range.size - (extent.base - range.base)
+}
+
+/// Whether all of an extent is in one of the ranges.
+fn is_within(ranges: &[Extent], extent: Extent) -> bool
+    ensures { result ≡ is_within ranges.now extent }
+{
+    for range in ranges {
+        if is_around(*range, extent) {
+            return true;
+        }
+    }
+    false
+}
+
+impl Share<'_> {
+    /// Whether the host has a row of registers: where the root has them, they are in one of its ranges.
+    pub(crate) fn has(&self, way: &Way, row: Extent) -> bool
+        ensures { result ≡ is_hosts self.now.ranges.now (path_of way.now) row }
+    {
+        match way.at_root(row) {
+            Some(extent) => is_within(self.ranges, extent),
+            None => false,
+        }
+    }
+}

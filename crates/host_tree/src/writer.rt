@@ -1,0 +1,63 @@
+//! A tree that is being written.
+
+ghost use Rattle.std.specs.Prelude.{◌∷◌, OnOk, []};
+ghost use Rattle.device_tree.specs.Pieces.{begins, ends, has};
+ghost use Rattle.host_tree.specs.Written.{Adds, HasWritten, setting};
+
+use crate::blocks::{put_begin, put_end, put_property};
+use crate::bytes::is_text;
+use crate::names::place_of;
+use crate::write_fault::WriteFault;
+use std::alloc::Global;
+
+/// A tree that is being written: the names of its properties, each once, and its structure block so far.
+///
+/// After an `Err` it is not to be written on.
+#[derive(Drop)]
+pub struct TreeWriter {
+    pub(crate) names: Vec<u8>,
+    pub(crate) block: Vec<u8>,
+}
+
+impl TreeWriter {
+    /// Nothing is written.
+    pub fn new(alloc: Global) -> TreeWriter
+        ensures { HasWritten result [] }
+    {
+        TreeWriter {
+            names: Vec::new(alloc),
+            block: Vec::new(alloc),
+        }
+    }
+
+    /// A node begins, of this name and unit address.
+    pub fn begin_node(&mut self, name: &[u8]) -> Result<(), WriteFault>
+        ensures { OnOk result (Adds self.old self.new (begins name.now ∷ [])) }
+    {
+        if !is_text(name) {
+            return Err(WriteFault::ZeroInName);
+        }
+        put_begin(&mut self.block, name)?;
+        Ok(())
+    }
+
+    /// The node that began last has a property.
+    pub fn property(&mut self, name: &[u8], value: &[u8]) -> Result<(), WriteFault>
+        ensures { OnOk result (Adds self.old self.new (has (setting name.now value.now) ∷ [])) }
+    {
+        if !is_text(name) {
+            return Err(WriteFault::ZeroInName);
+        }
+        let place = place_of(&mut self.names, name)?;
+        put_property(&mut self.block, place, value)?;
+        Ok(())
+    }
+
+    /// The node that began last and has not ended ends.
+    pub fn end_node(&mut self) -> Result<(), WriteFault>
+        ensures { OnOk result (Adds self.old self.new (ends ∷ [])) }
+    {
+        put_end(&mut self.block)?;
+        Ok(())
+    }
+}

@@ -1,0 +1,26 @@
+-- The numbers of what may come of a device tree.
+use Rattle.std.specs.Prelude.{◌≡◌, ◌⊎◌, ℕ, ℤ, pos}
+use Rattle.board_ranges.specs.declared.rows.Extent.{Extent}
+use Rattle.board_ranges.specs.declared.fault.BoardReason.TheVariants.{BadRows}
+use Rattle.board_ranges.specs.declared.rows.RowFault.TheVariants as rows
+use Rattle.device_tree.specs.declared.fault.TreeReason.TheVariants as trees
+use Rattle.host_tree.specs.declared.fault.HostTreeFault.{HostTreeFault}
+use Rattle.host_tree.specs.declared.fault.HostTreeFault.TheVariants.{NotRead, NotMade}
+use Rattle.host_tree.specs.declared.fault.MakeFault.TheVariants.{NotUnderstood, BadCells}
+use Rattle.host_tree.specs.declared.fault.MakeFault.TheVariants.{NotWritten}
+use Rattle.host_tree.specs.declared.write_fault.WriteFault.TheVariants as writes
+
+-- memory was refused
+abbrev pub IsMemory : HostTreeFault → Type 0
+IsMemory (NotRead fault) = fault.reason ≡ trees.Memory
+IsMemory (NotMade (NotUnderstood reason)) = reason ≡ BadRows rows.Memory
+IsMemory (NotMade BadCells) = ⊥
+IsMemory (NotMade (NotWritten fault)) = fault ≡ writes.Memory
+
+-- it is not done: the tree is not read, its place has no room, or memory was refused
+abbrev pub IsCode : ℤ → Type 0
+IsCode code = (code ≡ pos 1) ⊎ ((code ≡ pos 2) ⊎ (code ≡ pos 3))
+
+-- a base and a size
+abbrev pub range : ℕ → ℕ → Extent
+range base size = record { base = base; size = size }
