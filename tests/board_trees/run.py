@@ -6,8 +6,8 @@ that were changed or cut.
 
 Trees written here have each case in which a tree does not say what a map wants to know; what has to come of them is written
 beside them, by docs/DECISIONS.md, 392 to 397. Of QEMU's trees the registers of each node are asked of fdtget, and rounded here.
-Of one tree of each board 5,000 copies with up to four bytes changed are read by both commands, each of which prints a text that
-reads back, or a reason. What is printed is taken as it is: a map by plan, a platform by lint and by run with the trace of an
+Of one tree of each board 5,000 copies, or COPIES, with up to four bytes changed are read by both commands, each of which prints a
+text that reads back, or a reason. What is printed is taken as it is: a map by plan, a platform by lint and by run with the trace of an
 example. It wants dtc and fdtget, and for the boards QEMU; on Debian:
 
   apt-get install --no-install-recommends qemu-system-misc device-tree-compiler
@@ -34,7 +34,7 @@ from trees import DEEP, TREES  # noqa: E402
 
 PAGE = 4096
 MONITOR = ["0x80000000", "0x80000"]
-COPIES = 5000
+COPIES = int(os.environ.get("COPIES", "5000"))
 
 
 def pmpmon(*words, given=None):
