@@ -31,6 +31,11 @@ def listed(path):
     return subprocess.run(["dtc", "-q", "-s", "-I", "dtb", "-O", "dts", path], capture_output=True, text=True).stdout
 
 
+def boots(path):
+    """The number of the hart that boots, in the header (Devicetree Specification v0.4, section 5.2)."""
+    return path.read_bytes()[28:32]
+
+
 def pairs():
     """Trees, each with what it has to become."""
     for name, its in (("two cells", TWO), ("one cell", ONE)):
@@ -57,9 +62,9 @@ def trees(folder, told):
 
     for name, text, want in pairs():
         for slack in (0, 1000):
-            tree = compiled(folder, "in", text, "-p", str(slack))
+            tree = compiled(folder, "in", text, "-p", str(slack), "-b", "2")
             said = answer(tree, tree.stat().st_size + 400)
-            right = said == "taken" and listed(folder / "out.dtb") == listed(compiled(folder, "want", want))
+            right = said == "taken" and listed(folder / "out.dtb") == listed(compiled(folder, "want", want)) and boots(folder / "out.dtb") == boots(tree)
             told(f"a device tree with {name}, {slack} bytes free: the range is in it, and nothing else is changed", right, "" if right else said)
     refusals(folder, told, answer)
     pools(folder, told, program)
