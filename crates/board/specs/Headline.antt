@@ -131,14 +131,14 @@ read_on (happened run (computed hart floats) does) = read_on run
 read_on (happened run (trapped trap frame read question answered) does) =
     read_on run ++ (frame ++ read)
 
--- what was written in them: the questions for pages, and the answers
+-- what was written in them: the answers, and the questions for pages
 abbrev pub written_on : {layout : PlatformLayout} {opened : List ℕ} {events : List BoardEvent}
     {board : Board} → BoardRun layout opened events board → List ℕ
 written_on (booted memory floats kept) = []
 written_on (happened run (access hart a value said) does) = written_on run
 written_on (happened run (computed hart floats) does) = written_on run
 written_on (happened run (trapped trap frame read question answered) does) =
-    written_on run ++ (question ++ answered)
+    written_on run ++ (answered ++ question)
 
 -- the traps are a run of the loop, which read and wrote these bytes, and each hart has loaded what
 -- its answers say

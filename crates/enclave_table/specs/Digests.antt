@@ -1,10 +1,14 @@
 -- The words of an enclave's digest.
-use Rattle.std.specs.Prelude.{◌≡◌, ℕ, ◌*◌, drop}
+use Rattle.std.specs.Prelude.{◌≡◌, ℕ, ◌*◌, drop, List, Some}
 use Rattle.byteorder.specs.Endian.{little_number}
-use Rattle.enclave_table.specs.Enclaves.{EnclaveTable, Live}
+use Rattle.enclave_table.specs.Enclaves.{EnclaveTable, Live, with_enclave}
 use Rattle.platforms.specs.CheckLists.{AllPass}
 use Rattle.enclave_table.specs.Checks.{word_checks}
 use Rattle.enclave_table.specs.declared.enclave.Enclave.{Enclave}
+
+-- the table with that digest of an enclave, which is live under that id, and all else as it was
+abbrev pub with_digest : EnclaveTable → ℕ → Enclave → List ℕ → EnclaveTable
+with_digest table id e digest = with_enclave table id (Some (record e { digest = digest }))
 
 -- measure: the k-th word of the digest
 pub record AnswersWord (table : EnclaveTable) (id k word : ℕ) : Type 0 where

@@ -18,24 +18,6 @@ use pmp_encoding::Perm;
 use sbi_decode::World;
 
 impl Table {
-    /// The parts of an enclave, as they are kept, where a creation passes each check but those for entries and memory: its
-    /// private pages are to be measured.
-    pub fn measures(&self, world: World, asked: Create) -> Option<Create>
-        ensures parts { IfSome result (λ parts. parts ≡ parts_of asked) }
-        ensures counts { IfSome result (λ parts. HasCounts parts) }
-        ensures places { IfSome result (λ parts. HasPlaces parts) }
-        ensures passes { IfSome result (λ parts.
-            AllPass (create_checks self.now.table world parts)) }
-        ensures none { IfNone result
-            (AllPass (create_checks self.now.table world (parts_of asked)) → ⊥) }
-    {
-        let parts = asked.normalized();
-        match self.checked_create(world, &parts) {
-            Ok(_) => Some(parts),
-            Err(_) => None,
-        }
-    }
-
     /// The digest of an enclave with these parts.
     fn digest_by<D: Digests>(&mut self, digests: &D, parts: &Create) -> [u8; 32]
         requires counts { HasCounts parts.now }

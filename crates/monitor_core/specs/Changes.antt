@@ -1,11 +1,13 @@
 -- Changes of a state: what is not named stays.
 use Rattle.std.specs.Prelude.{ℕ, ◌+◌, ◌%◌, ◌^◌, Bool, true, false, ◌&&◌, ◌||◌, ◌==◌, nat_lt}
-use Rattle.std.specs.Prelude.{if◌then◌else◌}
+use Rattle.std.specs.Prelude.{if◌then◌else◌, List}
 use Rattle.sbi_decode.specs.declared.world.World.{World}
 use Rattle.sbi_decode.specs.declared.world.World.TheVariants.{Host, Enclave as InEnclave}
 pub use Rattle.sbi_decode.specs.Registers.{with_x}
 use Rattle.sbi_decode.specs.Registers.{RegisterFile, zeros}
 use Rattle.measurement.specs.declared.request.Create.{Create}
+use Rattle.enclave_table.specs.Digests.{with_digest}
+use Rattle.enclave_table.specs.declared.enclave.Enclave.{Enclave}
 use Rattle.sbi_decode.specs.Runners.{Runner, HostOf, EnclaveOf, runner_of}
 use Rattle.monitor_core.specs.States.{MonitorState, running_registers}
 
@@ -48,6 +50,10 @@ with_running s hart file = with_registers s (runner_of hart (s.worlds hart)) fil
 abbrev pub answering : MonitorState → ℕ → ℕ → ℕ → MonitorState
 answering s hart first second = with_running s hart
     (with_x (with_x (running_registers s hart) 10 first) 11 second)
+
+-- an enclave that is live has that digest
+abbrev pub having_digest : MonitorState → ℕ → Enclave → List ℕ → MonitorState
+having_digest s id e digest = record s { table = with_digest s.table id e digest }
 
 -- a hart is not marked
 abbrev pub without_mark : MonitorState → ℕ → MonitorState

@@ -1,11 +1,8 @@
--- Creations whose pages are to be measured.
-use Rattle.std.specs.Prelude.{◌≡◌, Option, None, Some}
-use Rattle.enclave_table.specs.Enclaves.{EnclaveTable}
+-- Enclaves that were made, and whose pages are to be measured.
+use Rattle.std.specs.Prelude.{◌≡◌, Option, None, Some, pos}
 use Rattle.measurement.specs.Requests.{parts_of}
-use Rattle.platforms.specs.CheckLists.{AllPass}
-use Rattle.enclave_table.specs.Checks.{create_checks}
 use Rattle.measurement.specs.declared.request.Create.{Create}
-use Rattle.sbi_decode.specs.declared.world.World.{World}
+use Rattle.monitor_core.specs.declared.answer.Answer.{Answer}
 use Rattle.sbi_decode.specs.declared.calls.Call.{Call}
 use Rattle.sbi_decode.specs.declared.calls.Call.TheVariants as calls
 
@@ -22,8 +19,7 @@ asked_in (Some (calls.Create base text_pages data_pages shared_base shared_count
     })
 asked_in _ = None
 
--- a creation with these parts, as they are kept, passes each check but those for entries and memory
-abbrev pub Measures : Option Create → EnclaveTable → World → Create → Type 0
-Measures None table world parts = ⊥
-Measures (Some asked) table world parts = (parts ≡ parts_of asked)
-    × AllPass (create_checks table world parts)
+-- a call made an enclave of these parts, as they are kept: it is a creation, and was done
+abbrev pub IsMade : Option Create → Answer → Create → Type 0
+IsMade None answer parts = ⊥
+IsMade (Some asked) answer parts = (parts ≡ parts_of asked) × (answer.status ≡ pos 0)

@@ -1,9 +1,14 @@
 //! What a call is answered with, and what its caller is to do before the hart goes on.
 
-ghost use Rattle.std.specs.Prelude.{◌≡◌, ◌≤◌, ◌-◌, ◌^◌, pos};
+ghost use Rattle.std.specs.Prelude.{◌≡◌, ◌≤◌, ◌-◌, ◌^◌, IfNone, IfSome, pos};
+ghost use Rattle.sbi_decode.specs.Calls.{call_of};
+ghost use Rattle.measurement.specs.declared.request.Create.{Create as CreateParts};
 ghost use Rattle.monitor_core.specs.Answers.{below_zero};
+ghost use Rattle.monitor_core.specs.Measured.{IsMade, asked_in};
 
+use measurement::Create;
 use pmp_encoding::PageRange;
+use sbi_decode::{Call, Registers, decode};
 
 /// The answer of a call, which its caller finds in a0 and a1 when it goes on.
 #[derive(Clone, Copy)]
@@ -30,6 +35,41 @@ impl Answer {
         ensures { result ≡ record { status = pos 0; value = value } }
     {
         Answer { status: 0, value }
+    }
+
+    /// The parts of the enclave that a call made, as they are kept, by the registers that it was called with: its private pages
+    /// are to be measured. Of any other call, and of one that was refused, there are none.
+    pub fn made(&self, registers: &Registers) -> Option<Create>
+        ensures some { IfSome result (λ parts.
+            IsMade (asked_in (call_of registers.now)) self.now parts) }
+        ensures none { IfNone result ((parts : CreateParts)
+            → IsMade (asked_in (call_of registers.now)) self.now parts → ⊥) }
+    {
+        if self.status != 0 {
+            return None;
+        }
+        let Ok(
+            Call::Create {
+                base,
+                text_pages,
+                data_pages,
+                shared_base,
+                shared_count,
+                entry_offset,
+            },
+        ) = decode(registers)
+        else {
+            return None;
+        };
+        let asked = Create {
+            base,
+            text_pages,
+            data_pages,
+            shared_base,
+            shared_count,
+            entry_offset,
+        };
+        Some(asked.normalized())
     }
 
     /// That of a call that is refused with a number below zero.

@@ -5,10 +5,10 @@ ghost use Rattle.monitor_core.specs.Parts.{HoldsTogether};
 use crate::answer::Served;
 use crate::parts::MonitorParts;
 use enclave_table::{Table, World};
-use measurement::{Create, Digests};
+use measurement::Digests;
 use platforms::{BootFault, Platform};
 use pmp_encoding::Entry;
-use sbi_decode::{Call, Registers, decode};
+use sbi_decode::Registers;
 use std::alloc::Global;
 
 /// The table of enclaves, the worlds on one to four harts with their registers, and the harts that are marked.
@@ -19,19 +19,18 @@ pub struct Monitor {
 }
 
 impl Monitor {
-    ghost use Rattle.std.specs.Prelude.{◌≡◌, ◌<◌, ◌≤◌, ℕ, List, false, length, IfOk, IfErr, IfSome, IfNone};
-    ghost use Rattle.measurement.specs.Requests.{HasCounts, HasPlaces};
-    ghost use Rattle.measurement.specs.declared.request.Create.{Create as CreateParts};
-    ghost use Rattle.monitor_core.specs.Measured.{Measures, asked_in};
+    ghost use Rattle.std.specs.Prelude.{◌≡◌, ◌<◌, ◌≤◌, ℕ, List, false, length, IfOk, IfErr, IfSome};
     ghost use Rattle.pmp_encoding.specs.Limits.{limit_number};
     ghost use Rattle.pmp_match.specs.Meaning.{IsFewest, Needs};
     ghost use Rattle.enclave_table.specs.Boot.{IsBootFault, opening_table};
+    ghost use Rattle.enclave_table.specs.Enclaves.{Live};
+    ghost use Rattle.enclave_table.specs.declared.enclave.Enclave.{Enclave};
     ghost use Rattle.enclave_table.specs.Fewest.{FitsIn};
     ghost use Rattle.platforms.specs.Platform.{IsLayout};
     ghost use Rattle.enclave_table.specs.Tables.{IsTable};
     ghost use Rattle.enclave_table.specs.Views.{host_view, current_view};
     ghost use Rattle.sbi_decode.specs.Calls.{call_of};
-    ghost use Rattle.monitor_core.specs.Changes.{past_call, with_running, with_x, without_mark};
+    ghost use Rattle.monitor_core.specs.Changes.{having_digest, past_call, with_running, with_x, without_mark};
     ghost use Rattle.monitor_core.specs.Frames.{LoadsAnew, KeepsOthers, ClearsMemory};
     ghost use Rattle.monitor_core.specs.Monitors.{state_by, kept_by, list_of};
     ghost use Rattle.monitor_core.specs.States.{opening_monitor, running_registers};
@@ -204,42 +203,13 @@ impl Monitor {
         self.parts.serve(hart, digests)
     }
 
-    /// The parts of the enclave that these registers ask for, as they are kept, where the call is a creation that passes each
-    /// check but those for entries and memory: its private pages are to be measured for [`Monitor::serve`].
-    #[tactic(auto, unfolding(crate::specs::Monitors::state_by, crate::specs::Monitors::kept_by))]
-    pub fn measures(&self, hart: u8, registers: &Registers) -> Option<Create>
-        requires { hart < 4 }
-        ensures parts { let s = state_by self.now in IfSome result (λ parts.
-            Measures (asked_in (call_of registers.now)) s.table (s.worlds hart) parts) }
-        ensures counts { IfSome result (λ parts. HasCounts parts) }
-        ensures places { IfSome result (λ parts. HasPlaces parts) }
-        ensures none { let s = state_by self.now in IfNone result ((parts : CreateParts)
-            → Measures (asked_in (call_of registers.now)) s.table (s.worlds hart) parts → ⊥) }
+    /// An enclave that is live has this digest now, where its pages are measured after it was made. Nothing else changes.
+    pub fn give_digest(&mut self, id: u64, digest: &[u8; 32])
+        requires { (e : Enclave) × Live (state_by self.old).table id e }
+        ensures { (e : Enclave) → Live (state_by self.old).table id e
+            → state_by self.new ≡ having_digest (state_by self.old) id e digest.now }
     {
-        let Ok(
-            Call::Create {
-                base,
-                text_pages,
-                data_pages,
-                shared_base,
-                shared_count,
-                entry_offset,
-            },
-        ) = decode(registers)
-        else {
-            return None;
-        };
-        self.parts.table.measures(
-            self.parts.world(hart),
-            Create {
-                base,
-                text_pages,
-                data_pages,
-                shared_base,
-                shared_count,
-                entry_offset,
-            },
-        )
+        self.parts.give_digest(id, digest);
     }
 
     /// The timer's interrupt on a hart: an enclave is stopped, with the registers that it has, and the host goes on there. In

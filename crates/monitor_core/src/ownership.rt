@@ -6,7 +6,9 @@ use measurement::{Create, Digests};
 
 impl MonitorParts {
     ghost use Rattle.std.specs.Prelude.{◌≡◌, ◌<◌, Some, []};
-    ghost use Rattle.monitor_core.specs.Changes.{answering, marking_others};
+    ghost use Rattle.enclave_table.specs.Enclaves.{Live};
+    ghost use Rattle.enclave_table.specs.declared.enclave.Enclave.{Enclave};
+    ghost use Rattle.monitor_core.specs.Changes.{answering, having_digest, marking_others};
     ghost use Rattle.monitor_core.specs.Frames.{IsOn, KeepsFrame, LoadsAnew};
     ghost use Rattle.monitor_core.specs.Parts.{HoldsTogether, state_in};
     ghost use Rattle.monitor_core.specs.Steps.{DoesCall};
@@ -46,6 +48,17 @@ impl MonitorParts {
             }
             Err(refusal) => self.refuse_for(hart, refusal),
         }
+    }
+
+    /// A live enclave has this digest now.
+    pub(crate) fn give_digest(&mut self, id: u64, digest: &[u8; 32])
+        requires whole { HoldsTogether self.old.table self.old.worlds self.old.marked }
+        requires live { (e : Enclave) × Live self.old.table.table id e }
+        ensures whole { HoldsTogether self.new.table self.new.worlds self.new.marked }
+        ensures state { (e : Enclave) → Live self.old.table.table id e
+            → state_in self.new ≡ having_digest (state_in self.old) id e digest.now }
+    {
+        self.table.give_digest(id, digest);
     }
 
     /// Destroys an enclave, whose private pages are to be made zero.

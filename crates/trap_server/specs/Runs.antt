@@ -31,7 +31,7 @@ pub data ServesTraps (old : MonitorState) (hosts : ℕ → ControlWords) : List 
       → (trap : Trap) (frame more question answered : List ℕ) (new : MonitorState) (kept : ℕ
       → ControlWords) → length frame ≡ 352 → IsTrapFrame frame mid.table.layout.harts trap
       → ServesTrap mid now trap more question answered new kept
-      → ServesTraps old hosts (read ++ (frame ++ more)) (written ++ (question ++ answered)) new kept
+      → ServesTraps old hosts (read ++ (frame ++ more)) (written ++ (answered ++ question)) new kept
 
 -- how many they are
 abbrev pub trap_count : {old : MonitorState} {hosts : ℕ

@@ -8,7 +8,7 @@ use Rattle.sbi_decode.specs.Calls.{call_of}
 use Rattle.monitor_core.specs.declared.answer.Answer.{Answer}
 use Rattle.monitor_core.specs.States.{MonitorState}
 use Rattle.monitor_core.specs.Changes.{past_call, with_running}
-use Rattle.monitor_core.specs.Measured.{Measures, asked_in}
+use Rattle.monitor_core.specs.Measured.{IsMade, asked_in}
 use Rattle.monitor_core.specs.Steps.{DoesCall, Interrupts}
 use Rattle.trap_server.specs.declared.words.ControlWords.{ControlWords}
 use Rattle.trap_server.specs.Given.{GivesWords}
@@ -18,30 +18,34 @@ use Rattle.trap_server.specs.declared.trap.Trap.{Trap}
 use Rattle.trap_server.specs.PageDigest.{ArePages, question_of}
 use Rattle.trap_server.specs.Answered.{IsAnswer, marks_of, no_answer, unmarked}
 
--- a creation that passes its checks has its private pages asked for, and read once, by rising
--- number, and the digest is that of its layout and these pages; nothing else is asked for or read
-abbrev pub AsksFor : Option Create → MonitorState → ℕ → List ℕ → List ℕ → List ℕ → Type 0
-AsksFor asked s hart question read digest =
-    ((question ≡ []) × (read ≡ []) × ((parts : Create)
-    → Measures asked s.table (s.worlds hart) parts → ⊥))
-    ⊎ ((parts : Create) × Measures asked s.table (s.worlds hart) parts
-    × (question ≡ question_of parts) × (pages : List (List ℕ))
-    × ArePages (parts.base / 4096) (parts.text_pages + parts.data_pages) read pages
-    × (digest ≡ digest_of (layout_of parts) pages))
-
--- a call is a step of the monitor, in which a creation gets the digest of the pages that were read;
--- then no hart is marked, and each that was is woken
-pub record ServesCall (s : MonitorState) (trap : Trap) (given : ControlWords)
-    (read question answered : List ℕ) (new : MonitorState) : Type 0 where
-  pub digest : List ℕ
-  pub answer : Answer
+-- a call is a step of the monitor, in which a creation gets this digest; then no hart is marked,
+-- and each that was is woken. So it is answered
+pub record AnswersCall (s : MonitorState) (trap : Trap) (given : ControlWords) (digest : List ℕ)
+    (answer : Answer) (answered : List ℕ) (new : MonitorState) : Type 0 where
   pub cleared : Option PageRange
   pub mid : MonitorState
-  pub asks : AsksFor (asked_in (call_of trap.registers)) s trap.hart question read digest
   pub step : DoesCall (call_of (past_call trap.registers)) (λ parts. digest)
       (with_running s trap.hart (past_call trap.registers)) trap.hart answer cleared mid
   pub woken : new ≡ unmarked 4 mid
   pub goes_on : IsAnswer new given trap.hart answer cleared (marks_of mid) answered
+
+-- after an enclave was made its private pages are asked for, and read once, by rising number, and
+-- the digest is that of its layout and these pages; nothing else is asked for or read
+abbrev pub AsksFor : Option Create → Answer → List ℕ → List ℕ → List ℕ → Type 0
+AsksFor asked answer question read digest =
+    ((question ≡ []) × (read ≡ []) × ((parts : Create) → IsMade asked answer parts → ⊥))
+    ⊎ ((parts : Create) × IsMade asked answer parts
+    × (question ≡ question_of parts) × (pages : List (List ℕ))
+    × ArePages (parts.base / 4096) (parts.text_pages + parts.data_pages) read pages
+    × (digest ≡ digest_of (layout_of parts) pages))
+
+-- a call is answered, and then an enclave that it made gets the digest of the pages that were read
+pub record ServesCall (s : MonitorState) (trap : Trap) (given : ControlWords)
+    (read question answered : List ℕ) (new : MonitorState) : Type 0 where
+  pub digest : List ℕ
+  pub answer : Answer
+  pub answers : AnswersCall s trap given digest answer answered new
+  pub asks : AsksFor (asked_in (call_of trap.registers)) answer question read digest
 
 -- an interrupt is a step of the monitor
 pub record ServesStop (s : MonitorState) (trap : Trap) (given : ControlWords)

@@ -1,24 +1,32 @@
 -- What each part of the loop does, where it is done and where it is not.
-use Rattle.std.specs.Prelude.{◌≡◌, ◌⊎◌, ℕ, ◌<◌, Bool, true, false, List, [], ◌++◌, Option, Result}
-use Rattle.std.specs.Prelude.{Ok, Err, slice_index_or}
+use Rattle.std.specs.Prelude.{◌≡◌, ◌⊎◌, ℕ, ◌+◌, ◌/◌, ◌<◌, true, false, List, [], ◌++◌, Option}
+use Rattle.std.specs.Prelude.{Result, Ok, Err, Bool, slice_index_or}
 use Rattle.std.specs.Io.KnownBytes.{Appends, Consumes}
 use Rattle.byte_streams.specs.Writings.{TakesPart}
-use Rattle.sbi_decode.specs.declared.world.World.TheVariants.{Host}
-use Rattle.monitor_core.specs.States.{MonitorState}
-use Rattle.trap_server.specs.declared.words.ControlWords.{ControlWords}
-use Rattle.trap_server.specs.declared.trap.Trap.{Trap}
-use Rattle.trap_server.specs.EndFrames.{end_bytes}
-use Rattle.trap_server.specs.declared.fault.ServeFault.{ServeFault}
-use Rattle.trap_server.specs.Answered.{AreAwake}
-use Rattle.trap_server.specs.declared.fault.ServeFault.TheVariants as faults
-use Rattle.trap_server.specs.Ends.{BreaksOff, IsPart}
+use Rattle.enclave_table.specs.Enclaves.{Live}
+use Rattle.enclave_table.specs.declared.enclave.Enclave.{Enclave}
+use Rattle.measurement.specs.Digests.{layout_of}
+use Rattle.measurement.specs.Measured.{digest_of}
 use Rattle.measurement.specs.declared.request.Create.{Create}
-use Rattle.trap_server.specs.PageDigest.{BreaksAtPage, StopsAtPage, question_of}
-use Rattle.trap_server.specs.declared.trap.TrapEvent.TheVariants.{Call}
-use Rattle.trap_server.specs.declared.end.EndReason.TheVariants.{NotUnderstood}
 use Rattle.sbi_decode.specs.Calls.{call_of}
-use Rattle.monitor_core.specs.Measured.{Measures, asked_in}
-use Rattle.trap_server.specs.Service.{AsksFor, ServesTrap}
+use Rattle.sbi_decode.specs.declared.world.World.TheVariants.{Host}
+use Rattle.monitor_core.specs.Changes.{having_digest}
+use Rattle.monitor_core.specs.Measured.{IsMade, asked_in}
+use Rattle.monitor_core.specs.States.{MonitorState}
+use Rattle.monitor_core.specs.declared.answer.Answer.{Answer}
+use Rattle.trap_server.specs.Answered.{AreAwake}
+use Rattle.trap_server.specs.EndFrames.{end_bytes}
+use Rattle.trap_server.specs.Ends.{BreaksOff, IsPart}
+use Rattle.trap_server.specs.Given.{GivesWords}
+use Rattle.trap_server.specs.PageDigest.{ArePages, BreaksAtPage, StopsAtPage, question_of}
+use Rattle.trap_server.specs.Service.{AnswersCall, ServesStop, ServesTrap}
+use Rattle.trap_server.specs.declared.end.EndReason.TheVariants.{NotUnderstood}
+use Rattle.trap_server.specs.declared.fault.ServeFault.{ServeFault}
+use Rattle.trap_server.specs.declared.fault.ServeFault.TheVariants as faults
+use Rattle.trap_server.specs.declared.trap.Trap.{Trap}
+use Rattle.trap_server.specs.declared.trap.TrapEvent.{TrapEvent}
+use Rattle.trap_server.specs.declared.trap.TrapEvent.TheVariants.{Call, Stop}
+use Rattle.trap_server.specs.declared.words.ControlWords.{ControlWords}
 
 -- a hart is woken by another only where both are in the host's world
 abbrev pub MayWake : MonitorState → ℕ → List Bool → Type 0
@@ -32,29 +40,56 @@ Writes (Ok done) Are held holds = (bytes : List ℕ) × Are bytes × Appends hel
 Writes (Err fault) Are held holds = (fault ≡ faults.Write) × (bytes : List ℕ) × Are bytes
     × TakesPart bytes held holds
 
--- a trap is a creation of these parts that passes its checks, so that its private pages are asked
--- for
-abbrev pub WantsPages : MonitorState → Trap → Create → Type 0
-WantsPages s trap parts = (trap.event ≡ Call)
-    × Measures (asked_in (call_of trap.registers)) s.table (s.worlds trap.hart) parts
+-- a trap is answered by what happened, whatever digest an enclave that it makes will get
+abbrev pub AnswersAs : TrapEvent → MonitorState → Trap → ControlWords → List ℕ → MonitorState
+    → Type 0
+AnswersAs Call s trap given answered new = (digest : List ℕ) × (answer : Answer)
+    × AnswersCall s trap given digest answer answered new
+AnswersAs Stop s trap given answered new = ServesStop s trap given [] [] answered new
 
--- why the loop ends at a trap that was read, and what was written for it. Its pages were asked for,
--- and what came is no frame of the page that was to come, or a read failed before that was whole.
--- Or a write failed: in the question, in the last frame, or in the answer to a trap that was served
+-- a trap is answered
+pub record AnswersTrap (s : MonitorState) (hosts : ℕ → ControlWords) (trap : Trap)
+    (answered : List ℕ) : Type 0 where
+  pub given : ControlWords
+  pub new : MonitorState
+  pub kept : ℕ → ControlWords
+  pub words : GivesWords hosts trap.hart (s.worlds trap.hart) (new.worlds trap.hart) trap.control
+      kept given
+  pub answers : AnswersAs trap.event s trap given answered new
+
+-- a trap is answered that made an enclave of these parts, so that its private pages are asked for
+pub record AnswersMade (s : MonitorState) (hosts : ℕ → ControlWords) (trap : Trap) (parts : Create)
+    (answered : List ℕ) : Type 0 where
+  pub given : ControlWords
+  pub new : MonitorState
+  pub kept : ℕ → ControlWords
+  pub words : GivesWords hosts trap.hart (s.worlds trap.hart) (new.worlds trap.hart) trap.control
+      kept given
+  pub is_call : trap.event ≡ Call
+  pub digest : List ℕ
+  pub answer : Answer
+  pub answers : AnswersCall s trap given digest answer answered new
+  pub made : IsMade (asked_in (call_of trap.registers)) answer parts
+
+-- why the loop ends at a trap that was read, and what was written for it. It was answered, pages
+-- were asked for, and what came is no frame of the page that was to come, or a read failed before
+-- that was whole. Or a write failed: in the answer, in the question, or in the last frame
 abbrev pub StopsTrap : ServeFault → MonitorState → (ℕ → ControlWords) → Trap → List ℕ → List ℕ
     → Option (List ℕ) → Type 0
 StopsTrap (faults.Refused NotUnderstood) s hosts trap read rest after =
-    (parts : Create) × WantsPages s trap parts × StopsAtPage parts read after
-    × (rest ≡ question_of parts ++ end_bytes NotUnderstood)
+    (parts : Create) × (answered : List ℕ) × AnswersMade s hosts trap parts answered
+    × StopsAtPage parts read after
+    × (rest ≡ answered ++ (question_of parts ++ end_bytes NotUnderstood))
 StopsTrap (faults.Refused _) s hosts trap read rest after = ⊥
-StopsTrap faults.Read s hosts trap read rest after = (parts : Create) × WantsPages s trap parts
-    × BreaksAtPage parts read × (rest ≡ question_of parts)
+StopsTrap faults.Read s hosts trap read rest after = (parts : Create) × (answered : List ℕ)
+    × AnswersMade s hosts trap parts answered × BreaksAtPage parts read
+    × (rest ≡ answered ++ question_of parts)
 StopsTrap faults.Write s hosts trap read rest after =
-    ((parts : Create) × WantsPages s trap parts × (read ≡ []) × IsPart rest (question_of parts))
-    ⊎ (((parts : Create) × WantsPages s trap parts × StopsAtPage parts read after
-    × BreaksOff rest (question_of parts) (end_bytes NotUnderstood))
-    ⊎ ((question answer : List ℕ) × (new : MonitorState) × (kept : ℕ → ControlWords)
-    × ServesTrap s hosts trap read question answer new kept × BreaksOff rest question answer))
+    ((answered : List ℕ) × AnswersTrap s hosts trap answered × (read ≡ []) × IsPart rest answered)
+    ⊎ ((parts : Create) × (answered : List ℕ) × AnswersMade s hosts trap parts answered
+    × (((read ≡ []) × BreaksOff rest answered (question_of parts))
+    ⊎ (StopsAtPage parts read after
+    × BreaksOff rest (answered ++ question_of parts) (end_bytes NotUnderstood))))
 
 -- a trap was served and answered, or the loop ends, and why
 abbrev pub Serves : Result (Unit {0}) ServeFault → Trap → MonitorState → (ℕ → ControlWords)
@@ -63,20 +98,34 @@ abbrev pub Serves : Result (Unit {0}) ServeFault → Trap → MonitorState → (
 Serves (Ok done) trap old hosts new kept before after held holds =
     (read question answered : List ℕ) × ServesTrap old hosts trap read question answered new kept
     × AreAwake new × (new.table.layout ≡ old.table.layout) × Consumes before after read
-    × Appends held holds (question ++ answered)
+    × Appends held holds (answered ++ question)
 Serves (Err fault) trap old hosts new kept before after held holds =
     (read rest : List ℕ) × StopsTrap fault old hosts trap read rest after
     × Consumes before after read × Appends held holds rest
 
--- the pages of a creation that passes its checks were asked for and read, and the digest is theirs;
--- or the loop ends
-abbrev pub TakesDigest : Result (Unit {0}) ServeFault → List ℕ → MonitorState → Trap
+-- why the loop ends after the answer to a call that made an enclave of these parts: what was read
+-- and written since
+abbrev pub StopsMeasuring : ServeFault → Create → List ℕ → List ℕ → Option (List ℕ) → Type 0
+StopsMeasuring (faults.Refused NotUnderstood) parts read rest after = StopsAtPage parts read after
+    × (rest ≡ question_of parts ++ end_bytes NotUnderstood)
+StopsMeasuring (faults.Refused _) parts read rest after = ⊥
+StopsMeasuring faults.Read parts read rest after = BreaksAtPage parts read
+    × (rest ≡ question_of parts)
+StopsMeasuring faults.Write parts read rest after =
+    ((read ≡ []) × IsPart rest (question_of parts))
+    ⊎ (StopsAtPage parts read after
+    × BreaksOff rest (question_of parts) (end_bytes NotUnderstood))
+
+-- the pages of an enclave that was made were asked for and read, and it has their digest; or the
+-- loop ends
+abbrev pub MeasuresMade : Result (Unit {0}) ServeFault → Create → ℕ → MonitorState → MonitorState
     → Option (List ℕ) → Option (List ℕ) → Option (List ℕ) → Option (List ℕ) → Type 0
-TakesDigest (Ok done) digest s trap before after held holds =
-    (question read : List ℕ)
-    × AsksFor (asked_in (call_of trap.registers)) s trap.hart question read digest
-    × Consumes before after read × Appends held holds question
-TakesDigest (Err fault) digest s trap before after held holds =
-    (read rest : List ℕ) × ((hosts : ℕ → ControlWords)
-    → StopsTrap fault s hosts trap read rest after) × Consumes before after read
+MeasuresMade (Ok done) parts id old new before after held holds =
+    (read digest : List ℕ) × (pages : List (List ℕ))
+    × ArePages (parts.base / 4096) (parts.text_pages + parts.data_pages) read pages
+    × (digest ≡ digest_of (layout_of parts) pages)
+    × ((e : Enclave) → Live old.table id e → new ≡ having_digest old id e digest)
+    × Consumes before after read × Appends held holds (question_of parts)
+MeasuresMade (Err fault) parts id old new before after held holds =
+    (read rest : List ℕ) × StopsMeasuring fault parts read rest after × Consumes before after read
     × Appends held holds rest

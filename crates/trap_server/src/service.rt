@@ -1,17 +1,20 @@
 //! How a trap is served, and its answer written.
 
 ghost use Rattle.std.specs.Prelude.{◌≡◌, ◌<◌, ℕ, List, Option};
+ghost use Rattle.enclave_table.specs.Enclaves.{Live};
+ghost use Rattle.enclave_table.specs.declared.enclave.Enclave.{Enclave};
 ghost use Rattle.monitor_core.specs.Monitors.{state_by};
 ghost use Rattle.monitor_core.specs.Changes.{without_mark};
 ghost use Rattle.trap_server.specs.Given.{host_words, keeping};
 ghost use Rattle.trap_server.specs.Answered.{AreAwake, IsAnswer, given_on, marks_of, status_word, unmarked};
 ghost use Rattle.trap_server.specs.Ends.{CountsReads, CountsWrites};
-ghost use Rattle.trap_server.specs.Steps.{MayWake, Serves, TakesDigest, Writes};
+ghost use Rattle.trap_server.specs.PageDigest.{HasParts};
+ghost use Rattle.trap_server.specs.Steps.{MayWake, MeasuresMade, Serves, Writes};
 
 use crate::fault::{ServeFault, end};
 use crate::{AnswerBytes, Head, HostWords, Trap, TrapEvent, digest_of, put_answer};
 use byte_streams::{Sink, Source, write_whole};
-use monitor_core::{Answer, Monitor, TakenDigest};
+use monitor_core::{Answer, Create, Monitor, TakenDigest};
 use pmp_encoding::PageRange;
 
 /// What serves as the answer where there was no call.
@@ -126,38 +129,36 @@ fn keep_words(monitor: &Monitor, hosts: &mut HostWords, trap: &Trap)
     hosts.save(trap.hart, monitor.world(trap.hart), &trap.control);
 }
 
-/// Takes the digest of the pages of a creation that passes its checks, which are asked for and read; of another call there is
-/// none, and nothing is asked for. It is not inlined: so a trap is in memory, and its registers are copied from there at once.
+/// Gives an enclave that was made the digest of its pages, which are asked for and read. It is not inlined: no other call needs
+/// what it has on the stack.
 #[inline(never)]
-fn measure_pages<R: Source, W: Sink>(
-    monitor: &Monitor,
-    trap: &Trap,
-    taken: &mut TakenDigest,
+fn measure_made<R: Source, W: Sink>(
+    monitor: &mut Monitor,
+    id: u64,
+    parts: &Create,
     source: &mut R,
     sink: &mut W,
 ) -> Result<(), ServeFault>
-    requires hart { trap.now.hart < 4 }
-    requires call { trap.now.event ≡ TrapEvent.Call }
-    ensures digest { TakesDigest result taken.new.bytes (state_by monitor.now) trap.now
-        (R.remaining source.old) (R.remaining source.new)
+    requires live { (e : Enclave) × Live (state_by monitor.old).table id e }
+    requires parts { HasParts parts.now }
+    ensures measured { MeasuresMade result parts.now id (state_by monitor.old)
+        (state_by monitor.new) (R.remaining source.old) (R.remaining source.new)
         (W.contents sink.old) (W.contents sink.new) }
     ensures reads { CountsReads result (R.failures source.old) (R.failures source.new) }
     ensures writes { CountsWrites result (W.failures sink.old) (W.failures sink.new)
         (W.stalls sink.old) (W.stalls sink.new) }
 {
-    let Some(parts) = monitor.measures(trap.hart, &trap.registers) else {
-        return Ok(());
-    };
-    match digest_of(source, sink, &parts) {
+    match digest_of(source, sink, parts) {
         Ok(digest) => {
-            taken.bytes = digest;
+            monitor.give_digest(id, &digest);
             Ok(())
         }
         Err(fault) => Err(end(sink, fault)),
     }
 }
 
-/// Serves the call in the registers of a trap. Where it is a creation that passes its checks, its pages are measured before.
+/// Serves the call in the registers of a trap. An enclave that it made is measured after the answer: so others may run their
+/// worlds meanwhile, to which its pages are closed by then.
 #[inline(always)]
 fn serve_call<R: Source, W: Sink>(
     monitor: &mut Monitor,
@@ -180,16 +181,11 @@ fn serve_call<R: Source, W: Sink>(
     // (there are at most four: a fact for the proof)
     let _most = monitor.harts();
     keep_words(monitor, hosts, trap);
-    let mut taken = TakenDigest { bytes: [0; 32] };
-    match measure_pages(monitor, trap, &mut taken, source, sink) {
-        Ok(()) => {}
-        Err(fault) => return Err(fault),
-    }
     monitor.put_registers(trap.hart, &trap.registers);
-    let served = monitor.serve(trap.hart, &taken);
+    let served = monitor.serve(trap.hart, &TakenDigest { bytes: [0; 32] });
     monitor.cite_invariant();
     let woken = wake_all(monitor);
-    write_answer(
+    match write_answer(
         monitor,
         hosts,
         trap.hart,
@@ -198,7 +194,14 @@ fn serve_call<R: Source, W: Sink>(
         woken,
         frame,
         sink,
-    )
+    ) {
+        Ok(()) => {}
+        Err(fault) => return Err(fault),
+    }
+    let Some(parts) = served.answer.made(&trap.registers) else {
+        return Ok(());
+    };
+    measure_made(monitor, served.answer.value, &parts, source, sink)
 }
 
 /// Serves an interrupt: an enclave stops.
