@@ -43,7 +43,8 @@ impl Table {
             Needs (enclave_view (parts_of asked)) needs.own)) }
     {
         self.cite_invariant();
-        let Some(parts) = self.measures(world, asked) else {
+        let parts = asked.normalized();
+        let Ok(_id) = self.checked_create(world, &parts) else {
             return Ok(None);
         };
         let host = self.host_plan(parts.private_pages(), Perm::NoAccess)?;
