@@ -13,9 +13,8 @@ use Rattle.host_tree.specs.declared.fault.HostTreeFault.TheVariants.{NotMade}
 use Rattle.host_tree.specs.declared.fault.MakeFault.{MakeFault}
 use Rattle.host_tree.specs.declared.fault.MakeFault.TheVariants.{NotUnderstood, BadCells, NotWritten}
 use Rattle.host_tree.specs.declared.reserved.Reserved.{Reserved}
-use Rattle.host_tree.specs.declared.write_fault.WriteFault.{WriteFault}
 use Rattle.host_tree.specs.declared.write_fault.WriteFault.TheVariants.{Memory}
-use Rattle.host_tree.specs.Refusals.{AreRefused, HasZeroName, IsBoardOfFault, IsHostTreeFault, IsMakeFault, IsPutFault, IsWriteFault}
+use Rattle.host_tree.specs.Refusals.{AreRefused, HasZeroName, IsBoardOfFault, IsHostTreeFault, IsMakeFault, IsPutFault}
 use Rattle.host_tree.proofs.ReadNames.{none_empty, none_zero}
 use Rattle.host_tree.proofs.WriteFaults.{write_in, zero_first, zero_last}
 
@@ -48,11 +47,6 @@ with_reservations tree ranges reservations (NotUnderstood reason) h = h
 with_reservations tree ranges reservations BadCells h = h
 with_reservations tree ranges reservations (NotWritten fault) h = write_in (parts_of_tree tree) (parts_of_tree tree) [] reservations (λ z. z)
     (λ e. absurd e) fault h
-
--- the reservations are not written
-pub end_refused : (tree : Tree) (reservations : List Reservation) (fault : WriteFault) → IsWriteFault [] reservations fault
-    → IsWriteFault (parts_of_tree tree) reservations fault
-end_refused tree reservations fault h = write_in [] (parts_of_tree tree) reservations reservations (λ z. absurd z) (λ e. e) fault h
 
 -- of a tree that was read
 pub read_refused : (bytes : List ℕ) (ranges : List Reserved) (tree : Tree) (reservations : List Reservation) → ReadsAs bytes tree reservations

@@ -1,5 +1,5 @@
 -- Why parts are not written, and why those around them are not.
-use Rattle.std.proofs.Common.{◌≡◌, ◌⊎◌, ℕ, zero, suc, ◌<◌, List, [], ◌∷◌, ◌++◌, get_or, length, ⊎_elim, inl, inr, subst, sym, arith}
+use Rattle.std.proofs.Common.{◌≡◌, ◌⊎◌, ℕ, zero, suc, ◌+◌, ◌*◌, ◌^◌, ◌<◌, ◌≤◌, List, [], ◌∷◌, ◌++◌, get_or, length, ⊎_elim, inl, inr, subst, sym, arith}
 use Rattle.device_tree.specs.declared.pieces.PlacedPiece.{PlacedPiece}
 use Rattle.board_ranges.specs.declared.kinds.Place.{Place}
 use Rattle.device_tree.specs.declared.reservations.Reservation.{Reservation}
@@ -10,8 +10,10 @@ use Rattle.host_tree.specs.declared.fault.MakeFault.TheVariants.{NotUnderstood, 
 use Rattle.host_tree.specs.declared.reserved.Reserved.{Reserved}
 use Rattle.host_tree.specs.declared.write_fault.WriteFault.{WriteFault}
 use Rattle.host_tree.specs.declared.write_fault.WriteFault.TheVariants.{EmptyReservation, Memory, TooLarge, ZeroInName}
-use Rattle.host_tree.specs.Refusals.{HasEmpty, HasZeroName, HasUnfitRange, IsHeadFault, IsPutFault, IsRangeFault, IsUnfitRange, IsWriteFault}
-use Rattle.host_tree.specs.Written.{IsText, setting}
+use Rattle.host_tree.specs.Refusals.{HasEmpty, HasZeroName, HasUnfitRange, IsBeginFault, IsFinishFault, IsHeadFault, IsPropertyFault, IsPutFault, IsRangeFault}
+use Rattle.host_tree.specs.Refusals.{IsUnfitRange, IsWriteFault}
+use Rattle.host_tree.specs.Written.{IsText, setting, whole_size}
+use Rattle.host_tree.specs.declared.writer.TreeWriter.{TreeWriter}
 
 pub zero_first : (x y : List Part) → HasZeroName x → HasZeroName (x ++ y)
 zero_first [] y h = absurd h
@@ -84,12 +86,6 @@ range_at cells xs i d less BadCells h = ⊎_elim (λ one. unfit_at cells xs i d 
 range_at cells xs i d less (NotWritten fault) h = h
 
 -- memory was refused
-pub no_memory : (x : List Part) (r : List Reservation) (fault : WriteFault) → fault ≡ Memory → IsWriteFault x r fault
-no_memory x r fault is = subst (λ (f : WriteFault). IsWriteFault x r f) (sym is) tt
-
-pub too_large : (x : List Part) (r : List Reservation) (fault : WriteFault) → fault ≡ TooLarge → IsWriteFault x r fault
-too_large x r fault is = subst (λ (f : WriteFault). IsWriteFault x r f) (sym is) tt
-
 pub put_no_memory : (x : List Part) (fault : MakeFault) → fault ≡ NotWritten Memory → IsPutFault x fault
 put_no_memory x fault is = subst (λ (f : MakeFault). IsPutFault x f) (sym is) tt
 
@@ -101,11 +97,56 @@ pub range_unfit : (cells : Cells) (one : Reserved) (fault : MakeFault)
 range_unfit cells one fault why = ⊎_elim (λ is. range_no_memory cells (one ∷ []) fault is)
     (λ unfit. subst (λ (f : MakeFault). IsRangeFault cells (one ∷ []) f) (sym unfit.0) (inl unfit.1)) why
 
+-- what a writer tells, by what it is told
+pub begin_no_memory : (name : List ℕ) (fault : WriteFault) → fault ≡ Memory → IsBeginFault name fault
+begin_no_memory name fault is = subst (λ (f : WriteFault). IsBeginFault name f) (sym is) tt
+
+pub property_no_memory : (writer : TreeWriter) (name value : List ℕ) (fault : WriteFault) → fault ≡ Memory → IsPropertyFault writer name value fault
+property_no_memory writer name value fault is = subst (λ (f : WriteFault). IsPropertyFault writer name value f) (sym is) tt
+
+pub property_refused : (writer : TreeWriter) (name value : List ℕ) (place : ℕ) (fault : WriteFault) → place ≤ length writer.names.items
+    → ((fault ≡ Memory) ⊎ ((fault ≡ TooLarge) × ((2 ^ 32 ≤ length value) ⊎ (2 ^ 32 ≤ place)))) → IsPropertyFault writer name value fault
+property_refused writer name value place fault inside why = ⊎_elim (λ is. property_no_memory writer name value fault is)
+    (λ large. subst (λ (f : WriteFault). IsPropertyFault writer name value f) (sym large.0)
+    (⊎_elim (λ long. inl long) (λ far. inr (omega (arith, far, inside))) large.1)) why
+
+pub finish_no_memory : (writer : TreeWriter) (reservations : List Reservation) (free : ℕ) (fault : WriteFault) → fault ≡ Memory
+    → IsFinishFault writer reservations free fault
+finish_no_memory writer reservations free fault is = subst (λ (f : WriteFault). IsFinishFault writer reservations free f) (sym is) tt
+
+pub finish_large : (writer : TreeWriter) (reservations : List Reservation) (free : ℕ) (fault : WriteFault) (r b n : ℕ)
+    → r ≡ length reservations → b ≡ length writer.block.items → n ≡ length writer.names.items
+    → (fault ≡ TooLarge) × (2 ^ 32 ≤ 40 + 16 * (r + 1) + (b + 4) + n + free) → IsFinishFault writer reservations free fault
+finish_large writer reservations free fault r b n e f g why =
+    let large : 2 ^ 32 ≤ whole_size writer (length reservations) free = omega (arith, why.1, e, f, g) in
+    subst (λ (f : WriteFault). IsFinishFault writer reservations free f) (sym why.0) large
+
 -- of reservations one is empty, or memory was refused
-pub end_empty : (reservations : List Reservation) (fault : WriteFault)
-    → ((fault ≡ Memory) ⊎ ((fault ≡ EmptyReservation) × HasEmpty reservations)) → IsWriteFault [] reservations fault
-end_empty reservations fault why = ⊎_elim (λ is. no_memory [] reservations fault is)
-    (λ one. subst (λ (f : WriteFault). IsWriteFault [] reservations f) (sym one.0) one.1) why
+pub finish_empty : (writer : TreeWriter) (reservations : List Reservation) (free : ℕ) (fault : WriteFault)
+    → ((fault ≡ Memory) ⊎ ((fault ≡ EmptyReservation) × HasEmpty reservations)) → IsFinishFault writer reservations free fault
+finish_empty writer reservations free fault why = ⊎_elim (λ is. finish_no_memory writer reservations free fault is)
+    (λ one. subst (λ (f : WriteFault). IsFinishFault writer reservations free f) (sym one.0) one.1) why
+
+-- and what comes of it for a whole tree
+pub begin_put : (name : List ℕ) (fault : WriteFault) → IsBeginFault name fault → IsPutFault (begins name ∷ []) (NotWritten fault)
+begin_put name ZeroInName h = inl h
+begin_put name EmptyReservation h = h
+begin_put name TooLarge h = absurd h
+begin_put name Memory h = h
+
+pub property_put : (writer : TreeWriter) (name value : List ℕ) (fault : WriteFault) → IsPropertyFault writer name value fault
+    → IsPutFault (has (setting name value) ∷ []) (NotWritten fault)
+property_put writer name value ZeroInName h = inl h
+property_put writer name value EmptyReservation h = h
+property_put writer name value TooLarge h = tt
+property_put writer name value Memory h = h
+
+pub finish_written : (writer : TreeWriter) (parts : List Part) (reservations : List Reservation) (free : ℕ) (fault : WriteFault)
+    → IsFinishFault writer reservations free fault → IsWriteFault parts reservations fault
+finish_written writer parts reservations free ZeroInName h = absurd h
+finish_written writer parts reservations free EmptyReservation h = h
+finish_written writer parts reservations free TooLarge h = tt
+finish_written writer parts reservations free Memory h = h
 
 pub empty_at : (xs : List Reservation) (i : ℕ) (d : Reservation) → i < length xs → ((get_or xs i d).address ≡ 0) × ((get_or xs i d).size ≡ 0) → HasEmpty xs
 empty_at [] i d less h = absurd (omega (arith, less))

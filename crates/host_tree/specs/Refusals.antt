@@ -1,5 +1,5 @@
 -- Why a host gets no tree, or nothing is known of a board: what is wrong with the board's own tree.
--- Of memory, and of a tree of 4 GiB, nothing is said.
+-- Of memory nothing is said, and of a host's tree of 4 GiB neither.
 use Rattle.std.specs.Prelude.{◌≡◌, ◌≢◌, ◌⊎◌, ℕ, ◌*◌, ◌^◌, ◌<◌, ◌≤◌, ⊤}
 use Rattle.std.specs.Prelude.{List, [], ◌∷◌, length, map}
 use Rattle.device_tree.specs.declared.fault.TreeFault.{TreeFault}
@@ -29,7 +29,8 @@ use Rattle.host_tree.specs.declared.write_fault.WriteFault.TheVariants.{Memory, 
 use Rattle.host_tree.specs.declared.write_fault.WriteFault.TheVariants.{ZeroInName}
 use Rattle.host_tree.specs.HostTrees.{IsHosts}
 use Rattle.host_tree.specs.Platforms.{portion_in, reserved_in}
-use Rattle.host_tree.specs.Written.{IsText}
+use Rattle.host_tree.specs.declared.writer.TreeWriter.{TreeWriter}
+use Rattle.host_tree.specs.Written.{IsText, whole_size}
 
 -- the name of one of the parts has a zero byte
 abbrev pub HasZeroName : List Part → Type 0
@@ -43,7 +44,32 @@ abbrev pub HasEmpty : List Reservation → Type 0
 HasEmpty [] = ⊥
 HasEmpty (first ∷ later) = ((first.address ≡ 0) × (first.size ≡ 0)) ⊎ HasEmpty later
 
--- why these parts and reservations are not written
+-- why a node does not begin under this name: the name has a zero byte
+abbrev pub IsBeginFault : List ℕ → WriteFault → Type 0
+IsBeginFault name ZeroInName = ¬ IsText name
+IsBeginFault name EmptyReservation = ⊥
+IsBeginFault name TooLarge = ⊥
+IsBeginFault name Memory = ⊤
+
+-- why a property is not written: its name has a zero byte, or its value or the names so far have
+-- 4 GiB
+abbrev pub IsPropertyFault : TreeWriter → List ℕ → List ℕ → WriteFault → Type 0
+IsPropertyFault writer name value ZeroInName = ¬ IsText name
+IsPropertyFault writer name value EmptyReservation = ⊥
+IsPropertyFault writer name value TooLarge = (2 ^ 32 ≤ length value)
+    ⊎ (2 ^ 32 ≤ length writer.names.items)
+IsPropertyFault writer name value Memory = ⊤
+
+-- why a tree has no bytes: one of the reservations would end them, or the whole has 4 GiB
+abbrev pub IsFinishFault : TreeWriter → List Reservation → ℕ → WriteFault → Type 0
+IsFinishFault writer reservations free ZeroInName = ⊥
+IsFinishFault writer reservations free EmptyReservation = HasEmpty reservations
+IsFinishFault writer reservations free TooLarge =
+    2 ^ 32 ≤ whole_size writer (length reservations) free
+IsFinishFault writer reservations free Memory = ⊤
+
+-- why a tree with these parts and reservations is not written: a name has a zero byte, or one of
+-- the reservations would end them
 abbrev pub IsWriteFault : List Part → List Reservation → WriteFault → Type 0
 IsWriteFault parts reservations ZeroInName = HasZeroName parts
 IsWriteFault parts reservations EmptyReservation = HasEmpty reservations
@@ -56,15 +82,15 @@ IsPutFault parts (NotUnderstood reason) = ⊥
 IsPutFault parts BadCells = ⊥
 IsPutFault parts (NotWritten fault) = IsWriteFault parts [] fault
 
--- a number is not written in so many cells: they are not one or two, or it has more bits
+-- a number does not fit into so many cells: they are not one or two, or it has more bits
 abbrev pub IsUnfit : ℕ → ℕ → Type 0
 IsUnfit cells number = ((cells ≢ 1) × (cells ≢ 2)) ⊎ (256 ^ (4 * cells) ≤ number)
 
--- the address or the size of a range is not
+-- the address or the size of a range does not fit into these cells
 abbrev pub IsUnfitRange : Cells → Extent → Type 0
 IsUnfitRange cells extent = IsUnfit cells.address extent.base ⊎ IsUnfit cells.size extent.size
 
--- that of one of the ranges
+-- one of the ranges does not fit into these cells
 abbrev pub HasUnfitRange : Cells → List Reserved → Type 0
 HasUnfitRange cells [] = ⊥
 HasUnfitRange cells (first ∷ later) = IsUnfitRange cells first.extent
@@ -111,8 +137,8 @@ abbrev pub BeginsWithTree : List ℕ → (Tree → Type 0) → Type 0
 BeginsWithTree bytes IsSo = (tree : Tree) × (reservations : List Reservation)
     × ReadsAs bytes tree reservations × IsSo tree
 
--- why harts and memory of a board are not known: no tree is read, or one of its nodes says no
--- ranges. Nothing is written
+-- why harts and memory of a board are not known: no tree is read, one of its nodes says no ranges,
+-- or memory lacks
 abbrev pub IsBoardOfFault : List ℕ → HostTreeFault → Type 0
 IsBoardOfFault bytes (NotRead fault) = IsNotRead bytes fault
 IsBoardOfFault bytes (NotMade (NotUnderstood reason)) =
@@ -120,8 +146,8 @@ IsBoardOfFault bytes (NotMade (NotUnderstood reason)) =
 IsBoardOfFault bytes (NotMade BadCells) = ⊥
 IsBoardOfFault bytes (NotMade (NotWritten fault)) = fault ≡ Memory
 
--- why a host gets no tree with these ranges: no tree is read, one of its nodes says no ranges, or
--- one of those that are reserved does not fit into the cells of its root
+-- why a host gets no tree with these ranges: no tree is read, one of its nodes says no ranges, one
+-- of those that are reserved does not fit into the cells of its root, or it is not written
 abbrev pub IsHostTreeFault : List Reserved → List ℕ → HostTreeFault → Type 0
 IsHostTreeFault ranges bytes (NotRead fault) = IsNotRead bytes fault
 IsHostTreeFault ranges bytes (NotMade (NotUnderstood reason)) =

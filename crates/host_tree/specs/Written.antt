@@ -1,5 +1,5 @@
 -- What a writer has written of a tree. Devicetree Specification 0.4, section 5.4.
-use Rattle.std.specs.Prelude.{◌≡◌, ℕ, ◌+◌, ◌-◌, List, [], ◌∷◌, ◌++◌, length, replicate}
+use Rattle.std.specs.Prelude.{◌≡◌, ℕ, ◌+◌, ◌-◌, ◌*◌, List, [], ◌∷◌, ◌++◌, length, replicate}
 use Rattle.byteorder.specs.Endian.{big_bytes}
 use Rattle.device_tree.specs.Words.{padded, text_len}
 use Rattle.device_tree.specs.Pieces.{Part, Setting, SpellsParts}
@@ -36,6 +36,12 @@ text_bytes text = text ++ replicate (padded (length text + 1) - length text) 0
 pub record SpellsFront (names bytes : List ℕ) (parts : List Part) : Type 0 where
   pub before : (rest : List ℕ) (later : List Part) → SpellsParts names rest later
       → SpellsParts names (bytes ++ rest) (parts ++ later)
+
+-- how many bytes the whole tree has, with so many reservations and free bytes: its header, the
+-- reservations and the pair that ends them, the structure and its end, and the names
+abbrev pub whole_size : TreeWriter → ℕ → ℕ → ℕ
+whole_size writer reservations free = 40 + 16 * (reservations + 1)
+    + (length writer.block.items + 4) + length writer.names.items + free
 
 -- the writer has written these parts: its bytes are so, whatever names it adds to its own
 pub record HasWritten (writer : TreeWriter) (parts : List Part) : Type 0 where

@@ -1,9 +1,8 @@
 //! The parts of the structure block, one at the end of others.
 
-ghost use Rattle.std.specs.Prelude.{◌≡◌, ◌++◌, IfErr, OnOk, List, [], ℕ, drop};
+ghost use Rattle.std.specs.Prelude.{◌≡◌, ◌⊎◌, ◌≤◌, ◌^◌, ◌++◌, IfErr, OnOk, List, ℕ, drop, length};
 ghost use Rattle.device_tree.specs.Pieces.{Setting, SpellsPart, begins, ends, has};
 ghost use Rattle.device_tree.specs.Words.{BeginsWithText};
-ghost use Rattle.host_tree.specs.Refusals.{IsWriteFault};
 ghost use Rattle.host_tree.specs.Written.{IsText, setting};
 
 use crate::bytes::{put_text, put_value, put_word};
@@ -31,7 +30,8 @@ pub(crate) fn put_property(
     ensures put { OnOk result ((added : List ℕ) × (block.new.items ≡ block.old.items ++ added)
         × ((names rest name : List ℕ) → BeginsWithText (drop place names) name
         → SpellsPart names (added ++ rest) (has (setting name value.now)) rest)) }
-    ensures refused { IfErr result (IsWriteFault [] []) }
+    ensures refused { IfErr result (λ fault. (fault ≡ WriteFault.Memory)
+        ⊎ ((fault ≡ WriteFault.TooLarge) × ((2 ^ 32 ≤ length value.now) ⊎ (2 ^ 32 ≤ place)))) }
 {
     let len = word_of(value.len())?;
     let place = word_of(place)?;

@@ -17,7 +17,8 @@ fn after(bytes: &[u8], n: usize) -> &[u8]
 
 /// Where the names have this one, if one of them is it.
 fn place_in(names: &[u8], name: &[u8]) -> Option<usize>
-    ensures { IfSome result (λ place. BeginsWithText (drop place names.now) name.now) }
+    ensures here { IfSome result (λ place. BeginsWithText (drop place names.now) name.now) }
+    ensures inside { IfSome result (λ place. place ≤ length names.now) }
 {
     let mut at = 0;
     'names: while at < names.len() {
@@ -34,7 +35,8 @@ fn place_in(names: &[u8], name: &[u8]) -> Option<usize>
 pub(crate) fn word_of(place: usize) -> Result<u32, WriteFault>
     ensures same { IfOk result (λ word. word ≡ place) }
     ensures fits { OnOk result (place < 2 ^ 32) }
-    ensures refused { IfErr result (λ fault. fault ≡ WriteFault.TooLarge) }
+    ensures refused { IfErr result
+        (λ fault. (fault ≡ WriteFault.TooLarge) × (2 ^ 32 ≤ place)) }
 {
     if place > u32::MAX as usize {
         return Err(WriteFault::TooLarge);
@@ -47,6 +49,7 @@ fn add_name(names: &mut Vec<u8>, name: &[u8]) -> Result<usize, WriteFault>
     requires { IsText name.now }
     ensures put { IfOk result (λ place. BeginsWithText (drop place names.new.items) name.now
         × (added : List ℕ) × (names.new.items ≡ names.old.items ++ added)) }
+    ensures inside { IfOk result (λ place. place ≤ length names.old.items) }
     ensures refused { IfErr result (λ fault. fault ≡ WriteFault.Memory) }
 {
     let place = names.as_slice().len();
@@ -60,6 +63,7 @@ pub(crate) fn place_of(names: &mut Vec<u8>, name: &[u8]) -> Result<usize, WriteF
     requires { IsText name.now }
     ensures put { IfOk result (λ place. BeginsWithText (drop place names.new.items) name.now
         × (added : List ℕ) × (names.new.items ≡ names.old.items ++ added)) }
+    ensures inside { IfOk result (λ place. place ≤ length names.old.items) }
     ensures refused { IfErr result (λ fault. fault ≡ WriteFault.Memory) }
 {
     if let Some(place) = place_in(names.as_slice(), name) {

@@ -119,8 +119,10 @@ fn put_triples(list: &mut Vec<Extent>, words: &[u64], count: u64) -> Result<(), 
 impl PlatformWords {
     /// The ranges of memory.
     fn memory(&self, alloc: Global) -> Result<Vec<Extent>, MakeFault>
-        ensures ok { IfOk result (λ list. list.items ≡ pairs_in self.now.ram_count self.now.ram) }
-        ensures refused { IfErr result (λ fault. fault ≡ MakeFault.NotWritten WriteFault.Memory) }
+        ensures ok { IfOk result
+            (λ list. list.items ≡ pairs_in self.now.ram_count self.now.ram) }
+        ensures refused { IfErr result
+            (λ fault. fault ≡ MakeFault.NotWritten WriteFault.Memory) }
     {
         let mut list = Vec::new(alloc);
         put_pairs(&mut list, self.ram.as_slice(), self.ram_count)?;
@@ -131,7 +133,8 @@ impl PlatformWords {
     pub fn ranges(&self, alloc: Global) -> Result<Vec<Extent>, MakeFault>
         ensures ok { IfOk result (λ list. list.items ≡ pairs_in self.now.ram_count self.now.ram
             ++ triples_in self.now.device_count self.now.device) }
-        ensures refused { IfErr result (λ fault. fault ≡ MakeFault.NotWritten WriteFault.Memory) }
+        ensures refused { IfErr result
+            (λ fault. fault ≡ MakeFault.NotWritten WriteFault.Memory) }
     {
         let mut list = Vec::new(alloc);
         put_pairs(&mut list, self.ram.as_slice(), self.ram_count)?;

@@ -25,7 +25,8 @@ pub(crate) fn put_property(
     name: &[u8],
     value: &[u8],
 ) -> Result<(), MakeFault>
-    ensures put { OnOk result (Adds writer.old writer.new (has (setting name.now value.now) ∷ [])) }
+    ensures put { OnOk result
+        (Adds writer.old writer.new (has (setting name.now value.now) ∷ [])) }
     ensures refused { IfErr result (IsPutFault (has (setting name.now value.now) ∷ [])) }
 {
     match writer.property(name, value) {

@@ -2,7 +2,7 @@
 
 ghost use Rattle.std.specs.Prelude.{◌≡◌, ◌∷◌, IfErr, OnOk, []};
 ghost use Rattle.device_tree.specs.Pieces.{begins, ends, has};
-ghost use Rattle.host_tree.specs.Refusals.{IsWriteFault};
+ghost use Rattle.host_tree.specs.Refusals.{IsBeginFault, IsPropertyFault};
 ghost use Rattle.host_tree.specs.Written.{Adds, HasWritten, setting};
 
 use crate::blocks::{put_begin, put_end, put_property};
@@ -34,7 +34,7 @@ impl TreeWriter {
     /// A node begins, of this name and unit address.
     pub fn begin_node(&mut self, name: &[u8]) -> Result<(), WriteFault>
         ensures put { OnOk result (Adds self.old self.new (begins name.now ∷ [])) }
-        ensures refused { IfErr result (IsWriteFault (begins name.now ∷ []) []) }
+        ensures refused { IfErr result (IsBeginFault name.now) }
     {
         if !is_text(name) {
             return Err(WriteFault::ZeroInName);
@@ -45,9 +45,9 @@ impl TreeWriter {
 
     /// The node that began last has a property.
     pub fn property(&mut self, name: &[u8], value: &[u8]) -> Result<(), WriteFault>
-        ensures put { OnOk result (Adds self.old self.new (has (setting name.now value.now) ∷ [])) }
-        ensures refused { IfErr result
-            (IsWriteFault (has (setting name.now value.now) ∷ []) []) }
+        ensures put { OnOk result
+            (Adds self.old self.new (has (setting name.now value.now) ∷ [])) }
+        ensures refused { IfErr result (IsPropertyFault self.old name.now value.now) }
     {
         if !is_text(name) {
             return Err(WriteFault::ZeroInName);

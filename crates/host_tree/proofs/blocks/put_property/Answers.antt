@@ -1,7 +1,6 @@
-use Rattle.std.proofs.Common.{◌≡◌, [], ◌++◌, ◌∙◌, ℕ, List, length, ap, refl}
+use Rattle.std.proofs.Common.{◌≡◌, ◌++◌, ◌∙◌, ℕ, List, length, ap, refl, inl, inr}
 use Rattle.host_tree.specs.Written.{value_bytes, word_bytes}
 use Rattle.std.proofs.lemmas.Result.{err_from_is_err_and}
-use Rattle.host_tree.proofs.WriteFaults.{no_memory, too_large}
 use Rattle.host_tree.proofs.Fronts.{four_joined, property_bytes, property_front}
 use Rattle.host_tree.proofs.blocks.put_property.Goals as goal
 
@@ -27,29 +26,29 @@ returns-clause-put c =
 pub returns-in_err-len-clause-refused : goal.returns-in_err-len-clause-refused
 returns-in_err-len-clause-refused c =
     let p = err_from_is_err_and c.from_residual.result c.from_residual.ensures.1 in
-    rw (p.1, p.2) (too_large [] [] _ c.in_err-len.ensures.refused)
+    rw (p.1, p.2) (inr (c.in_err-len.ensures.refused.0, inl c.in_err-len.ensures.refused.1))
 
 pub returns-in_err-place-clause-refused : goal.returns-in_err-place-clause-refused
 returns-in_err-place-clause-refused c =
     let p = err_from_is_err_and c.from_residual-in_err-place.result c.from_residual-in_err-place.ensures.1 in
-    rw (p.1, p.2) (too_large [] [] _ c.in_err-place.ensures.refused)
+    rw (p.1, p.2) (inr (c.in_err-place.ensures.refused.0, inr c.in_err-place.ensures.refused.1))
 
 pub returns-in_err-put_word-clause-refused : goal.returns-in_err-put_word-clause-refused
 returns-in_err-put_word-clause-refused c =
     let p = err_from_is_err_and c.from_residual-in_err-put_word.result c.from_residual-in_err-put_word.ensures.1 in
-    rw (p.1, p.2) (no_memory [] [] _ c.in_err-put_word.ensures.refused)
+    rw (p.1, p.2) (inl c.in_err-put_word.ensures.refused)
 
 pub returns-in_err-put_word-2-clause-refused : goal.returns-in_err-put_word-2-clause-refused
 returns-in_err-put_word-2-clause-refused c =
     let p = err_from_is_err_and c.from_residual-in_err-put_word-2.result c.from_residual-in_err-put_word-2.ensures.1 in
-    rw (p.1, p.2) (no_memory [] [] _ c.in_err-put_word-2.ensures.refused)
+    rw (p.1, p.2) (inl c.in_err-put_word-2.ensures.refused)
 
 pub returns-in_err-put_word-3-clause-refused : goal.returns-in_err-put_word-3-clause-refused
 returns-in_err-put_word-3-clause-refused c =
     let p = err_from_is_err_and c.from_residual-in_err-put_word-3.result c.from_residual-in_err-put_word-3.ensures.1 in
-    rw (p.1, p.2) (no_memory [] [] _ c.in_err-put_word-3.ensures.refused)
+    rw (p.1, p.2) (inl c.in_err-put_word-3.ensures.refused)
 
 pub returns-in_err-put_value-clause-refused : goal.returns-in_err-put_value-clause-refused
 returns-in_err-put_value-clause-refused c =
     let p = err_from_is_err_and c.from_residual-in_err-put_value.result c.from_residual-in_err-put_value.ensures.1 in
-    rw (p.1, p.2) (no_memory [] [] _ c.in_err-put_value.ensures.refused)
+    rw (p.1, p.2) (inl c.in_err-put_value.ensures.refused)

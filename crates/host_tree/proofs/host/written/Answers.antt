@@ -2,10 +2,12 @@ use Rattle.std.proofs.Common.{◌∙◌, [], List, ap, subst}
 use Rattle.device_tree.specs.declared.reservations.Reservation.{Reservation}
 use Rattle.device_tree.specs.declared.pieces.PlacedPiece.{PlacedPiece}
 use Rattle.device_tree.specs.Pieces.{parts_of}
+use Rattle.device_tree.specs.Nodes.{parts_of_tree}
 use Rattle.device_tree.specs.Trees.{SpellsTree}
 use Rattle.std.proofs.lemmas.Result.{err_from_is_err_and}
 use Rattle.host_tree.specs.Refusals.{IsWriteFault}
-use Rattle.host_tree.proofs.RootRefused.{end_refused, with_reservations}
+use Rattle.host_tree.proofs.RootRefused.{with_reservations}
+use Rattle.host_tree.proofs.WriteFaults.{finish_written}
 use Rattle.host_tree.proofs.host.written.Goals as goal
 
 pub returns-in-Ok-clause-ok : goal.returns-in-Ok-clause-ok
@@ -24,5 +26,6 @@ returns-in_err-put_tree-clause-refused c =
     (c.in_err-put_tree.ensures.refused board (ap (λ (x : List PlacedPiece). parts_of x) c.as_slice.ensures.value ∙ e)))
 
 pub returns-clause-refused : goal.returns-clause-refused
-returns-clause-refused c = λ board e. end_refused board c.args.read.now.reservations.items c.in-Err.fault
-    (subst (λ (x : List Reservation). IsWriteFault [] x c.in-Err.fault) c.as_slice-2.ensures.value c.in-Err.ensures.refused)
+returns-clause-refused c = λ board e.
+    let why = finish_written c.put_tree.new.writer (parts_of_tree board) c.as_slice-2.result.now c.args.free c.in-Err.fault c.in-Err.ensures.refused in
+    subst (λ (x : List Reservation). IsWriteFault (parts_of_tree board) x c.in-Err.fault) c.as_slice-2.ensures.value why

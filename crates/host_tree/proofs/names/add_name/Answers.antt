@@ -1,4 +1,4 @@
-use Rattle.std.proofs.Common.{◌≡◌, ℕ, List, [], ◌∷◌, ◌++◌, append_assoc, drop, length, subst, sym, ap, ◌∙◌}
+use Rattle.std.proofs.Common.{◌≡◌, ℕ, List, [], ◌∷◌, ◌++◌, append_assoc, drop, length, subst, sym, ap, ◌∙◌, arith}
 use Rattle.device_tree.specs.Words.{BeginsWithText}
 use Rattle.host_tree.proofs.Texts.{name_added}
 use Rattle.host_tree.proofs.names.add_name.Goals as goal
@@ -24,3 +24,6 @@ returns-clause-put c =
       name ++ 0 ∷ [],
       whole ∙ append_assoc names name (0 ∷ []),
     )
+
+pub returns-clause-inside : goal.returns-clause-inside
+returns-clause-inside c = omega (arith, ap length c.as_slice-place.ensures.value)

@@ -55,8 +55,8 @@ returns-then-is_parent-clause-ok c = λ nodes behind e none.
     let yes : bytes_eq head.name.now (codes "reserved-memory") ≡ true = sym c.is_parent.ensures ∙ c.if-is_parent.true in
     at_node (with_ranges cells ranges) (portion_of c.args.share.now) BelowRoot cells same (parts_of c.args.pieces.now) (parts_of c.nodes.rest.now)
     c.args.writer.now c.nodes.writer c.nodes.invariant.whole head.name.now parts.0 (parts_of head.inner.now) (parts_of head.properties.now)
-    parts.1 parts.2 parts.3 (parts_of_nodes (range_nodes cells ranges)) (ends_there cells ranges head.name.now yes) (parts_of c.in-Ok.behind.now) c.put_child.new.writer
-    c.put_last.new.writer c.in-Ok.ensures.ok c.in_ok-put_last.ensures.ok nodes behind e none
+    parts.1 parts.2 parts.3 (parts_of_nodes (range_nodes cells ranges)) (ends_there cells ranges head.name.now yes) (parts_of c.in-Ok.behind.now)
+    c.put_child.new.writer c.put_last.new.writer c.in-Ok.ensures.ok c.in_ok-put_last.ensures.ok nodes behind e none
 
 pub returns-in_err-put_parent-clause-refused : goal.returns-in_err-put_parent-clause-refused
 returns-in_err-put_parent-clause-refused c =

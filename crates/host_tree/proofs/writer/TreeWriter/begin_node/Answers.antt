@@ -2,7 +2,7 @@ use Rattle.std.proofs.Common.{ℕ, List, [], ◌∷◌, ◌++◌, subst, sym}
 use Rattle.device_tree.specs.Pieces.{begins}
 use Rattle.host_tree.specs.Written.{SpellsFront}
 use Rattle.std.proofs.lemmas.Result.{err_from_is_err_and}
-use Rattle.host_tree.proofs.WriteFaults.{no_memory}
+use Rattle.host_tree.proofs.WriteFaults.{begin_no_memory}
 use Rattle.host_tree.proofs.Fronts.{and_part}
 use Rattle.host_tree.proofs.writer.TreeWriter.begin_node.Goals as goal
 
@@ -18,4 +18,4 @@ returns-clause-put c = λ parts h. record {
 pub returns-in_err-put_begin-clause-refused : goal.returns-in_err-put_begin-clause-refused
 returns-in_err-put_begin-clause-refused c =
     let p = err_from_is_err_and c.from_residual.result c.from_residual.ensures.1 in
-    rw (p.1, p.2) (no_memory (begins c.args.name.now ∷ []) [] _ c.in_err-put_begin.ensures.refused)
+    rw (p.1, p.2) (begin_no_memory c.args.name.now _ c.in_err-put_begin.ensures.refused)

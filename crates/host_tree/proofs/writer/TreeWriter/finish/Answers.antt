@@ -4,7 +4,7 @@ use Rattle.std.proofs.lemmas.Result.{err_from_is_err_and}
 use Rattle.device_tree.specs.Words.{word_at}
 use Rattle.device_tree.specs.Nodes.{parts_of_tree}
 use Rattle.host_tree.specs.Written.{SpellsFront}
-use Rattle.host_tree.proofs.WriteFaults.{end_empty, no_memory, too_large}
+use Rattle.host_tree.proofs.WriteFaults.{finish_empty, finish_large, finish_no_memory}
 use Rattle.host_tree.proofs.Laid.{AreSizes, header_at, whole}
 use Rattle.host_tree.proofs.Chains.{appended}
 use Rattle.host_tree.proofs.writer.TreeWriter.finish.Goals as goal
@@ -71,34 +71,35 @@ returns-clause-boot_hart c =
 pub returns-in_err-header-clause-refused : goal.returns-in_err-header-clause-refused
 returns-in_err-header-clause-refused c =
     let p = err_from_is_err_and c.from_residual.result c.from_residual.ensures.1 in
-    rw (p.1, p.2) (too_large [] c.args.ends.now.reservations.now _ c.in_err-header.ensures.refused)
+    rw (p.1, p.2) (finish_large c.args.self.now c.args.ends.now.reservations.now c.args.ends.now.free _ _ _ _ refl
+    (ap length c.as_slice.ensures.value) (ap length c.as_slice-2.ensures.value) c.in_err-header.ensures.refused)
 
 pub returns-in_err-put_header-clause-refused : goal.returns-in_err-put_header-clause-refused
 returns-in_err-put_header-clause-refused c =
     let p = err_from_is_err_and c.from_residual-in_err-put_header.result c.from_residual-in_err-put_header.ensures.1 in
-    rw (p.1, p.2) (no_memory [] c.args.ends.now.reservations.now _ c.in_err-put_header.ensures.refused)
+    rw (p.1, p.2) (finish_no_memory c.args.self.now c.args.ends.now.reservations.now c.args.ends.now.free _ c.in_err-put_header.ensures.refused)
 
 pub returns-in_err-put_reservations-clause-refused : goal.returns-in_err-put_reservations-clause-refused
 returns-in_err-put_reservations-clause-refused c =
     let p = err_from_is_err_and c.from_residual-in_err-put_reservations.result c.from_residual-in_err-put_reservations.ensures.1 in
-    rw (p.1, p.2) (end_empty c.args.ends.now.reservations.now _ c.in_err-put_reservations.ensures.refused)
+    rw (p.1, p.2) (finish_empty c.args.self.now c.args.ends.now.reservations.now c.args.ends.now.free _ c.in_err-put_reservations.ensures.refused)
 
 pub returns-in_err-put_bytes-clause-refused : goal.returns-in_err-put_bytes-clause-refused
 returns-in_err-put_bytes-clause-refused c =
     let p = err_from_is_err_and c.from_residual-in_err-put_bytes.result c.from_residual-in_err-put_bytes.ensures.1 in
-    rw (p.1, p.2) (no_memory [] c.args.ends.now.reservations.now _ c.in_err-put_bytes.ensures.refused)
+    rw (p.1, p.2) (finish_no_memory c.args.self.now c.args.ends.now.reservations.now c.args.ends.now.free _ c.in_err-put_bytes.ensures.refused)
 
 pub returns-in_err-put_word-clause-refused : goal.returns-in_err-put_word-clause-refused
 returns-in_err-put_word-clause-refused c =
     let p = err_from_is_err_and c.from_residual-in_err-put_word.result c.from_residual-in_err-put_word.ensures.1 in
-    rw (p.1, p.2) (no_memory [] c.args.ends.now.reservations.now _ c.in_err-put_word.ensures.refused)
+    rw (p.1, p.2) (finish_no_memory c.args.self.now c.args.ends.now.reservations.now c.args.ends.now.free _ c.in_err-put_word.ensures.refused)
 
 pub returns-in_err-put_bytes-2-clause-refused : goal.returns-in_err-put_bytes-2-clause-refused
 returns-in_err-put_bytes-2-clause-refused c =
     let p = err_from_is_err_and c.from_residual-in_err-put_bytes-2.result c.from_residual-in_err-put_bytes-2.ensures.1 in
-    rw (p.1, p.2) (no_memory [] c.args.ends.now.reservations.now _ c.in_err-put_bytes-2.ensures.refused)
+    rw (p.1, p.2) (finish_no_memory c.args.self.now c.args.ends.now.reservations.now c.args.ends.now.free _ c.in_err-put_bytes-2.ensures.refused)
 
 pub returns-in_err-put_zeros-clause-refused : goal.returns-in_err-put_zeros-clause-refused
 returns-in_err-put_zeros-clause-refused c =
     let p = err_from_is_err_and c.from_residual-in_err-put_zeros.result c.from_residual-in_err-put_zeros.ensures.1 in
-    rw (p.1, p.2) (no_memory [] c.args.ends.now.reservations.now _ c.in_err-put_zeros.ensures.refused)
+    rw (p.1, p.2) (finish_no_memory c.args.self.now c.args.ends.now.reservations.now c.args.ends.now.free _ c.in_err-put_zeros.ensures.refused)

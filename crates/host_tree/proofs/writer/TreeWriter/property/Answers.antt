@@ -2,7 +2,7 @@ use Rattle.std.proofs.Common.{◌≡◌, ℕ, List, [], ◌∷◌, ◌++◌, ◌
 use Rattle.device_tree.specs.Pieces.{has}
 use Rattle.host_tree.specs.Written.{SpellsFront, setting}
 use Rattle.std.proofs.lemmas.Result.{err_from_is_err_and}
-use Rattle.host_tree.proofs.WriteFaults.{no_memory, write_in}
+use Rattle.host_tree.proofs.WriteFaults.{property_no_memory, property_refused}
 use Rattle.host_tree.proofs.Fronts.{and_part}
 use Rattle.host_tree.proofs.Texts.{name_stays}
 use Rattle.host_tree.proofs.writer.TreeWriter.property.Goals as goal
@@ -27,10 +27,10 @@ returns-clause-put c = λ parts h. record {
 pub returns-in_err-place-clause-refused : goal.returns-in_err-place-clause-refused
 returns-in_err-place-clause-refused c =
     let p = err_from_is_err_and c.from_residual.result c.from_residual.ensures.1 in
-    rw (p.1, p.2) (no_memory (has (setting c.args.name.now c.args.value.now) ∷ []) [] _ c.in_err-place.ensures.refused)
+    rw (p.1, p.2) (property_no_memory c.args.self.now c.args.name.now c.args.value.now _ c.in_err-place.ensures.refused)
 
 pub returns-in_err-put_property-clause-refused : goal.returns-in_err-put_property-clause-refused
 returns-in_err-put_property-clause-refused c =
     let p = err_from_is_err_and c.from_residual-in_err-put_property.result c.from_residual-in_err-put_property.ensures.1 in
-    rw (p.1, p.2) (write_in [] (has (setting c.args.name.now c.args.value.now) ∷ []) [] [] (λ none. absurd none) (λ e. e) _
-    c.in_err-put_property.ensures.refused)
+    rw (p.1, p.2) (property_refused c.args.self.now c.args.name.now c.args.value.now c.in_ok-place.place _
+    c.in_ok-place.ensures.inside c.in_err-put_property.ensures.refused)
