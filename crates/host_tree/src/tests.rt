@@ -1,145 +1,81 @@
-//! A small board, and the trees of its hosts.
+//! A small board, and the tree of its host.
 
-use crate::whole::Ends;
-use crate::write_fault::WriteFault;
-use crate::writer::TreeWriter;
 use crate::{Purpose, Reserved, Share, board_of, host_tree};
 use board_ranges::Extent;
-use device_tree::{Piece, PlacedPiece, read_tree};
 use std::alloc::Global;
 use std::process::Abort;
 
-fn put_cells(writer: &mut TreeWriter, size: &[u8]) -> Result<(), WriteFault> {
-    writer.property(b"#address-cells".as_slice(), b"\0\0\0\x01".as_slice())?;
-    writer.property(b"#size-cells".as_slice(), size)
-}
+/// Memory of a page at 0x1000, two harts of which the second boots, and two devices, at 0x8000 and at 0x9000. Extensions of the first
+/// hart are `rv64imac_zkr_zicsr_ssctr` and `svadu`, `i`, `zkr`. `dtc -b 1` made it.
+#[rattlefmt::skip]
+const BOARD: [u8; 573] = [
+    0xd0, 0x0d, 0xfe, 0xed, 0, 0, 0x02, 0x3d, 0, 0, 0, 0x38, 0, 0, 0x01, 0xec, 0, 0, 0, 0x28, 0, 0,
+    0, 0x11, 0, 0, 0, 0x10, 0, 0, 0, 0x01, 0, 0, 0, 0x51, 0, 0, 0x01, 0xb4, 0, 0, 0, 0, 0, 0, 0, 0,
+    0, 0, 0, 0, 0, 0, 0, 0, 0, 0, 0, 0x01, 0, 0, 0, 0, 0, 0, 0, 0x03, 0, 0, 0, 0x04, 0, 0, 0, 0, 0,
+    0, 0, 0x01, 0, 0, 0, 0x03, 0, 0, 0, 0x04, 0, 0, 0, 0x0f, 0, 0, 0, 0x01, 0, 0, 0, 0x01, 0x6d,
+    0x65, 0x6d, 0x6f, 0x72, 0x79, 0x40, 0x31, 0x30, 0x30, 0x30, 0, 0, 0, 0, 0x03, 0, 0, 0, 0x07, 0,
+    0, 0, 0x1b, 0x6d, 0x65, 0x6d, 0x6f, 0x72, 0x79, 0, 0, 0, 0, 0, 0x03, 0, 0, 0, 0x08, 0, 0, 0,
+    0x27, 0, 0, 0x10, 0, 0, 0, 0x10, 0, 0, 0, 0, 0x02, 0, 0, 0, 0x01, 0x63, 0x70, 0x75, 0x73, 0, 0,
+    0, 0, 0, 0, 0, 0x03, 0, 0, 0, 0x04, 0, 0, 0, 0, 0, 0, 0, 0x01, 0, 0, 0, 0x03, 0, 0, 0, 0x04, 0,
+    0, 0, 0x0f, 0, 0, 0, 0, 0, 0, 0, 0x01, 0x63, 0x70, 0x75, 0x40, 0x30, 0, 0, 0, 0, 0, 0, 0x03, 0,
+    0, 0, 0x04, 0, 0, 0, 0x1b, 0x63, 0x70, 0x75, 0, 0, 0, 0, 0x03, 0, 0, 0, 0x04, 0, 0, 0, 0x27, 0,
+    0, 0, 0, 0, 0, 0, 0x03, 0, 0, 0, 0x19, 0, 0, 0, 0x2b, 0x72, 0x76, 0x36, 0x34, 0x69, 0x6d, 0x61,
+    0x63, 0x5f, 0x7a, 0x6b, 0x72, 0x5f, 0x7a, 0x69, 0x63, 0x73, 0x72, 0x5f, 0x73, 0x73, 0x63, 0x74,
+    0x72, 0, 0, 0, 0, 0, 0, 0, 0x03, 0, 0, 0, 0x0c, 0, 0, 0, 0x35, 0x73, 0x76, 0x61, 0x64, 0x75, 0,
+    0x69, 0, 0x7a, 0x6b, 0x72, 0, 0, 0, 0, 0x02, 0, 0, 0, 0x01, 0x63, 0x70, 0x75, 0x40, 0x31, 0, 0,
+    0, 0, 0, 0, 0x03, 0, 0, 0, 0x04, 0, 0, 0, 0x1b, 0x63, 0x70, 0x75, 0, 0, 0, 0, 0x03, 0, 0, 0,
+    0x04, 0, 0, 0, 0x27, 0, 0, 0, 0x01, 0, 0, 0, 0x02, 0, 0, 0, 0x02, 0, 0, 0, 0x01, 0x75, 0x61,
+    0x72, 0x74, 0x40, 0x38, 0x30, 0x30, 0x30, 0, 0, 0, 0, 0, 0, 0x03, 0, 0, 0, 0x08, 0, 0, 0, 0x27,
+    0, 0, 0x80, 0, 0, 0, 0, 0x08, 0, 0, 0, 0x03, 0, 0, 0, 0x05, 0, 0, 0, 0x4a, 0x6f, 0x6b, 0x61,
+    0x79, 0, 0, 0, 0, 0, 0, 0, 0x02, 0, 0, 0, 0x01, 0x72, 0x74, 0x63, 0x40, 0x39, 0x30, 0x30, 0x30,
+    0, 0, 0, 0, 0, 0, 0, 0x03, 0, 0, 0, 0x08, 0, 0, 0, 0x27, 0, 0, 0x90, 0, 0, 0, 0, 0x08, 0, 0, 0,
+    0x03, 0, 0, 0, 0x05, 0, 0, 0, 0x4a, 0x6f, 0x6b, 0x61, 0x79, 0, 0, 0, 0, 0, 0, 0, 0x02, 0, 0, 0,
+    0x02, 0, 0, 0, 0x09, 0x23, 0x61, 0x64, 0x64, 0x72, 0x65, 0x73, 0x73, 0x2d, 0x63, 0x65, 0x6c,
+    0x6c, 0x73, 0, 0x23, 0x73, 0x69, 0x7a, 0x65, 0x2d, 0x63, 0x65, 0x6c, 0x6c, 0x73, 0, 0x64, 0x65,
+    0x76, 0x69, 0x63, 0x65, 0x5f, 0x74, 0x79, 0x70, 0x65, 0, 0x72, 0x65, 0x67, 0, 0x72, 0x69, 0x73,
+    0x63, 0x76, 0x2c, 0x69, 0x73, 0x61, 0, 0x72, 0x69, 0x73, 0x63, 0x76, 0x2c, 0x69, 0x73, 0x61,
+    0x2d, 0x65, 0x78, 0x74, 0x65, 0x6e, 0x73, 0x69, 0x6f, 0x6e, 0x73, 0, 0x73, 0x74, 0x61, 0x74,
+    0x75, 0x73, 0,
+];
 
-fn put_hart(writer: &mut TreeWriter, name: &[u8], number: &[u8]) -> Result<(), WriteFault> {
-    writer.begin_node(name)?;
-    writer.property(b"device_type".as_slice(), b"cpu\0".as_slice())?;
-    writer.property(b"reg".as_slice(), number)?;
-    writer.property(
-        b"riscv,isa".as_slice(),
-        b"rv64imac_zkr_zicsr_ssctr\0".as_slice(),
-    )?;
-    writer.property(
-        b"riscv,isa-extensions".as_slice(),
-        b"svadu\0i\0zkr\0".as_slice(),
-    )?;
-    writer.end_node()
-}
-
-fn put_device(writer: &mut TreeWriter, name: &[u8], reg: &[u8]) -> Result<(), WriteFault> {
-    writer.begin_node(name)?;
-    writer.property(b"reg".as_slice(), reg)?;
-    writer.property(b"status".as_slice(), b"okay\0".as_slice())?;
-    writer.end_node()
-}
-
-/// Memory of a page at 0x1000, two harts, two devices.
-fn board(alloc: Global) -> Result<Vec<u8>, WriteFault> {
-    let mut writer = TreeWriter::new(alloc);
-    writer.begin_node(b"".as_slice())?;
-    put_cells(&mut writer, b"\0\0\0\x01".as_slice())?;
-    writer.begin_node(b"memory@1000".as_slice())?;
-    writer.property(b"device_type".as_slice(), b"memory\0".as_slice())?;
-    writer.property(b"reg".as_slice(), b"\0\0\x10\0\0\0\x10\0".as_slice())?;
-    writer.end_node()?;
-    writer.begin_node(b"cpus".as_slice())?;
-    put_cells(&mut writer, b"\0\0\0\0".as_slice())?;
-    put_hart(&mut writer, b"cpu@0".as_slice(), b"\0\0\0\0".as_slice())?;
-    put_hart(&mut writer, b"cpu@1".as_slice(), b"\0\0\0\x01".as_slice())?;
-    writer.end_node()?;
-    put_device(
-        &mut writer,
-        b"uart@8000".as_slice(),
-        b"\0\0\x80\0\0\0\0\x08".as_slice(),
-    )?;
-    put_device(
-        &mut writer,
-        b"rtc@9000".as_slice(),
-        b"\0\0\x90\0\0\0\0\x08".as_slice(),
-    )?;
-    writer.end_node()?;
-    let ends = Ends {
-        reservations: [].as_slice(),
-        boot_hart: 0,
-        free: 0,
-    };
-    writer.finish(alloc, &ends)
-}
-
-/// Where a node of that name begins.
-fn place_of<'a>(pieces: &'a [PlacedPiece<'a>], wanted: &[u8]) -> usize {
-    for i in 0..pieces.len() {
-        if let Piece::Begins(name) = pieces[i].piece {
-            if name == wanted {
-                return i;
-            }
-        }
-    }
-    pieces.len()
-}
-
-/// The piece that many pieces behind a place, if there is one.
-fn piece_at<'a>(pieces: &'a [PlacedPiece<'a>], place: usize, behind: usize) -> Option<Piece<'a>> {
-    if place >= pieces.len() || behind >= pieces.len() - place {
-        return None;
-    }
-    Some(pieces[place + behind].piece)
-}
-
-/// What is expected there: a property of that name and value.
-fn expect_property<'a>(
-    rt: &impl Abort,
-    pieces: &'a [PlacedPiece<'a>],
-    place: (usize, usize),
-    name: &[u8],
-    value: &[u8],
-) {
-    let (node, behind) = place;
-    let Some(Piece::Has(found, bytes)) = piece_at(pieces, node, behind) else {
-        panic!(rt; "no property");
-    };
-    assert!(rt; found == name);
-    assert!(rt; bytes == value);
-}
-
-fn expect_pieces<'a>(rt: &impl Abort, pieces: &'a [PlacedPiece<'a>]) {
-    let disabled = b"disabled\0".as_slice();
-    let status = b"status".as_slice();
-    let hart = place_of(pieces, b"cpu@0".as_slice());
-    let isa = b"riscv,isa".as_slice();
-    expect_property(rt, pieces, (hart, 3), isa, b"rv64imac_zicsr\0".as_slice());
-    let list = b"riscv,isa-extensions".as_slice();
-    expect_property(rt, pieces, (hart, 4), list, b"i\0".as_slice());
-    let other = place_of(pieces, b"cpu@1".as_slice());
-    expect_property(rt, pieces, (other, 1), status, disabled);
-    let uart = place_of(pieces, b"uart@8000".as_slice());
-    expect_property(rt, pieces, (uart, 2), status, b"okay\0".as_slice());
-    let rtc = place_of(pieces, b"rtc@9000".as_slice());
-    expect_property(rt, pieces, (rtc, 1), status, disabled);
-    let Some(Piece::Ends) = piece_at(pieces, rtc, 3) else {
-        panic!(rt; "a second status");
-    };
-}
-
-fn expect_range<'a>(rt: &impl Abort, pieces: &'a [PlacedPiece<'a>]) {
-    let parent = place_of(pieces, b"reserved-memory".as_slice());
-    let Some(Piece::Begins(name)) = piece_at(pieces, parent, 4) else {
-        panic!(rt; "no range");
-    };
-    assert!(rt; name == b"monitor@1000".as_slice());
-    let reg = b"\0\0\x10\0\0\0\x08\0".as_slice();
-    expect_property(rt, pieces, (parent, 5), b"reg".as_slice(), reg);
-    expect_property(
-        rt,
-        pieces,
-        (parent, 6),
-        b"no-map".as_slice(),
-        b"".as_slice(),
-    );
-}
+/// The same, but that the second hart and the second device are disabled, and the extensions `rv64imac_zicsr` and `i`; with the monitor's
+/// range below `/reserved-memory`. `dtc -b 1` made it.
+#[rattlefmt::skip]
+const HOST: [u8; 719] = [
+    0xd0, 0x0d, 0xfe, 0xed, 0, 0, 0x02, 0xcf, 0, 0, 0, 0x38, 0, 0, 0x02, 0x70, 0, 0, 0, 0x28, 0, 0,
+    0, 0x11, 0, 0, 0, 0x10, 0, 0, 0, 0x01, 0, 0, 0, 0x5f, 0, 0, 0x02, 0x38, 0, 0, 0, 0, 0, 0, 0, 0,
+    0, 0, 0, 0, 0, 0, 0, 0, 0, 0, 0, 0x01, 0, 0, 0, 0, 0, 0, 0, 0x03, 0, 0, 0, 0x04, 0, 0, 0, 0, 0,
+    0, 0, 0x01, 0, 0, 0, 0x03, 0, 0, 0, 0x04, 0, 0, 0, 0x0f, 0, 0, 0, 0x01, 0, 0, 0, 0x01, 0x6d,
+    0x65, 0x6d, 0x6f, 0x72, 0x79, 0x40, 0x31, 0x30, 0x30, 0x30, 0, 0, 0, 0, 0x03, 0, 0, 0, 0x07, 0,
+    0, 0, 0x1b, 0x6d, 0x65, 0x6d, 0x6f, 0x72, 0x79, 0, 0, 0, 0, 0, 0x03, 0, 0, 0, 0x08, 0, 0, 0,
+    0x27, 0, 0, 0x10, 0, 0, 0, 0x10, 0, 0, 0, 0, 0x02, 0, 0, 0, 0x01, 0x63, 0x70, 0x75, 0x73, 0, 0,
+    0, 0, 0, 0, 0, 0x03, 0, 0, 0, 0x04, 0, 0, 0, 0, 0, 0, 0, 0x01, 0, 0, 0, 0x03, 0, 0, 0, 0x04, 0,
+    0, 0, 0x0f, 0, 0, 0, 0, 0, 0, 0, 0x01, 0x63, 0x70, 0x75, 0x40, 0x30, 0, 0, 0, 0, 0, 0, 0x03, 0,
+    0, 0, 0x04, 0, 0, 0, 0x1b, 0x63, 0x70, 0x75, 0, 0, 0, 0, 0x03, 0, 0, 0, 0x04, 0, 0, 0, 0x27, 0,
+    0, 0, 0, 0, 0, 0, 0x03, 0, 0, 0, 0x0f, 0, 0, 0, 0x2b, 0x72, 0x76, 0x36, 0x34, 0x69, 0x6d, 0x61,
+    0x63, 0x5f, 0x7a, 0x69, 0x63, 0x73, 0x72, 0, 0, 0, 0, 0, 0x03, 0, 0, 0, 0x02, 0, 0, 0, 0x35,
+    0x69, 0, 0, 0, 0, 0, 0, 0x02, 0, 0, 0, 0x01, 0x63, 0x70, 0x75, 0x40, 0x31, 0, 0, 0, 0, 0, 0,
+    0x03, 0, 0, 0, 0x09, 0, 0, 0, 0x4a, 0x64, 0x69, 0x73, 0x61, 0x62, 0x6c, 0x65, 0x64, 0, 0, 0, 0,
+    0, 0, 0, 0x03, 0, 0, 0, 0x04, 0, 0, 0, 0x1b, 0x63, 0x70, 0x75, 0, 0, 0, 0, 0x03, 0, 0, 0, 0x04,
+    0, 0, 0, 0x27, 0, 0, 0, 0x01, 0, 0, 0, 0x02, 0, 0, 0, 0x02, 0, 0, 0, 0x01, 0x75, 0x61, 0x72,
+    0x74, 0x40, 0x38, 0x30, 0x30, 0x30, 0, 0, 0, 0, 0, 0, 0x03, 0, 0, 0, 0x08, 0, 0, 0, 0x27, 0, 0,
+    0x80, 0, 0, 0, 0, 0x08, 0, 0, 0, 0x03, 0, 0, 0, 0x05, 0, 0, 0, 0x4a, 0x6f, 0x6b, 0x61, 0x79, 0,
+    0, 0, 0, 0, 0, 0, 0x02, 0, 0, 0, 0x01, 0x72, 0x74, 0x63, 0x40, 0x39, 0x30, 0x30, 0x30, 0, 0, 0,
+    0, 0, 0, 0, 0x03, 0, 0, 0, 0x09, 0, 0, 0, 0x4a, 0x64, 0x69, 0x73, 0x61, 0x62, 0x6c, 0x65, 0x64,
+    0, 0, 0, 0, 0, 0, 0, 0x03, 0, 0, 0, 0x08, 0, 0, 0, 0x27, 0, 0, 0x90, 0, 0, 0, 0, 0x08, 0, 0, 0,
+    0x02, 0, 0, 0, 0x01, 0x72, 0x65, 0x73, 0x65, 0x72, 0x76, 0x65, 0x64, 0x2d, 0x6d, 0x65, 0x6d,
+    0x6f, 0x72, 0x79, 0, 0, 0, 0, 0x03, 0, 0, 0, 0x04, 0, 0, 0, 0, 0, 0, 0, 0x01, 0, 0, 0, 0x03, 0,
+    0, 0, 0x04, 0, 0, 0, 0x0f, 0, 0, 0, 0x01, 0, 0, 0, 0x03, 0, 0, 0, 0, 0, 0, 0, 0x51, 0, 0, 0,
+    0x01, 0x6d, 0x6f, 0x6e, 0x69, 0x74, 0x6f, 0x72, 0x40, 0x31, 0x30, 0x30, 0x30, 0, 0, 0, 0, 0, 0,
+    0, 0x03, 0, 0, 0, 0x08, 0, 0, 0, 0x27, 0, 0, 0x10, 0, 0, 0, 0x08, 0, 0, 0, 0, 0x03, 0, 0, 0, 0,
+    0, 0, 0, 0x58, 0, 0, 0, 0x02, 0, 0, 0, 0x02, 0, 0, 0, 0x02, 0, 0, 0, 0x09, 0x23, 0x61, 0x64,
+    0x64, 0x72, 0x65, 0x73, 0x73, 0x2d, 0x63, 0x65, 0x6c, 0x6c, 0x73, 0, 0x23, 0x73, 0x69, 0x7a,
+    0x65, 0x2d, 0x63, 0x65, 0x6c, 0x6c, 0x73, 0, 0x64, 0x65, 0x76, 0x69, 0x63, 0x65, 0x5f, 0x74,
+    0x79, 0x70, 0x65, 0, 0x72, 0x65, 0x67, 0, 0x72, 0x69, 0x73, 0x63, 0x76, 0x2c, 0x69, 0x73, 0x61,
+    0, 0x72, 0x69, 0x73, 0x63, 0x76, 0x2c, 0x69, 0x73, 0x61, 0x2d, 0x65, 0x78, 0x74, 0x65, 0x6e,
+    0x73, 0x69, 0x6f, 0x6e, 0x73, 0, 0x73, 0x74, 0x61, 0x74, 0x75, 0x73, 0, 0x72, 0x61, 0x6e, 0x67,
+    0x65, 0x73, 0, 0x6e, 0x6f, 0x2d, 0x6d, 0x61, 0x70, 0,
+];
 
 const MONITOR: Reserved = Reserved {
     purpose: Purpose::Monitor,
@@ -149,7 +85,7 @@ const MONITOR: Reserved = Reserved {
     },
 };
 
-fn expect_host(rt: &impl Abort, alloc: Global, bytes: &[u8]) {
+fn expect_host(rt: &impl Abort, alloc: Global) {
     let ranges = [Extent {
         base: 0x8000,
         size: 0x1000,
@@ -158,18 +94,19 @@ fn expect_host(rt: &impl Abort, alloc: Global, bytes: &[u8]) {
         harts: 1,
         ranges: ranges.as_slice(),
     };
-    let host = host_tree(alloc, &share, bytes, [MONITOR].as_slice(), 0).expect(rt, "a tree");
-    let tree = read_tree(alloc, host.as_slice()).expect(rt, "a tree");
-    expect_pieces(rt, tree.pieces.as_slice());
-    expect_range(rt, tree.pieces.as_slice());
+    let monitor = [MONITOR];
+    let host = host_tree(alloc, &share, BOARD.as_slice(), monitor.as_slice(), 0);
+    assert!(rt; host.expect(rt, "a tree").as_slice() == HOST.as_slice());
+}
+
+fn expect_board(rt: &impl Abort, alloc: Global) {
+    let found = board_of(alloc, BOARD.as_slice()).expect(rt, "a board");
+    assert!(rt; found.harts.len() == 2);
+    assert!(rt; found.memory.len() == 1);
 }
 
 #[test]
 fn a_host_has_its_tree(rt: HostRuntime) {
-    let bytes = board(rt.alloc()).expect(&rt, "a tree");
-    let found = board_of(rt.alloc(), bytes.as_slice()).expect(&rt, "a board");
-    assert!(&rt; found.harts.len() == 2);
-    assert!(&rt; found.harts[1].base == 1);
-    assert!(&rt; found.memory.len() == 1);
-    expect_host(&rt, rt.alloc(), bytes.as_slice());
+    expect_board(&rt, rt.alloc());
+    expect_host(&rt, rt.alloc());
 }
