@@ -1,5 +1,5 @@
 -- A trap that was answered, and what comes after the answer.
-use Rattle.std.proofs.Common.{◌≡◌, ◌≢◌, ◌∙◌, ◌<◌, ◌≤◌, inl, inr, ℕ, List, [], ◌++◌, take, Bool, Option, Result, Ok, Err, ap, sym, subst, refl, append-nil}
+use Rattle.std.proofs.Common.{◌≡◌, ◌∙◌, ◌≤◌, inl, inr, ℕ, List, [], ◌++◌, take, Bool, Option, Result, Ok, Err, ap, sym, subst, refl, append-nil}
 use Rattle.std.specs.Io.KnownBytes.{Appends}
 use Rattle.std.proofs.KnownBytes.{Appends-trans, Consumes-nil}
 use Rattle.pmp_encoding.specs.declared.pages.PageRange.{PageRange}
@@ -19,14 +19,14 @@ use Rattle.monitor_core.proofs.Running.{call_there}
 use Rattle.trap_server.specs.Answered.{AreAwake, IsAnswer, given_on, marks_of, no_answer, unmarked}
 use Rattle.trap_server.specs.Given.{GivesWords, keeping}
 use Rattle.trap_server.specs.PageDigest.{HasParts, question_of}
-use Rattle.trap_server.specs.Service.{AnswersCall, ServesAs, ServesStop, ServesTrap}
-use Rattle.trap_server.specs.Steps.{AnswersAs, AnswersMade, AnswersTrap, MeasuresMade, Serves, Writes}
+use Rattle.trap_server.specs.Service.{AnswersCall, ServesAs, ServesStop}
+use Rattle.trap_server.specs.Steps.{AnswersAs, AnswersTrap, MeasuresMade, Serves, Writes}
 use Rattle.trap_server.specs.declared.fault.ServeFault.{ServeFault}
 use Rattle.trap_server.specs.declared.trap.Trap.{Trap}
 use Rattle.trap_server.specs.declared.trap.TrapEvent.{TrapEvent}
 use Rattle.trap_server.specs.declared.trap.TrapEvent.TheVariants.{Call, Stop}
 use Rattle.trap_server.specs.declared.words.ControlWords.{ControlWords}
-use Rattle.trap_server.proofs.Remeasured.{answer_redigested}
+use Rattle.trap_server.proofs.Remeasured.{answer_remeasured}
 use Rattle.trap_server.proofs.Served.{quiet}
 
 -- the answer was not written whole
@@ -165,7 +165,7 @@ pub made_to_measure :
     → CallAnswered old now hosts kept trap answer bytes → IsMade (asked_in (call_of trap.registers)) answer parts
     → ((e : Enclave) × Live now.table answer.value e) × HasParts parts
 made_to_measure old now hosts kept trap answer bytes parts a made =
-    let r = answer_redigested old trap a.given a.digest answer bytes now parts a.table a.answers made in ((r.0, r.1), r.2)
+    let r = answer_remeasured old trap a.given a.digest answer bytes now parts a.table a.answers made in ((r.0, r.1), r.2)
 
 -- and which was measured, or the loop ends
 pub made_measured :
@@ -174,7 +174,7 @@ pub made_measured :
     → IsMade (asked_in (call_of trap.registers)) answer parts → Appends held middle bytes
     → MeasuresMade result parts answer.value now new before after middle holds → Serves result trap old hosts new kept before after held holds
 made_measured (Ok done) old now new hosts kept trap answer bytes parts before after held middle holds a made wrote m =
-    let r = answer_redigested old trap a.given a.digest answer bytes now parts a.table a.answers made in
+    let r = answer_remeasured old trap a.given a.digest answer bytes now parts a.table a.answers made in
     let digest = digest_of (layout_of parts) m.1 in
     let question = question_of parts in
     let served : Serves (Ok tt) trap old hosts (having_digest now answer.value r.0 digest) kept before after held holds = (

@@ -1,67 +1,36 @@
 -- An enclave that was made gets another digest: the call and its answer are as they would have been with that one.
-use Rattle.std.proofs.Common.{◌≡◌, ◌∙◌, ◌-◌, ◌*◌, ◌+◌, ◌<◌, ◌≤◌, ◌||◌, inl, inr, ⊎_elim, ℕ, ℤ, pos, Bool, List, length, set, Option, Some, None, cond, ap, sym, refl, subst, arith}
-use Rattle.std.proofs.lemmas.Bool.{cases_eq}
+use Rattle.std.proofs.Common.{◌≡◌, ◌∙◌, ◌-◌, ◌≤◌, inl, inr, ℕ, pos, Bool, List, length, Option, Some, None, ap, sym, refl, subst, arith}
 use Rattle.std.proofs.lemmas.List.{length-set, set-set}
 use Rattle.pmp_encoding.specs.declared.pages.PageRange.{PageRange}
-use Rattle.pmp_encoding.specs.declared.perm.Perm.TheVariants.{NoAccess}
-use Rattle.pmp_encoding.specs.Views.{SameView}
 use Rattle.measurement.specs.Requests.{parts_of}
 use Rattle.measurement.specs.declared.request.Create.{Create}
 use Rattle.platforms.specs.CheckLists.{AllPass}
-use Rattle.platforms.specs.Platform.{platform_perm}
-use Rattle.platforms.specs.Ranges.{has_page}
 use Rattle.sbi_decode.specs.Calls.{call_of}
 use Rattle.sbi_decode.specs.declared.calls.Call.{Call}
 use Rattle.sbi_decode.specs.declared.calls.Call.TheVariants as calls
 use Rattle.sbi_decode.specs.declared.world.World.{World}
-use Rattle.sbi_decode.specs.declared.world.World.TheVariants.{Host, Enclave as InEnclave}
 use Rattle.enclave_table.specs.Checks.{create_checks}
 use Rattle.enclave_table.specs.Create.{Creates, fresh}
 use Rattle.enclave_table.specs.Digests.{with_digest}
 use Rattle.enclave_table.specs.Enclaves.{EnclaveTable, Live, enclave_at, with_enclave}
 use Rattle.enclave_table.specs.Tables.{IsTable}
-use Rattle.enclave_table.specs.Views.{current_view, host_view}
+use Rattle.enclave_table.specs.Views.{host_view}
 use Rattle.enclave_table.specs.declared.enclave.Enclave.{Enclave}
-use Rattle.enclave_table.proofs.Places.{live_above, live_inside, live_place, private_set, set_other, set_same}
-use Rattle.enclave_table.proofs.SameViews.{fewest_same, fits_same}
-use Rattle.enclave_table.proofs.ShortNames.{any_private, has_private, view_in}
+use Rattle.enclave_table.proofs.Places.{set_same}
+use Rattle.enclave_table.proofs.Replaced.{same_host_view}
+use Rattle.enclave_table.proofs.SameViews.{fits_same}
 use Rattle.monitor_core.specs.Answers.{below_zero}
 use Rattle.monitor_core.specs.Changes.{answering, having_digest, marking_others, past_call, with_running}
 use Rattle.monitor_core.specs.Measured.{IsMade, asked_in}
 use Rattle.monitor_core.specs.States.{MonitorState}
-use Rattle.monitor_core.specs.Steps.{Done, DoesCall, Refuses}
+use Rattle.monitor_core.specs.Steps.{DoesCall, Refuses}
 use Rattle.monitor_core.specs.declared.answer.Answer.{Answer}
+use Rattle.monitor_core.proofs.Digested.{fewest_digested}
 use Rattle.trap_server.specs.Answered.{IsAnswer, marks_of}
 use Rattle.trap_server.specs.PageDigest.{HasParts}
 use Rattle.trap_server.specs.Service.{AnswersCall}
 use Rattle.trap_server.specs.declared.trap.Trap.{Trap}
 use Rattle.trap_server.specs.declared.words.ControlWords.{ControlWords}
-
--- ---- a view says nothing of digests
-
-host_redigested : (table : EnclaveTable) (id : ℕ) (e : Enclave) (digest : List ℕ) → Live table id e
-    → SameView (host_view table) (host_view (with_digest table id e digest))
-host_redigested table id e digest live page small =
-    let now : Option Enclave = Some (record e { digest = digest }) in
-    let same : any_private (set table.enclaves (id - 1) now) page ≡ any_private table.enclaves page
-    = private_set table.enclaves (id - 1) now page (sym (ap (λ slot. has_private slot page) (live_place table.enclaves id e live)))
-    (live_inside table.enclaves id e live) in
-    sym (ap (λ t. cond (has_page table.layout.monitor page || t) NoAccess (platform_perm table.layout page)) same)
-
-pub view_redigested : (table : EnclaveTable) (id : ℕ) (e : Enclave) (digest : List ℕ) (world : World) → Live table id e
-    → SameView (current_view table world) (current_view (with_digest table id e digest) world)
-view_redigested table id e digest Host live = host_redigested table id e digest live
-view_redigested table id e digest (InEnclave other) live = λ page small.
-    let now : Option Enclave = Some (record e { digest = digest }) in
-    let above = live_above table.enclaves id e live in
-    ⊎_elim
-    (λ same.
-    let before : view_in (enclave_at table.enclaves other) page ≡ view_in (Some e) page = ap (λ o. view_in o page) (ap (enclave_at table.enclaves) same ∙ live) in
-    let after : view_in (enclave_at (set table.enclaves (id - 1) now) other) page ≡ view_in now page = ap (λ o. view_in o page)
-    (ap (enclave_at (set table.enclaves (id - 1) now)) same ∙ set_same table.enclaves id now above (live_inside table.enclaves id e live)) in
-    before ∙ sym after)
-    (λ differ. ap (λ o. view_in o page) (sym (set_other table.enclaves id other now above differ)))
-    (cases_eq other id)
 
 -- ---- a creation that was done
 
@@ -72,11 +41,11 @@ made_live old new id e added above below is =
     ap (λ (t : EnclaveTable). enclave_at t.enclaves id) added ∙ set_same old.enclaves id (Some e) above (omega (arith, long, above, below))
 
 -- with another digest it is the creation with that digest
-creates_redigested :
+creates_remeasured :
     (old new : EnclaveTable) (world : World) (asked : Create) (id : ℕ) (first last : List ℕ) → IsTable new
     → Creates (λ parts. first) old world asked id new
     → Creates (λ parts. last) old world asked id (with_digest new id (fresh (λ parts. first) (parts_of asked)) last)
-creates_redigested old new world asked id first last is made =
+creates_remeasured old new world asked id first last is made =
     let e : Enclave = fresh (λ parts. first) (parts_of asked) in
     let e' : Enclave = fresh (λ parts. last) (parts_of asked) in
     let live = made_live old new id e made.added made.next.free.0 made.next.free.1 is in
@@ -85,7 +54,7 @@ creates_redigested old new world asked id first last is made =
       next = made.next;
       added = ap (λ (t : EnclaveTable). with_enclave t id (Some e')) made.added
           ∙ ap (λ slots. record old { enclaves = slots }) (set-set old.enclaves (id - 1) (Some e) (Some e'));
-      host_fits = fits_same new.layout.limit (host_view new) (host_view (with_digest new id e last)) (host_redigested new id e last live) made.host_fits;
+      host_fits = fits_same new.layout.limit (host_view new) (host_view (with_digest new id e last)) (same_host_view new id e e' live refl) made.host_fits;
       enclave_fits = made.enclave_fits;
     }
 
@@ -118,16 +87,16 @@ made_passes (Some (calls.Exit value)) digests s hart answer cleared new parts x 
 made_passes (Some (calls.Measure id k)) digests s hart answer cleared new parts x made = absurd made
 
 -- the enclave is live under the value of the answer, and with another digest the call is the one with that digest
-abbrev pub Redigests : Option Call → MonitorState → ℕ → Answer → Option PageRange → MonitorState → Type 0
-Redigests call s hart answer cleared mid = (e : Enclave) × Live mid.table answer.value e
+abbrev pub Remeasures : Option Call → MonitorState → ℕ → Answer → Option PageRange → MonitorState → Type 0
+Remeasures call s hart answer cleared mid = (e : Enclave) × Live mid.table answer.value e
     × ((digest : List ℕ) → DoesCall call (λ parts. digest) s hart answer cleared (having_digest mid answer.value e digest))
 
-call_redigested :
+call_remeasured :
     (call : Option Call) (first : List ℕ) (s : MonitorState) (hart : ℕ) (answer : Answer) (cleared : Option PageRange) (mid : MonitorState) (parts : Create)
     → IsTable mid.table → DoesCall call (λ parts. first) s hart answer cleared mid → IsMade (asked_in call) answer parts
-    → Redigests call s hart answer cleared mid
-call_redigested None first s hart answer cleared mid parts is x made = absurd made
-call_redigested (Some (calls.Create base text_pages data_pages shared_base shared_count entry_offset)) first s hart answer cleared mid parts is (inl x) made =
+    → Remeasures call s hart answer cleared mid
+call_remeasured None first s hart answer cleared mid parts is x made = absurd made
+call_remeasured (Some (calls.Create base text_pages data_pages shared_base shared_count entry_offset)) first s hart answer cleared mid parts is (inl x) made =
     let asked : Create = record {
       base = base;
       text_pages = text_pages;
@@ -149,19 +118,19 @@ call_redigested (Some (calls.Create base text_pages data_pages shared_base share
       λ digest. inl (
         id,
         with_digest table id e digest,
-        creates_redigested s.table table (s.worlds hart) asked id first digest sound x.2,
+        creates_remeasured s.table table (s.worlds hart) asked id first digest sound x.2,
         record { state = refl; told = x.3.told; zeroes = x.3.zeroes },
       ),
     ) in
     subst (λ n. Has mid n) (sym (ap (λ (a : Answer). a.value) x.3.told)) (subst (λ m. Has m id) (sym x.3.state) there)
-call_redigested (Some (calls.Create base text_pages data_pages shared_base shared_count entry_offset)) first s hart answer cleared mid parts is
+call_remeasured (Some (calls.Create base text_pages data_pages shared_base shared_count entry_offset)) first s hart answer cleared mid parts is
     (inr x) made = not_made _ s hart answer cleared mid x.2 made.1
-call_redigested (Some (calls.Destroy id)) first s hart answer cleared mid parts is x made = absurd made
-call_redigested (Some (calls.Run id)) first s hart answer cleared mid parts is x made = absurd made
-call_redigested (Some calls.Stop) first s hart answer cleared mid parts is x made = absurd made
-call_redigested (Some (calls.Resume id)) first s hart answer cleared mid parts is x made = absurd made
-call_redigested (Some (calls.Exit value)) first s hart answer cleared mid parts is x made = absurd made
-call_redigested (Some (calls.Measure id k)) first s hart answer cleared mid parts is x made = absurd made
+call_remeasured (Some (calls.Destroy id)) first s hart answer cleared mid parts is x made = absurd made
+call_remeasured (Some (calls.Run id)) first s hart answer cleared mid parts is x made = absurd made
+call_remeasured (Some calls.Stop) first s hart answer cleared mid parts is x made = absurd made
+call_remeasured (Some (calls.Resume id)) first s hart answer cleared mid parts is x made = absurd made
+call_remeasured (Some (calls.Exit value)) first s hart answer cleared mid parts is x made = absurd made
+call_remeasured (Some (calls.Measure id k)) first s hart answer cleared mid parts is x made = absurd made
 
 -- ---- its answer
 
@@ -170,30 +139,27 @@ answer_same :
     (s : MonitorState) (id : ℕ) (e : Enclave) (digest : List ℕ) (given : ControlWords) (hart : ℕ) (answer : Answer) (cleared : Option PageRange)
     (woken : List Bool) (bytes : List ℕ) → Live s.table id e → IsAnswer s given hart answer cleared woken bytes
     → IsAnswer (having_digest s id e digest) given hart answer cleared woken bytes
-answer_same s id e digest given hart answer cleared woken bytes live is =
-    let Same = λ (world : World). view_redigested s.table id e digest world live in
-    let now = with_digest s.table id e digest in (
-      is.0,
-      record {
-        here = fewest_same (current_view s.table (s.worlds hart)) (current_view now (s.worlds hart)) is.0 (Same (s.worlds hart)) is.1.here;
-        there = λ other known on. fewest_same (current_view s.table (s.worlds other)) (current_view now (s.worlds other)) is.0 (Same (s.worlds other))
-            (is.1.there other known on);
-        room = is.1.room;
-      },
-      is.2,
-    )
+answer_same s id e digest given hart answer cleared woken bytes live is = (
+  is.0,
+  record {
+    here = fewest_digested s id e digest (s.worlds hart) is.0 live is.1.here;
+    there = λ other known on. fewest_digested s id e digest (s.worlds other) is.0 live (is.1.there other known on);
+    room = is.1.room;
+  },
+  is.2,
+)
 
-pub answer_redigested :
+pub answer_remeasured :
     (s : MonitorState) (trap : Trap) (given : ControlWords) (first : List ℕ) (answer : Answer) (answered : List ℕ) (now : MonitorState) (parts : Create)
     → IsTable now.table → AnswersCall s trap given first answer answered now → IsMade (asked_in (call_of trap.registers)) answer parts
     → (e : Enclave) × Live now.table answer.value e × HasParts parts
     × ((digest : List ℕ) → AnswersCall s trap given digest answer answered (having_digest now answer.value e digest))
-answer_redigested s trap given first answer answered now parts is x made =
+answer_remeasured s trap given first answer answered now parts is x made =
     let hart = trap.hart in
     let file = past_call trap.registers in
     let before = with_running s hart file in
     let sound : IsTable x.mid.table = subst (λ (m : MonitorState). IsTable m.table) x.woken is in
-    let r = call_redigested (call_of file) first before hart answer x.cleared x.mid parts sound x.step made in
+    let r = call_remeasured (call_of file) first before hart answer x.cleared x.mid parts sound x.step made in
     let live : Live now.table answer.value r.0 = subst (λ (m : MonitorState). Live m.table answer.value r.0) (sym x.woken) r.1 in (
       r.0,
       live,

@@ -1,5 +1,5 @@
 -- A trap that was served, from what was asked, read and written.
-use Rattle.std.proofs.Common.{◌≡◌, inl, inr, subst, ℕ, zero, suc, ◌<◌, ◌≤◌, Bool, true, false, List, [], ◌++◌, take, Option, Result, Ok, Err, sym, refl, arith}
+use Rattle.std.proofs.Common.{◌≡◌, inl, inr, subst, ℕ, zero, suc, ◌<◌, ◌≤◌, Bool, true, false, List, [], ◌++◌, take, Option, Result, Err, sym, refl, arith}
 use Rattle.std.proofs.Common.{append-nil}
 use Rattle.std.proofs.lemmas.Bool.{true≢false}
 use Rattle.std.specs.Prelude.{slice_index_or}
@@ -21,7 +21,6 @@ use Rattle.trap_server.specs.Traps.{CountsRead as CountsFrame}
 use Rattle.trap_server.specs.Traps.{CountsWrite as CountsFrameWrite}
 use Rattle.trap_server.specs.Platforms.{ReadsPlatform}
 use Rattle.monitor_core.specs.States.{MonitorState}
-use Rattle.trap_server.specs.declared.words.ControlWords.{ControlWords}
 use Rattle.trap_server.specs.declared.trap.Trap.{Trap}
 use Rattle.trap_server.specs.declared.fault.ServeFault.{ServeFault}
 use Rattle.trap_server.specs.Answered.{AreAwake, marks_of, unmarked}

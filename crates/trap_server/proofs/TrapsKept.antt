@@ -165,7 +165,7 @@ call_kept s hosts kept trap given read question answered new ready is words all 
       says = a.goes_on;
       need = subst Refused (sym is) (call_refused_by_need call (λ parts. x.digest) t hart x.answer a.cleared a.mid ready.table a.step);
       asks = asks_memory (asked_in (call_of trap.registers)) x.answer s.table (s.worlds hart) question read x.digest x.asks
-          (made_passes call (λ parts. x.digest) t hart x.answer a.cleared a.mid a.step);
+          (λ parts. made_passes call (λ of. x.digest) t hart x.answer a.cleared a.mid parts a.step);
       zeroes = destroyed t a.mid new a.cleared a.woken (call_clears_memory call (λ parts. x.digest) t hart x.answer a.cleared a.mid ready.table a.step)
           (zeroed.cleared call (λ parts. x.digest) t hart x.answer a.cleared a.mid a.step);
       destroys = λ id gone. lost_call call (λ parts. x.digest) t hart x.answer a.cleared a.mid id gone.0 gone.1

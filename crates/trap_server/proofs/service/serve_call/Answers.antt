@@ -1,4 +1,4 @@
-use Rattle.std.proofs.Common.{◌∙◌, ◌<◌, List, ap, sym, subst}
+use Rattle.std.proofs.Common.{◌∙◌, ◌<◌, ap, sym, subst}
 use Rattle.sbi_decode.specs.Calls.{call_of}
 use Rattle.monitor_core.specs.Changes.{past_call, with_running}
 use Rattle.monitor_core.specs.Monitors.{state_by}
@@ -6,7 +6,7 @@ use Rattle.monitor_core.specs.States.{MonitorState}
 use Rattle.monitor_core.proofs.Running.{call_there}
 use Rattle.trap_server.specs.Answered.{IsAnswer, given_on}
 use Rattle.trap_server.specs.Given.{host_words}
-use Rattle.trap_server.proofs.Answering.{CallAnswered, call_answered, call_unanswered, made_measured, made_to_measure, nothing_made}
+use Rattle.trap_server.proofs.Answering.{call_answered, call_unanswered, made_measured, made_to_measure, nothing_made}
 use Rattle.trap_server.proofs.Served.{may_wake, writes_then}
 use Rattle.trap_server.proofs.Waking.{marks_in_host}
 use Rattle.trap_server.proofs.service.serve_call.Goals as goal
@@ -30,7 +30,7 @@ write_answer-requires-clause-woken g c =
     let step = call_there s (state_by c.put_registers.new.self) mid hart c.args.trap.now.registers _ said.answer said.zero put c.serve-served.ensures.step in
     may_wake mid (state_by c.wake_all-woken.new.monitor) hart c.wake_all-woken.result c.wake_all-woken.ensures.state c.wake_all-woken.ensures.marks
     (λ other known marked.
-    let before = subst (λ t. other < t.harts) (c.serve-served.ensures.platform ∙ ap (λ (x : MonitorState). x.table.layout) put) known in (
+    let before = subst (λ t. other < t.harts) {y = s.table.layout} (c.serve-served.ensures.platform ∙ ap (λ (x : MonitorState). x.table.layout) put) known in (
       c.cite_invariant.ensures.worlds.marked other known marked,
       marks_in_host (call_of file) _ (with_running s hart file) hart said.answer said.zero mid other (c.requires.awake other before) step marked,
     ))
@@ -48,3 +48,51 @@ returns-in-Err-clause-served g c =
     said.zero c.wake_all-woken.result c.harts-most.result bytes c.requires.call c.put_registers.ensures.state c.serve-served.ensures.step
     c.serve-served.ensures.platform c.cite_invariant.ensures.table c.harts-most.ensures.value c.harts-most.ensures.most c.wake_all-woken.ensures.state
     c.wake_all-woken.ensures.marks c.keep_words.ensures is) c.in-Err.ensures.bytes
+
+pub returns-in_default-clause-served : goal.returns-in_default-clause-served
+returns-in_default-clause-served g c =
+    let wrote = c.in-Ok.ensures.bytes in
+    nothing_made (state_by c.args.monitor.now) (state_by c.wake_all-woken.new.monitor) (host_words c.args.hosts.now) (host_words c.keep_words.new.hosts)
+    c.args.trap.now c.serve-served.result.answer wrote.0 _ _ _
+    (call_answered (state_by c.args.monitor.now) (state_by c.put_registers.new.self) (state_by c.serve-served.new.self) (state_by c.wake_all-woken.new.monitor)
+    (host_words c.args.hosts.now) (host_words c.keep_words.new.hosts) c.args.trap.now _ c.serve-served.result.answer c.serve-served.result.zero
+    c.wake_all-woken.result c.harts-most.result wrote.0 c.requires.call c.put_registers.ensures.state c.serve-served.ensures.step
+    c.serve-served.ensures.platform c.cite_invariant.ensures.table c.harts-most.ensures.value c.harts-most.ensures.most c.wake_all-woken.ensures.state
+    c.wake_all-woken.ensures.marks c.keep_words.ensures wrote.1) c.in_default.ensures.none wrote.2
+
+pub measure_made-requires-clause-live : goal.measure_made-requires-clause-live
+measure_made-requires-clause-live g c =
+    let wrote = c.in-Ok.ensures.bytes in
+    (made_to_measure (state_by c.args.monitor.now) (state_by c.wake_all-woken.new.monitor) (host_words c.args.hosts.now) (host_words c.keep_words.new.hosts)
+    c.args.trap.now c.serve-served.result.answer wrote.0 c.in-Some.parts
+    (call_answered (state_by c.args.monitor.now) (state_by c.put_registers.new.self) (state_by c.serve-served.new.self) (state_by c.wake_all-woken.new.monitor)
+    (host_words c.args.hosts.now) (host_words c.keep_words.new.hosts) c.args.trap.now _ c.serve-served.result.answer c.serve-served.result.zero
+    c.wake_all-woken.result c.harts-most.result wrote.0 c.requires.call c.put_registers.ensures.state c.serve-served.ensures.step
+    c.serve-served.ensures.platform c.cite_invariant.ensures.table c.harts-most.ensures.value c.harts-most.ensures.most c.wake_all-woken.ensures.state
+    c.wake_all-woken.ensures.marks c.keep_words.ensures wrote.1) c.in-Some.ensures.some).0
+
+pub measure_made-requires-clause-parts : goal.measure_made-requires-clause-parts
+measure_made-requires-clause-parts g c =
+    let wrote = c.in-Ok.ensures.bytes in
+    (made_to_measure (state_by c.args.monitor.now) (state_by c.wake_all-woken.new.monitor) (host_words c.args.hosts.now) (host_words c.keep_words.new.hosts)
+    c.args.trap.now c.serve-served.result.answer wrote.0 c.in-Some.parts
+    (call_answered (state_by c.args.monitor.now) (state_by c.put_registers.new.self) (state_by c.serve-served.new.self) (state_by c.wake_all-woken.new.monitor)
+    (host_words c.args.hosts.now) (host_words c.keep_words.new.hosts) c.args.trap.now _ c.serve-served.result.answer c.serve-served.result.zero
+    c.wake_all-woken.result c.harts-most.result wrote.0 c.requires.call c.put_registers.ensures.state c.serve-served.ensures.step
+    c.serve-served.ensures.platform c.cite_invariant.ensures.table c.harts-most.ensures.value c.harts-most.ensures.most c.wake_all-woken.ensures.state
+    c.wake_all-woken.ensures.marks c.keep_words.ensures wrote.1) c.in-Some.ensures.some).1
+
+pub returns-clause-served : goal.returns-clause-served
+returns-clause-served g c =
+    let wrote = c.in-Ok.ensures.bytes in
+    made_measured c.measure_made.result (state_by c.args.monitor.now) (state_by c.wake_all-woken.new.monitor) (state_by c.measure_made.new.monitor)
+    (host_words c.args.hosts.now) (host_words c.keep_words.new.hosts) c.args.trap.now c.serve-served.result.answer wrote.0 c.in-Some.parts _ _ _ _ _
+    (call_answered (state_by c.args.monitor.now) (state_by c.put_registers.new.self) (state_by c.serve-served.new.self) (state_by c.wake_all-woken.new.monitor)
+    (host_words c.args.hosts.now) (host_words c.keep_words.new.hosts) c.args.trap.now _ c.serve-served.result.answer c.serve-served.result.zero
+    c.wake_all-woken.result c.harts-most.result wrote.0 c.requires.call c.put_registers.ensures.state c.serve-served.ensures.step
+    c.serve-served.ensures.platform c.cite_invariant.ensures.table c.harts-most.ensures.value c.harts-most.ensures.most c.wake_all-woken.ensures.state
+    c.wake_all-woken.ensures.marks c.keep_words.ensures wrote.1)
+    c.in-Some.ensures.some wrote.2 c.measure_made.ensures.measured
+
+pub returns-clause-writes : goal.returns-clause-writes
+returns-clause-writes g c = writes_then c.measure_made.result _ _ _ _ _ _ c.in-Ok.ensures.writes c.measure_made.ensures.writes
