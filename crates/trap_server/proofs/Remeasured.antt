@@ -37,7 +37,8 @@ use Rattle.trap_server.specs.declared.words.ControlWords.{ControlWords}
 -- the enclave that it made is live, under the id that it was answered with
 made_live : (old new : EnclaveTable) (id : ℕ) (e : Enclave) → new ≡ with_enclave old id (Some e) → 1 ≤ id → id ≤ 64 → IsTable new → Live new id e
 made_live old new id e added above below is =
-    let long : length old.enclaves ≡ 64 = sym (length-set old.enclaves (id - 1) (Some e)) ∙ sym (ap (λ (t : EnclaveTable). length t.enclaves) added) ∙ is.places in
+    let long : length old.enclaves ≡ 64 =
+    sym (length-set old.enclaves (id - 1) (Some e)) ∙ sym (ap (λ (t : EnclaveTable). length t.enclaves) added) ∙ is.places in
     ap (λ (t : EnclaveTable). enclave_at t.enclaves id) added ∙ set_same old.enclaves id (Some e) above (omega (arith, long, above, below))
 
 -- with another digest it is the creation with that digest

@@ -30,7 +30,8 @@ write_answer-requires-clause-woken g c =
     let step = call_there s (state_by c.put_registers.new.self) mid hart c.args.trap.now.registers _ said.answer said.zero put c.serve-served.ensures.step in
     may_wake mid (state_by c.wake_all-woken.new.monitor) hart c.wake_all-woken.result c.wake_all-woken.ensures.state c.wake_all-woken.ensures.marks
     (λ other known marked.
-    let before = subst (λ t. other < t.harts) {y = s.table.layout} (c.serve-served.ensures.platform ∙ ap (λ (x : MonitorState). x.table.layout) put) known in (
+    let platform = c.serve-served.ensures.platform ∙ ap (λ (x : MonitorState). x.table.layout) {y = with_running s hart c.args.trap.now.registers} put in
+    let before = subst (λ t. other < t.harts) {y = s.table.layout} platform known in (
       c.cite_invariant.ensures.worlds.marked other known marked,
       marks_in_host (call_of file) _ (with_running s hart file) hart said.answer said.zero mid other (c.requires.awake other before) step marked,
     ))
@@ -44,8 +45,8 @@ returns-in-Err-clause-served g c =
     let kept = host_words c.keep_words.new.hosts in
     call_unanswered c.in-Err.fault (IsAnswer now (given_on now kept trap.hart) trap.hart said.answer said.zero c.wake_all-woken.result) trap said.answer s now
     (host_words c.args.hosts.now) kept _ _ _
-    (λ bytes is. call_answered s (state_by c.put_registers.new.self) (state_by c.serve-served.new.self) now (host_words c.args.hosts.now) kept trap _ said.answer
-    said.zero c.wake_all-woken.result c.harts-most.result bytes c.requires.call c.put_registers.ensures.state c.serve-served.ensures.step
+    (λ bytes is. call_answered s (state_by c.put_registers.new.self) (state_by c.serve-served.new.self) now (host_words c.args.hosts.now) kept trap _
+    said.answer said.zero c.wake_all-woken.result c.harts-most.result bytes c.requires.call c.put_registers.ensures.state c.serve-served.ensures.step
     c.serve-served.ensures.platform c.cite_invariant.ensures.table c.harts-most.ensures.value c.harts-most.ensures.most c.wake_all-woken.ensures.state
     c.wake_all-woken.ensures.marks c.keep_words.ensures is) c.in-Err.ensures.bytes
 
