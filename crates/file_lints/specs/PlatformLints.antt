@@ -24,7 +24,8 @@ abbrev pub Says : List ℕ → Option Members → List ℕ → Type 0
 Says text None said = IsSyntaxText text said
 Says text (Some document) said =
     (breach : Breach) × IsFirstBreach document breach × (position : List ℕ)
-    × IsPosition text (sought_by breach) (word_about breach) position × (said ≡ position ++ breach_text breach)
+    × IsPosition text (sought_by breach) (word_about breach) position
+    × (said ≡ position ++ breach_text breach)
 
 -- the line for a text that is no platform
 abbrev pub IsFinding : List ℕ → List ℕ → List ℕ → Type 0
