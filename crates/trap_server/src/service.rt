@@ -172,8 +172,8 @@ fn measure_made<R: Source, W: Sink>(
     }
 }
 
-/// Serves the call in the registers of a trap. An enclave that it made is measured after the answer: so others may run their
-/// worlds meanwhile, to which its pages are closed by then.
+/// Serves the call in the registers of a trap. An enclave that it made is measured after the answer, and has a digest of zeros
+/// until then: so others may run their worlds meanwhile, to which its pages are closed by then.
 #[inline(always)]
 fn serve_call<R: Source, W: Sink>(
     monitor: &mut Monitor,
