@@ -7,9 +7,9 @@
 //!
 //! For the layer above: each trap that is served is one step of the monitor (`monitor_core`), and its answer is written
 //! before the next is read. The control words of the host of each hart are kept here while an enclave runs, and each world
-//! goes on with its own. A creation that passes its checks has its pages read once, by rising address, and
-//! measured as they come; nothing else is ever asked for. A frame that is not understood ends the loop with a frame of its
-//! own, and changes nothing.
+//! goes on with its own. After the answer to a creation that was done, the pages of the new enclave are read once, by
+//! rising address, and measured as they come; nothing else is ever asked for. A frame that is not understood ends the loop
+//! with a frame of its own, and changes nothing.
 //!
 //! ```text
 //! let served = serve_traps(alloc, &mut source, &mut sink);

@@ -1,8 +1,11 @@
 //! How a trap is served, and its answer written.
 
-ghost use Rattle.std.specs.Prelude.{◌≡◌, ◌<◌, ℕ, List, Option};
+ghost use Rattle.std.specs.Prelude.{◌≡◌, ◌<◌, ℕ, List, Option, IfNone, IfSome};
+ghost use Rattle.sbi_decode.specs.Calls.{call_of};
+ghost use Rattle.measurement.specs.declared.request.Create.{Create as CreateParts};
 ghost use Rattle.enclave_table.specs.Enclaves.{Live};
 ghost use Rattle.enclave_table.specs.declared.enclave.Enclave.{Enclave};
+ghost use Rattle.monitor_core.specs.Measured.{IsMade, asked_in};
 ghost use Rattle.monitor_core.specs.Monitors.{state_by};
 ghost use Rattle.monitor_core.specs.Changes.{without_mark};
 ghost use Rattle.trap_server.specs.Given.{host_words, keeping};
@@ -129,6 +132,18 @@ fn keep_words(monitor: &Monitor, hosts: &mut HostWords, trap: &Trap)
     hosts.save(trap.hart, monitor.world(trap.hart), &trap.control);
 }
 
+/// The parts of an enclave that a call made, if it made one. It is not inlined: so a trap is in memory, and its registers are
+/// copied from there at once.
+#[inline(never)]
+fn made_by(answer: &Answer, trap: &Trap) -> Option<Create>
+    ensures some { IfSome result (λ parts.
+        IsMade (asked_in (call_of trap.now.registers)) answer.now parts) }
+    ensures none { IfNone result ((parts : CreateParts)
+        → IsMade (asked_in (call_of trap.now.registers)) answer.now parts → ⊥) }
+{
+    answer.made(&trap.registers)
+}
+
 /// Gives an enclave that was made the digest of its pages, which are asked for and read. It is not inlined: no other call needs
 /// what it has on the stack.
 #[inline(never)]
@@ -157,8 +172,8 @@ fn measure_made<R: Source, W: Sink>(
     }
 }
 
-/// Serves the call in the registers of a trap. An enclave that it made is measured after the answer: so others may run their
-/// worlds meanwhile, to which its pages are closed by then.
+/// Serves the call in the registers of a trap. An enclave that it made is measured after the answer, and has a digest of zeros
+/// until then: so others may run their worlds meanwhile, to which its pages are closed by then.
 #[inline(always)]
 fn serve_call<R: Source, W: Sink>(
     monitor: &mut Monitor,
@@ -198,7 +213,7 @@ fn serve_call<R: Source, W: Sink>(
         Ok(()) => {}
         Err(fault) => return Err(fault),
     }
-    let Some(parts) = served.answer.made(&trap.registers) else {
+    let Some(parts) = made_by(&served.answer, trap) else {
         return Ok(());
     };
     measure_made(monitor, served.answer.value, &parts, source, sink)
