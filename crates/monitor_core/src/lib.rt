@@ -4,8 +4,9 @@
 //! of every host and enclave, and which harts are marked. [`Monitor::serve`] serves the call that the world on a hart made,
 //! by its registers; it gives back the call's answer, and the pages that the caller makes zero before the hart goes on.
 //! [`Monitor::interrupt`] does the same for the timer. Who knows the digest of an enclave that is created is lent to it:
-//! memory, whose pages are measured then, or a digest that was taken before. [`Monitor::entries`] are the PMP entries that a
-//! hart is to have.
+//! memory, whose pages are measured then, or a digest that was taken before. One that is taken after the answer is given
+//! later: [`Answer::made`] says of which enclave, and [`Monitor::give_digest`] puts it there. [`Monitor::entries`] are the
+//! PMP entries that a hart is to have.
 //!
 //! For the layer above: each call is a step of the small machine in `specs/Steps`, which has no PMP entries and no bytes in
 //! it. On every state the entries of a hart mean what its world may do, and no list of entries of any regions in any order
