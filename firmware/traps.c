@@ -55,8 +55,6 @@ int serve_alone(void)
     struct harts seen = harts;
     struct action action;
     struct world *world = decide(&seen, &action);
-    if (action.kind == GO_ON)
-        return !take_requests();
     if (action.kind == ENCLAVE_TICK)
         host_timer_came();
     if (action.kind >= START_HART)
@@ -86,8 +84,6 @@ static __attribute__((noinline)) uint64_t one_trap(void)
         act_with_lock(world, &action);
         return 0;
     }
-    if (action.kind == MONITOR_ALONE)
-        stop_harts();
     if (action.kind < ENCLAVE_CALL)
         return TAG_CALL;
     caller = &callers[this_hart()];
