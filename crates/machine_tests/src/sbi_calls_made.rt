@@ -116,7 +116,7 @@ const ANSWERS: &[Row] = &[
     ([0x4442_434e, 2, 0x141, 0], [8, 0, 0, 0x41]),
     ([0x4442_434e, 0, 1, 0], [3, NOT_SUPPORTED, 0, 0]),
     // The monitor's, and the firmware's own; and an extension that there is not
-    ([0x0845_4e43, 1, 1, 0], [15, 0, 0, 0]),
+    ([0x0845_4e43, 1, 1, 0], [14, 0, 0, 0]),
     ([0x0845_4e43, 2, 1, 0], [14, 0, 0, 0]),
     ([0x0a45_4e43, 0, 0, 0], [3, 0, 24, 0]),
     ([0x0a45_4e43, 1, 0, 0], [3, 0, 25, 0]),
@@ -160,11 +160,11 @@ const TRAPS: &[Trap] = &[
     (World::Host, 10, 2),
     (World::Host, 2, 2),
     (World::Enclave(1), INTERRUPT | 3, 0),
-    (World::Enclave(1), INTERRUPT | 7, 18),
-    (World::Enclave(1), INTERRUPT | 5, 17),
-    (World::Enclave(1), 8, 16),
-    (World::Enclave(1), 9, 17),
-    (World::Enclave(1), 5, 17),
+    (World::Enclave(1), INTERRUPT | 7, 17),
+    (World::Enclave(1), INTERRUPT | 5, 16),
+    (World::Enclave(1), 8, 15),
+    (World::Enclave(1), 9, 16),
+    (World::Enclave(1), 5, 16),
 ];
 
 /// Each trap, with the registers of the call that stops a hart, is whose its row says.

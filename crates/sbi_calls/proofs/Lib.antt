@@ -2,4 +2,3 @@ mod BitLemmas
 mod HartLists
 mod StartLemmas
 mod Starts
-mod Alone

@@ -10,7 +10,7 @@ use Rattle.sbi_calls.specs.declared.outcome.Outcome.TheVariants.{Value, Error, S
 use Rattle.sbi_calls.specs.declared.outcome.Outcome.TheVariants.{FenceInstructions, PutByte}
 use Rattle.sbi_calls.specs.declared.outcome.Outcome.TheVariants.{FenceTranslations, StartHart}
 use Rattle.sbi_calls.specs.declared.outcome.Outcome.TheVariants.{StopHart, ShutDown, Fail, Reboot}
-use Rattle.sbi_calls.specs.declared.outcome.Outcome.TheVariants.{Monitor, MonitorAlone}
+use Rattle.sbi_calls.specs.declared.outcome.Outcome.TheVariants.{Monitor}
 use Rattle.sbi_calls.specs.Errors.{error_word}
 
 -- what is done with a subject, and is answered SBI_SUCCESS and 0 where it is answered
@@ -57,14 +57,13 @@ outcome_action ShutDown = plain 11 0
 outcome_action Fail = plain 12 0
 outcome_action Reboot = plain 13 0
 outcome_action Monitor = plain 14 0
-outcome_action MonitorAlone = plain 15 0
 
 -- what is done at a trap
 abbrev pub action_of : Decision → Action
 action_of GoOn = plain 0 0
 action_of Tick = plain 1 0
 action_of ToHandler = plain 2 0
-action_of EnclaveCall = plain 16 0
-action_of EnclaveStop = plain 17 0
-action_of EnclaveTick = plain 18 0
+action_of EnclaveCall = plain 15 0
+action_of EnclaveStop = plain 16 0
+action_of EnclaveTick = plain 17 0
 action_of (Host outcome) = outcome_action outcome

@@ -9,8 +9,8 @@ use Rattle.sbi_calls.specs.declared.extension.Extension.TheVariants as extension
 use Rattle.sbi_calls.specs.declared.harts.Harts.{Harts}
 use Rattle.sbi_calls.specs.declared.host_call.HostCall.{HostCall}
 use Rattle.sbi_calls.specs.declared.outcome.Outcome.{Outcome}
-use Rattle.sbi_calls.specs.declared.outcome.Outcome.TheVariants.{Error, Monitor, MonitorAlone}
-use Rattle.sbi_calls.specs.declared.outcome.Outcome.TheVariants.{PutByte, SetTimer}
+use Rattle.sbi_calls.specs.declared.outcome.Outcome.TheVariants.{Error, Monitor, PutByte}
+use Rattle.sbi_calls.specs.declared.outcome.Outcome.TheVariants.{SetTimer}
 use Rattle.sbi_calls.specs.Base.{base_outcome, stops_outcome}
 use Rattle.sbi_calls.specs.Extensions.{extension_of}
 use Rattle.sbi_calls.specs.Hsm.{hsm_outcome}
@@ -25,13 +25,6 @@ time_outcome call = if call.function == 0 then SetTimer call.a0 else Error NotSu
 abbrev pub console_outcome : HostCall → Outcome
 console_outcome call = if call.function == 2 then PutByte (call.a0 % 256) else Error NotSupported
 
--- the monitor's: no other hart runs a world while an enclave is created (0) or destroyed (1)
-abbrev pub monitor_outcome : HostCall → Outcome
-monitor_outcome call =
-    if call.function == 0 then MonitorAlone
-    else if call.function == 1 then MonitorAlone
-    else Monitor
-
 -- the call is the start of a hart
 abbrev pub IsStart : HostCall → Type 0
 IsStart call = (extension_of call.extension ≡ Some Hsm) × (call.function ≡ 0)
@@ -45,7 +38,7 @@ outcome_by (Some Rfence) call caller harts executable = rfence_outcome call hart
 outcome_by (Some Hsm) call caller harts executable = hsm_outcome call harts executable
 outcome_by (Some Srst) call caller harts executable = srst_outcome call
 outcome_by (Some Console) call caller harts executable = console_outcome call
-outcome_by (Some extensions.Monitor) call caller harts executable = monitor_outcome call
+outcome_by (Some extensions.Monitor) call caller harts executable = Monitor
 outcome_by (Some Stops) call caller harts executable = stops_outcome call.function caller
 outcome_by None call caller harts executable = Error NotSupported
 

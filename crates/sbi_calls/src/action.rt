@@ -81,7 +81,6 @@ fn outcome_action(outcome: Outcome) -> Action
         Outcome::Fail => plain(12, 0),
         Outcome::Reboot => plain(13, 0),
         Outcome::Monitor => plain(14, 0),
-        Outcome::MonitorAlone => plain(15, 0),
     }
 }
 
@@ -93,9 +92,9 @@ pub fn action_of(decision: Decision) -> Action
         Decision::GoOn => plain(0, 0),
         Decision::Tick => plain(1, 0),
         Decision::ToHandler => plain(2, 0),
-        Decision::EnclaveCall => plain(16, 0),
-        Decision::EnclaveStop => plain(17, 0),
-        Decision::EnclaveTick => plain(18, 0),
+        Decision::EnclaveCall => plain(15, 0),
+        Decision::EnclaveStop => plain(16, 0),
+        Decision::EnclaveTick => plain(17, 0),
         Decision::Host(outcome) => outcome_action(outcome),
     }
 }

@@ -1,7 +1,7 @@
 //! A call of the host, by its extension.
 
 ghost use Rattle.std.specs.Prelude.{◌≡◌, ◌≢◌, Bool};
-ghost use Rattle.sbi_calls.specs.Dispatch.{IsStart, console_outcome, monitor_outcome, outcome_of, time_outcome};
+ghost use Rattle.sbi_calls.specs.Dispatch.{IsStart, console_outcome, outcome_of, time_outcome};
 ghost use Rattle.sbi_calls.specs.Named.{NamesBoard};
 ghost use Rattle.sbi_calls.specs.StartAddresses.{IsExecutable};
 
@@ -38,16 +38,6 @@ fn console_outcome(call: &HostCall) -> Outcome
     }
 }
 
-/// A call of the monitor. While it creates or destroys an enclave no other hart runs a world.
-fn monitor_outcome(call: &HostCall) -> Outcome
-    ensures { result ≡ monitor_outcome call.now }
-{
-    match call.function {
-        0 | 1 => Outcome::MonitorAlone,
-        _ => Outcome::Monitor,
-    }
-}
-
 /// What a call of the host's supervisor mode comes to, on a hart that has these entries.
 pub fn outcome_of(call: &HostCall, caller: &Caller, harts: &Harts, bank: &BankWords) -> Outcome
     ensures start { (executable : Bool) → IsExecutable bank.now call.now.a1 executable
@@ -65,7 +55,7 @@ pub fn outcome_of(call: &HostCall, caller: &Caller, harts: &Harts, bank: &BankWo
         Some(Extension::Hsm) => hsm_outcome(call, harts, bank),
         Some(Extension::Srst) => srst_outcome(call),
         Some(Extension::Console) => console_outcome(call),
-        Some(Extension::Monitor) => monitor_outcome(call),
+        Some(Extension::Monitor) => Outcome::Monitor,
         Some(Extension::Stops) => stops_outcome(call.function, caller),
         None => Outcome::Error(SbiError::NotSupported),
     }

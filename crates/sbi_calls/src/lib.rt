@@ -3,7 +3,7 @@
 //! The firmware asks for a [`Decision`] at each trap, and does what it says. It is by the cause, the world that trapped, the
 //! host's call, the states of the harts and the entries that the host has. Nothing here takes memory or reads a register.
 //!
-//! For the layer above: a call of an enclave stops no hart and reaches no function of SBI ([`enclave_law`]). An interrupt, a fence or a start
+//! For the layer above: no trap of an enclave reaches a function of SBI ([`enclave_law`]). An interrupt, a fence or a start
 //! names harts of the board alone. A hart is in one state of SBI's at a time, and [`decide`] leads from state to state as its
 //! chapter 9 has it.
 //!
@@ -48,7 +48,7 @@ pub use hart_lists::hart_list;
 pub use harts::{HartState, Harts};
 pub use host_call::HostCall;
 pub use hsm::hsm_outcome;
-pub use laws::{alone_law, enclave_law};
+pub use laws::enclave_law;
 pub use outcome::Outcome;
 pub use owner::{TrapOwner, owner_of, world_of};
 pub use remote::{ipi_outcome, rfence_outcome};

@@ -36,6 +36,4 @@ pub enum Outcome {
     Reboot,
     /// The monitor answers.
     Monitor,
-    /// The monitor answers, and no other hart runs a world meanwhile.
-    MonitorAlone,
 }
