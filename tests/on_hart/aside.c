@@ -1,8 +1,9 @@
 /*
- * What hart 1 notices of a call of hart 0: whether it was stopped, and for how many instructions it stood still at most. With -icount
- * shift=10 QEMU counts those of all harts: each takes 1,024 ns. There the harts take turns of 100 ms of this time.
+ * What hart 2 notices of a call of hart 0: whether it was stopped, and for how many instructions it stood still at most. With -icount
+ * shift=10 QEMU counts those of all harts: each takes 1,024 ns. The harts take turns of 100 ms of this time; hart 1 is parked, since
+ * who comes after one that used all of its turn may get none.
  *
- * Hart 1 has a reservation meanwhile, which each trap to the monitor takes (sc.d in trap.S). KIND is the pages of the enclave.
+ * Hart 2 has a reservation meanwhile, which each trap to the monitor takes (sc.d in trap.S). KIND is the pages of the enclave.
  */
 #include "harts.h"
 
@@ -81,7 +82,7 @@ static void without_entries(void)
         pmpmon_destroy(count--);
 }
 
-/* Hart 1 is in an enclave while hart 0 makes another. */
+/* Hart 2 is in an enclave while hart 0 makes another. */
 static void in_enclave(void)
 {
     memset((void *)BASE, 0, 2 * PAGE);
@@ -100,7 +101,7 @@ static void in_enclave(void)
 void host_main(void)
 {
     memset((void *)BASE, 1, KIND * PAGE);
-    start(1, watch);
+    start(2, watch);
     begin();
     for (uint64_t until = time() + 10000000; time() < until;) /* ten turns */
         ;

@@ -412,7 +412,7 @@ TURN = 97656
 def aside(folder, told):
     """What another hart notices of the calls of a host, of which one makes an enclave of 1,024 pages."""
     payload = host(folder / "aside.elf", "harts.S", "aside_enclave.S", "aside.c")
-    said = booted(folder / "with/pmpmon-virt.elf", payload, 2, *kind(1024), "-icount", "shift=10")
+    said = booted(folder / "four/pmpmon-virt.elf", payload, 4, *kind(1024), "-icount", "shift=10")
     rows = re.findall(r"(.+): (-?\d+), (not )?stopped, still (\d+)\n", said)
     stopped = {name for name, _, left_alone, _ in rows if not left_alone}
     right = {name: int(error) for name, error, _, _ in rows} == ASIDE and stopped == {"create", "destroy"}
