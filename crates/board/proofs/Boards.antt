@@ -20,6 +20,11 @@ use Rattle.board.proofs.Floats.{computed_kept, runs_there}
 use Rattle.board.proofs.FloatsKept.{floats_kept}
 use Rattle.board.proofs.Trapped.{trap_kept}
 
+-- what the theorem of a board says
+abbrev pub BoardHolds : Type 0
+BoardHolds = (layout : PlatformLayout) (opened : List ℕ) (events : List BoardEvent) (board : Board) (run : BoardRun layout opened events board)
+    → IsLayout layout → IsFirstAnswer layout opened → BoardHeadline layout opened events board run
+
 -- what the firmware's theorem says
 abbrev FirmwareHolds : Type 0
 FirmwareHolds =
@@ -67,7 +72,7 @@ module _ (law : FirmwareHolds) (steps : StepsPromise) (layout : PlatformLayout) 
   -- a trap more
   abbrev next_served :
       (came gone : List ℕ) (old : Board) (trap : Trap) (frame read question answered : List ℕ) (new : Board) → IsServed layout opened came gone old
-      → DoesTrap old trap frame read question answered new → IsServed layout opened (came ++ (frame ++ read)) (gone ++ (question ++ answered)) new
+      → DoesTrap old trap frame read question answered new → IsServed layout opened (came ++ (frame ++ read)) (gone ++ (answered ++ question)) new
   next_served came gone old trap frame read question answered new before x = record {
     served = next_trap before.served trap frame read question answered new.monitor new.hosts x.size x.is_trap x.served;
     loads = λ hart. x.loads hart ∙ ap (λ bytes. if is_loaded answered hart then answered else bytes) (before.loads hart);
@@ -90,7 +95,7 @@ module _ (law : FirmwareHolds) (steps : StepsPromise) (layout : PlatformLayout) 
       (subst AreMeasured (sym x.state) before.measured) (before.each, computed_kept old hart floats new before.worlds x)
   by_event events old new run (trapped trap frame read question answered) x before =
       let next = next_served (read_on run) (written_on run) old trap frame read question answered new before.served x in
-      let f = firmware (read_on run ++ (frame ++ read)) (written_on run ++ (question ++ answered)) new next in
+      let f = firmware (read_on run ++ (frame ++ read)) (written_on run ++ (answered ++ question)) new next in
       let k = f.each.1 in
       let kept = trap_kept old trap frame read question answered new before.table x k in
       let floats = floats_kept old trap frame read question answered new (ap (λ l. l.harts) (f.platform ∙ sym before.platform)) before.table f.table

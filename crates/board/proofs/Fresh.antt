@@ -37,6 +37,7 @@ use Rattle.trap_server.specs.declared.words.ControlWords.{ControlWords}
 use Rattle.trap_server.specs.Service.{ServesAs}
 use Rattle.board.specs.Board.{Board, DoesTrap}
 use Rattle.board.specs.Headline.{AreMeasured, KeepsAccess, KeepsMemory}
+use Rattle.board.specs.Stays.{KeepsFreshPages}
 use Rattle.board.proofs.Made.{Absent}
 
 -- where one place of a table is written, an enclave stands there, or where it stood
@@ -135,8 +136,9 @@ fresh_served :
     → ServesAs event s trap given read question answered new → Live s.table id e ⊎ Absent s.table id
 fresh_served traps.Call s trap given read question answered new id e right live fresh x =
     let file = past_call trap.registers in
-    let now : Live x.mid.table id e = subst (λ (y : MonitorState). Live y.table id e) x.woken live in
-    fresh_call (call_of file) (λ parts. x.digest) (with_running s trap.hart file) trap.hart x.answer x.cleared x.mid id e right now fresh x.step
+    let a = x.answers in
+    let now : Live a.mid.table id e = subst (λ (y : MonitorState). Live y.table id e) a.woken live in
+    fresh_call (call_of file) (λ parts. x.digest) (with_running s trap.hart file) trap.hart x.answer a.cleared a.mid id e right now fresh a.step
 fresh_served traps.Stop s trap given read question answered new id e right live fresh x =
     let now : Live x.mid.table id e = subst (λ (y : MonitorState). Live y.table id e) x.woken live in
     inl (fresh_irq (s.worlds trap.hart) (with_running s trap.hart trap.registers) trap.hart x.mid id e now fresh x.step)
@@ -165,9 +167,10 @@ none_gone :
     → (other : ℕ) (g : Enclave) → Live s.table other g → Absent new.table other → ⊥
 none_gone traps.Call s trap given read question answered new id e none live x other g was gone =
     let file = past_call trap.registers in
-    let now : Live x.mid.table id e = subst (λ (y : MonitorState). Live y.table id e) x.woken live in
-    let lost : Absent x.mid.table other = subst (λ (y : MonitorState). Absent y.table other) x.woken gone in
-    kept_call (call_of file) (λ parts. x.digest) (with_running s trap.hart file) trap.hart x.answer x.cleared x.mid id e none now x.step other g was lost
+    let a = x.answers in
+    let now : Live a.mid.table id e = subst (λ (y : MonitorState). Live y.table id e) a.woken live in
+    let lost : Absent a.mid.table other = subst (λ (y : MonitorState). Absent y.table other) a.woken gone in
+    kept_call (call_of file) (λ parts. x.digest) (with_running s trap.hart file) trap.hart x.answer a.cleared a.mid id e none now a.step other g was lost
 none_gone traps.Stop s trap given read question answered new id e none live x other g was gone =
     let lost : Absent x.mid.table other = subst (λ (y : MonitorState). Absent y.table other) x.woken gone in
     lost_irq (s.worlds trap.hart) (with_running s trap.hart trap.registers) trap.hart x.mid other g was lost x.step
@@ -204,17 +207,30 @@ same_measured memory other parts same =
     same byte (ap (is_private parts) here ∙ own))))
 
 -- over an access: who stores is Running
+pub stays_over_access : (old : Board) (hart : ℕ) (a : Access) (said : Result (Unit {0}) Cause) (new : Board) → ArePlaced old.monitor
+    → hart < old.monitor.table.layout.harts → KeepsAccess old hart a said new → KeepsFreshPages old new
+stays_over_access old hart a said new placed known k = λ id byte e own fresh. elim (k.private id byte e own) [
+  | inl stays ↦ stays
+  | inr store ↦
+      let current : IsCurrent old.monitor.table (InEnclave id) = subst (IsCurrent old.monitor.table) store.own (placed.current hart known) in
+      let one : current.0 ≡ e = same_Some current.0 e (sym current.1 ∙ own.0) in
+      absurd (running_differs (sym current.2 ∙ ap (λ (f : Enclave). f.state) one ∙ fresh))
+]
+
 pub measured_access : (old : Board) (hart : ℕ) (a : Access) (said : Result (Unit {0}) Cause) (new : Board) → ArePlaced old.monitor
     → hart < old.monitor.table.layout.harts → new.monitor ≡ old.monitor → KeepsAccess old hart a said new → AreMeasured old → AreMeasured new
 measured_access old hart a said new placed known same k before = λ id e live fresh.
     let was : Live old.monitor.table id e = subst (λ (m : MonitorState). Live m.table id e) same live in
-    before id e was fresh ∙ same_measured old.memory new.memory e.parts (λ byte own. elim (k.private id byte e (was, own)) [
-      | inl stays ↦ sym stays
-      | inr store ↦
-          let current : IsCurrent old.monitor.table (InEnclave id) = subst (IsCurrent old.monitor.table) store.own (placed.current hart known) in
-          let one : current.0 ≡ e = same_Some current.0 e (sym current.1 ∙ was) in
-          absurd (running_differs (sym current.2 ∙ ap (λ (f : Enclave). f.state) one ∙ fresh))
-    ])
+    before id e was fresh
+    ∙ same_measured old.memory new.memory e.parts (λ byte own. sym (stays_over_access old hart a said new placed known k id byte e (was, own) fresh))
+
+-- over the trap that made an enclave
+pub stays_over_creation : (old : Board) (trap : Trap) (frame read question answered : List ℕ) (new : Board)
+    → DoesTrap old trap frame read question answered new → KeepsMemory old new → (id byte : ℕ) (e : Enclave) → Absent old.monitor.table id
+    → Live new.monitor.table id e → new.memory byte ≡ old.memory byte
+stays_over_creation old trap frame read question answered new x k id byte e none live =
+    k.stays (λ other gone. none_gone trap.event old.monitor trap x.served.given read question answered new.monitor id e none live x.served.step
+    other gone.0 gone.1 gone.2) byte
 
 -- over a trap
 pub measured_trap : (old : Board) (trap : Trap) (frame read question answered : List ℕ) (new : Board) → IsTable old.monitor.table
@@ -223,6 +239,5 @@ measured_trap old trap frame read question answered new right x k before = λ id
     elim (fresh_served trap.event old.monitor trap x.served.given read question answered new.monitor id e right live fresh x.served.step) [
       | inl was ↦ before id e was fresh ∙ same_measured old.memory new.memory e.parts (λ byte own. sym (k.private id byte e e (was, own) (live, own)))
       | inr none ↦ k.digest id e none live ∙ same_measured old.memory new.memory e.parts
-          (λ byte own. sym (k.stays (λ other gone. none_gone trap.event old.monitor trap x.served.given read question answered new.monitor id e none live
-          x.served.step other gone.0 gone.1 gone.2) byte))
+          (λ byte own. sym (stays_over_creation old trap frame read question answered new x k id byte e none live))
     ]

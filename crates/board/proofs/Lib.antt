@@ -14,7 +14,10 @@ mod TrapFrames
 mod Judged
 mod Rooms
 mod Follows
+mod OnBoards
 mod TrapsOn
 mod Asked
-mod ModelSteps
+mod ModelAccesses
+mod ModelTraps
 mod Modelled
+mod Stayed

@@ -14,7 +14,7 @@ use Rattle.enclave_table.specs.Enclaves.{EnclaveTable, Live, enclave_at, with_en
 use Rattle.enclave_table.specs.declared.enclave.Enclave.{Enclave}
 use Rattle.enclave_table.specs.Tables.{IsTable}
 use Rattle.enclave_table.proofs.Places.{live_above, set_same, set_other}
-use Rattle.monitor_core.specs.Measured.{Measures, asked_in}
+use Rattle.monitor_core.specs.Measured.{IsMade, asked_in}
 use Rattle.monitor_core.specs.States.{MonitorState}
 use Rattle.monitor_core.specs.Steps.{DoesCall, Interrupts}
 use Rattle.monitor_core.specs.declared.answer.Answer.{Answer}
@@ -23,9 +23,9 @@ use Rattle.monitor_core.proofs.Cases.{both}
 abbrev pub Absent : EnclaveTable → ℕ → Type 0
 Absent table id = enclave_at table.enclaves id ≡ None
 
--- it was created: these are the parts that were asked for and passed the checks, and the digest is theirs
-abbrev pub IsMade : Option Create → (Create → List ℕ) → MonitorState → ℕ → Enclave → Type 0
-IsMade asked digests s hart e = Measures asked s.table (s.worlds hart) e.parts × (e.digest ≡ digests e.parts)
+-- it was created: these are the parts that were asked for, and the digest is theirs
+abbrev pub IsCreated : Option Create → Answer → (Create → List ℕ) → Enclave → Type 0
+IsCreated asked answer digests e = IsMade asked answer e.parts × (e.digest ≡ digests e.parts)
 
 -- where the table stays none is new
 pub same_table : (table new : EnclaveTable) (id : ℕ) (e : Enclave) → new ≡ table → Absent table id → Live new id e → ⊥
@@ -55,7 +55,7 @@ created table new k id made e is above inside none live = both (id == k)
 pub made_call :
     (call : Option Call) (digests : Create → List ℕ) (s : MonitorState) (hart : ℕ) (answer : Answer) (zero : Option PageRange) (new : MonitorState) (id : ℕ)
     (e : Enclave) → IsTable s.table → Absent s.table id → Live new.table id e
-    → DoesCall call digests s hart answer zero new → IsMade (asked_in call) digests s hart e
+    → DoesCall call digests s hart answer zero new → IsCreated (asked_in call) answer digests e
 made_call None digests s hart answer zero new id e right none live x = absurd (same_table s.table new.table id e (ap (λ y. y.table) x.state) none live)
 made_call (Some (calls.Create base text_pages data_pages shared_base shared_count entry_offset)) digests s hart answer zero new id e right none live (inl x) =
     let asked : Create = record {
@@ -70,7 +70,7 @@ made_call (Some (calls.Create base text_pages data_pages shared_base shared_coun
     let high = free.1 in
     let inside : x.0 - 1 < length s.table.enclaves = omega (arith, free.0, high, right.places) in
     let same = created s.table new.table x.0 id (fresh digests (parts_of asked)) e (ap (λ y. y.table) x.3.state ∙ x.2.added) free.0 inside none live in
-    subst (IsMade (Some asked) digests s hart) same ((refl, x.2.passes), refl)
+    subst (IsCreated (Some asked) answer digests) same ((refl, ap (λ a. a.status) x.3.told), refl)
 made_call (Some (calls.Create base text_pages data_pages shared_base shared_count entry_offset)) digests s hart answer zero new id e right none live
     (inr x) = absurd (same_table s.table new.table id e (ap (λ y. y.table) x.2.state) none live)
 made_call (Some (calls.Destroy k)) digests s hart answer zero new id e right none live (inl x) =

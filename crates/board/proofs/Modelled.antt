@@ -20,17 +20,13 @@ use Rattle.hart_sim.specs.States.{MachineState, awoken, opening_state}
 use Rattle.hart_sim.specs.Steps.{Accesses, DoesEvent, IsEvent, Run, TakesEffect, step, still, verdict}
 use Rattle.trap_server.specs.Boot.{IsFirstAnswer}
 use Rattle.trap_server.specs.Runs.{first_words}
-use Rattle.board.specs.Board.{Board, BoardEvent, BoardRun, booted, no_floats}
-use Rattle.board.specs.Headline.{BoardHeadline}
+use Rattle.board.specs.Board.{BoardEvent, booted, no_floats}
 use Rattle.board.specs.Model.{AreSeen, RunsOnBoard}
-use Rattle.board.proofs.ModelSteps.{IsGood, Next, access_next, call_next, irq_next, reg_next, stop_next, trap_next}
+use Rattle.board.proofs.Boards.{BoardHolds}
+use Rattle.board.proofs.ModelAccesses.{access_next, reg_next}
+use Rattle.board.proofs.ModelTraps.{call_next, irq_next, stop_next, trap_next}
+use Rattle.board.proofs.OnBoards.{IsGood, Next, OnBoard, board_of}
 use Rattle.board.proofs.Rooms.{AllFit}
-use Rattle.board.proofs.TrapsOn.{OnBoard, board_of}
-
--- what the theorem of a board says
-abbrev BoardHolds : Type 0
-BoardHolds = (layout : PlatformLayout) (opened : List ℕ) (events : List BoardEvent) (board : Board) (run : BoardRun layout opened events board)
-    → IsLayout layout → IsFirstAnswer layout opened → BoardHeadline layout opened events board run
 
 -- an access leaves the table
 took_table : (kind : Kind) (s : MachineState) (a : Access) (value : ℕ) (reply : Reply) (new : MachineState) → TakesEffect kind s a value reply new

@@ -1,5 +1,5 @@
--- An answer says which enclave is new, and says it of no other.
-use Rattle.std.proofs.Common.{◌≡◌, ◌≢◌, ◌⊎◌, ◌∙◌, inl, inr, ℕ, pos, ◌-◌, ◌%◌, ◌^◌, ◌<◌, ◌≤◌, List, [], length, Option, Some, None, refl, ap, sym, subst, arith}
+-- A trap says which enclave is new, and says it of no other.
+use Rattle.std.proofs.Common.{◌≡◌, ◌≢◌, ◌∙◌, inl, inr, ℕ, pos, ◌-◌, ◌%◌, ◌^◌, ◌<◌, ◌≤◌, List, [], length, Option, Some, None, refl, ap, sym, subst, arith}
 use Rattle.std.proofs.lemmas.Option.{same_Some}
 use Rattle.pmp_encoding.specs.declared.pages.PageRange.{PageRange}
 use Rattle.measurement.specs.Requests.{parts_of}
@@ -16,17 +16,16 @@ use Rattle.enclave_table.specs.Tables.{IsTable}
 use Rattle.enclave_table.specs.declared.enclave.Enclave.{Enclave}
 use Rattle.enclave_table.specs.declared.enclave.Stage.TheVariants.{Fresh}
 use Rattle.enclave_table.specs.declared.refusal.Refusal.{Refusal}
-use Rattle.enclave_table.specs.declared.refusal.Refusal.TheVariants as refusals
 use Rattle.enclave_table.proofs.Places.{set_same}
 use Rattle.monitor_core.specs.Answers.{below_zero, world_number}
 use Rattle.monitor_core.specs.Changes.{past_call, with_running}
-use Rattle.monitor_core.specs.Measured.{Measures, asked_in}
+use Rattle.monitor_core.specs.Measured.{IsMade, asked_in}
 use Rattle.monitor_core.specs.States.{MonitorState, running_registers}
 use Rattle.monitor_core.specs.Steps.{DoesCall}
 use Rattle.monitor_core.specs.declared.answer.Answer.{Answer}
 use Rattle.trap_server.specs.Answered.{head_of, marks_of, status_word}
 use Rattle.trap_server.specs.PageDigest.{question_of}
-use Rattle.trap_server.specs.Service.{ServesAs, ServesCall}
+use Rattle.trap_server.specs.Service.{AnswersCall, ServesAs, ServesCall}
 use Rattle.trap_server.specs.Words.{word_at}
 use Rattle.trap_server.specs.declared.trap.TrapEvent.{TrapEvent}
 use Rattle.trap_server.specs.declared.trap.TrapEvent.TheVariants as traps
@@ -34,10 +33,10 @@ use Rattle.trap_server.specs.declared.trap.Trap.{Trap}
 use Rattle.trap_server.specs.declared.words.ControlWords.{ControlWords}
 use Rattle.board.specs.Board.{SaysMade}
 use Rattle.board.proofs.Fresh.{placed}
-use Rattle.board.proofs.Made.{Absent, made_call, made_irq, same_table}
+use Rattle.board.proofs.Made.{Absent, made_call, made_irq}
 use Rattle.board.proofs.Named.{Says, says}
 
--- a creation that passes its checks is done, and answered with the number of the enclave
+-- a creation that was done is answered with the number of the enclave
 pub record IsDone (s : MonitorState) (answer : Answer) (new : MonitorState) : Type 0 where
   pub id : ℕ
   pub made : Enclave
@@ -48,16 +47,13 @@ pub record IsDone (s : MonitorState) (answer : Answer) (new : MonitorState) : Ty
   pub table : new.table ≡ with_enclave s.table id (Some made)
   pub fresh : made.state ≡ Fresh
 
--- or it is refused
-pub record IsRefused (s : MonitorState) (answer : Answer) (new : MonitorState) : Type 0 where
-  pub refusal : Refusal
-  pub told : answer ≡ record { status = below_zero (refusal_number refusal); value = 0 }
-  pub table : new.table ≡ s.table
+-- no refusal has the status of what was done
+done_status : (refusal : Refusal) → below_zero (refusal_number refusal) ≢ pos 0
+done_status refusal is = cc
 
 ended :
     (call : Option Call) (digests : Create → List ℕ) (s : MonitorState) (hart : ℕ) (answer : Answer) (zero : Option PageRange) (new : MonitorState)
-    (parts : Create) → Measures (asked_in call) s.table (s.worlds hart) parts → DoesCall call digests s hart answer zero new
-    → IsDone s answer new ⊎ IsRefused s answer new
+    (parts : Create) → IsMade (asked_in call) answer parts → DoesCall call digests s hart answer zero new → IsDone s answer new
 ended None digests s hart answer zero new parts m x = absurd m
 ended (Some (calls.Create base text_pages data_pages shared_base shared_count entry_offset)) digests s hart answer zero new parts m (inl x) =
     let asked : Create = record {
@@ -69,7 +65,7 @@ ended (Some (calls.Create base text_pages data_pages shared_base shared_count en
       entry_offset = entry_offset;
     } in
     let free = x.2.next.free in
-    inl (record {
+    record {
       id = x.0;
       made = fresh digests (parts_of asked);
       above = free.0;
@@ -78,31 +74,15 @@ ended (Some (calls.Create base text_pages data_pages shared_base shared_count en
       told = x.3.told;
       table = ap (λ y. y.table) x.3.state ∙ x.2.added;
       fresh = refl;
-    })
+    }
 ended (Some (calls.Create base text_pages data_pages shared_base shared_count entry_offset)) digests s hart answer zero new parts m (inr x) =
-    inr (record { refusal = x.0; told = x.2.told; table = ap (λ y. y.table) x.2.state })
+    absurd (done_status x.0 (sym (ap (λ (told : Answer). told.status) x.2.told) ∙ m.1))
 ended (Some (calls.Destroy k)) digests s hart answer zero new parts m x = absurd m
 ended (Some (calls.Run k)) digests s hart answer zero new parts m x = absurd m
 ended (Some calls.Stop) digests s hart answer zero new parts m x = absurd m
 ended (Some (calls.Resume k)) digests s hart answer zero new parts m x = absurd m
 ended (Some (calls.Exit value)) digests s hart answer zero new parts m x = absurd m
 ended (Some (calls.Measure k n)) digests s hart answer zero new parts m x = absurd m
-
--- the word of a refusal is not zero
-refused_word : (refusal : Refusal) → status_word (below_zero (refusal_number refusal)) % 2 ^ 64 ≢ 0
-refused_word refusals.NotHost is = cc
-refused_word refusals.NotEnclave is = cc
-refused_word refusals.BadCount is = cc
-refused_word refusals.BadAddress is = cc
-refused_word refusals.BadEntry is = cc
-refused_word refusals.NotRam is = cc
-refused_word refusals.Overlap is = cc
-refused_word refusals.TableFull is = cc
-refused_word refusals.NoEntries is = cc
-refused_word refusals.NoMemory is = cc
-refused_word refusals.BadId is = cc
-refused_word refusals.BadState is = cc
-refused_word refusals.BadWord is = cc
 
 -- a number of an enclave is a word
 as_word : (id : ℕ) → id ≤ 64 → id % 2 ^ 64 ≡ id
@@ -114,6 +94,9 @@ some_question parts is = cc
 
 module _ (s : MonitorState) (trap : Trap) (given : ControlWords) (read question answered : List ℕ) (new : MonitorState) (right : IsTable s.table)
     (x : ServesCall s trap given read question answered new) where
+  abbrev a : AnswersCall s trap given x.digest x.answer answered new
+  a = x.answers
+
   abbrev file : RegisterFile
   file = past_call trap.registers
 
@@ -121,17 +104,17 @@ module _ (s : MonitorState) (trap : Trap) (given : ControlWords) (read question 
   t = with_running s trap.hart file
 
   -- the words of the answer
-  words : Says answered (world_number (new.worlds trap.hart)) (status_word x.answer.status) x.answer.value (length x.goes_on.0)
-  words = subst (λ bytes. Says bytes (world_number (new.worlds trap.hart)) (status_word x.answer.status) x.answer.value (length x.goes_on.0)) (sym x.goes_on.2)
-      (says (head_of new trap.hart x.answer x.cleared (marks_of x.mid)) (running_registers new trap.hart) x.goes_on.0 given)
+  words : Says answered (world_number (new.worlds trap.hart)) (status_word x.answer.status) x.answer.value (length a.goes_on.0)
+  words = subst (λ bytes. Says bytes (world_number (new.worlds trap.hart)) (status_word x.answer.status) x.answer.value (length a.goes_on.0)) (sym a.goes_on.2)
+      (says (head_of new trap.hart x.answer a.cleared (marks_of a.mid)) (running_registers new trap.hart) a.goes_on.0 given)
 
-  by_parts : (parts : Create) → Measures (asked_in (call_of file)) s.table (s.worlds trap.hart) parts → IsDone t x.answer x.mid ⊎ IsRefused t x.answer x.mid
-  by_parts parts m = ended (call_of file) (λ all. x.digest) t trap.hart x.answer x.cleared x.mid parts m x.step
+  done : (parts : Create) → IsMade (asked_in (call_of file)) x.answer parts → IsDone t x.answer a.mid
+  done parts m = ended (call_of file) (λ all. x.digest) t trap.hart x.answer a.cleared a.mid parts m a.step
 
-  value_is : (d : IsDone t x.answer x.mid) → word_at answered 4 ≡ d.id
-  value_is d = words.value_is ∙ ap (λ (a : Answer). a.value % 2 ^ 64) d.told ∙ as_word d.id d.below
+  value_is : (d : IsDone t x.answer a.mid) → word_at answered 4 ≡ d.id
+  value_is d = words.value_is ∙ ap (λ (told : Answer). told.value % 2 ^ 64) d.told ∙ as_word d.id d.below
 
-  inside : (d : IsDone t x.answer x.mid) → d.id - 1 < length s.table.enclaves
+  inside : (d : IsDone t x.answer a.mid) → d.id - 1 < length s.table.enclaves
   inside d =
       let above = d.above in
       let below = d.below in
@@ -141,36 +124,31 @@ module _ (s : MonitorState) (trap : Trap) (given : ControlWords) (read question 
       → (id : ℕ) × (e : Enclave) × (who ≡ EnclaveOf id) × Absent s.table id × Live new.table id e
   call_said who m = elim x.asks [
     | inl none ↦ absurd (m.0 none.0)
-    | inr some ↦ elim (by_parts some.0 some.1) [
-      | inl d ↦
-          let live : Live x.mid.table d.id d.made = ap (λ (table : EnclaveTable). enclave_at table.enclaves d.id) d.table
-          ∙ set_same s.table.enclaves d.id (Some d.made) d.above (inside d) in
-          (d.id, d.made, m.2 ∙ ap EnclaveOf (value_is d), d.free, subst (λ (y : MonitorState). Live y.table d.id d.made) (sym x.woken) live)
-      | inr r ↦ absurd (refused_word r.refusal
-          (sym (words.status_is ∙ ap (λ (a : Answer). status_word a.status % 2 ^ 64) r.told) ∙ m.1))
-    ]
+    | inr some ↦
+        let d = done some.0 some.1 in
+        let live : Live a.mid.table d.id d.made = ap (λ (table : EnclaveTable). enclave_at table.enclaves d.id) d.table
+        ∙ set_same s.table.enclaves d.id (Some d.made) d.above (inside d) in
+        (d.id, d.made, m.1 ∙ ap EnclaveOf (value_is d), d.free, subst (λ (y : MonitorState). Live y.table d.id d.made) (sym a.woken) live)
   ]
 
   call_new : (id : ℕ) (e : Enclave) → Absent s.table id → Live new.table id e → SaysMade question answered (EnclaveOf id) × (e.state ≡ Fresh)
   call_new id e none live =
-      let now : Live x.mid.table id e = subst (λ (y : MonitorState). Live y.table id e) x.woken live in
-      let made = made_call (call_of file) (λ all. x.digest) t trap.hart x.answer x.cleared x.mid id e right none now x.step in
+      let now : Live a.mid.table id e = subst (λ (y : MonitorState). Live y.table id e) a.woken live in
+      let made = made_call (call_of file) (λ all. x.digest) t trap.hart x.answer a.cleared a.mid id e right none now a.step in
       let asked : question ≢ [] = λ is. elim x.asks [
         | inl nothing ↦ nothing.2 e.parts made.0
         | inr some ↦ some_question some.0 (sym some.2 ∙ is)
       ] in
-      elim (by_parts e.parts made.0) [
-        | inl d ↦ elim (placed s.table x.mid.table d.id id (Some d.made) e d.table d.above (inside d) now) [
-          | inl here ↦ (
-            (asked, words.status_is ∙ ap (λ (a : Answer). status_word a.status % 2 ^ 64) d.told, ap EnclaveOf (here.0 ∙ sym (value_is d))),
-            ap (λ (one : Enclave). one.state) (sym (same_Some d.made e here.1)) ∙ d.fresh,
-          )
-          | inr was ↦ absurd (let z : None ≡ Some e = sym none ∙ was in cc)
-        ]
-        | inr r ↦ absurd (same_table s.table x.mid.table id e r.table none now)
+      let d = done e.parts made.0 in
+      elim (placed s.table a.mid.table d.id id (Some d.made) e d.table d.above (inside d) now) [
+        | inl here ↦ (
+          (asked, ap EnclaveOf (here.0 ∙ sym (value_is d))),
+          ap (λ (one : Enclave). one.state) (sym (same_Some d.made e here.1)) ∙ d.fresh,
+        )
+        | inr was ↦ absurd (let z : None ≡ Some e = sym none ∙ was in cc)
       ]
 
--- an answer that says it of one is the answer to its creation
+-- a trap that says it of one is its creation
 pub said_new :
     (event : TrapEvent) (s : MonitorState) (trap : Trap) (given : ControlWords) (read question answered : List ℕ) (new : MonitorState) → IsTable s.table
     → ServesAs event s trap given read question answered new → (who : Runner) → SaysMade question answered who
@@ -178,7 +156,7 @@ pub said_new :
 said_new traps.Call s trap given read question answered new right x who m = call_said s trap given read question answered new right x who m
 said_new traps.Stop s trap given read question answered new right x who m = absurd (m.0 x.nothing_asked)
 
--- and the answer to its creation says it of one that is new, which is Fresh
+-- and its creation says it of one that is new, which is Fresh
 pub new_said :
     (event : TrapEvent) (s : MonitorState) (trap : Trap) (given : ControlWords) (read question answered : List ℕ) (new : MonitorState) → IsTable s.table
     → ServesAs event s trap given read question answered new → (id : ℕ) (e : Enclave) → Absent s.table id → Live new.table id e

@@ -1,5 +1,5 @@
 -- After every step there are as many entries as the view of each world needs.
-use Rattle.std.proofs.Common.{◌≡◌, ◌≢◌, ◌∙◌, inl, inr, ℕ, ◌-◌, ◌<◌, ◌≤◌, ◌==◌, length, List, Option, Some, None, ap, sym, subst, arith}
+use Rattle.std.proofs.Common.{◌≡◌, ◌≢◌, ◌∙◌, inl, inr, ℕ, ◌-◌, ◌<◌, ◌≤◌, ◌==◌, length, List, Option, Some, None, refl, ap, sym, subst, arith}
 use Rattle.std.proofs.lemmas.Bool.{both_ways, eq-eqb, eqb-true}
 use Rattle.std.proofs.lemmas.Option.{same_Some}
 use Rattle.pmp_encoding.specs.declared.pages.PageRange.{PageRange}
@@ -20,7 +20,7 @@ use Rattle.enclave_table.specs.declared.enclave.Stage.{Stage}
 use Rattle.enclave_table.proofs.Places.{live_above, live_inside, set_other, set_same}
 use Rattle.enclave_table.proofs.SameViews.{fits_same}
 use Rattle.enclave_table.proofs.ShortNames.{view_in}
-use Rattle.enclave_table.proofs.Turned.{same_host_view, was_live}
+use Rattle.enclave_table.proofs.Replaced.{same_host_view, was_live}
 use Rattle.monitor_core.specs.States.{MonitorState}
 use Rattle.monitor_core.specs.Steps.{DoesCall, Interrupts}
 use Rattle.monitor_core.specs.declared.answer.Answer.{Answer}
@@ -57,9 +57,9 @@ along table new is fit = subst AllFit (sym is) fit
 
 turned_fits : (table new : EnclaveTable) (id : ℕ) (stage : Stage) → Turns table id stage new → AllFit table → AllFit new
 turned_fits table new id stage t fit = along (with_enclave table id (Some (record t.0 { state = stage }))) new t.2 (record {
-  host = fits_same table.layout.limit (host_view table) _ (same_host_view table id t.0 stage t.1) fit.host;
+  host = fits_same table.layout.limit (host_view table) _ (same_host_view table id t.0 (record t.0 { state = stage }) t.1 refl) fit.host;
   each = λ other f after.
-      let g = was_live table id t.0 stage other f t.1 after in
+      let g = was_live table id t.0 (record t.0 { state = stage }) other f t.1 refl after in
       subst (λ p. FitsIn table.layout.limit (enclave_view p)) (sym g.2) (fit.each other g.0 g.1);
 })
 

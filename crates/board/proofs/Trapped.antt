@@ -10,13 +10,14 @@ use Rattle.measurement.specs.Requests.{is_part, is_private, is_shared}
 use Rattle.measurement.specs.declared.request.Create.{Create}
 use Rattle.sbi_decode.specs.Calls.{call_of}
 use Rattle.platforms.specs.Ranges.{has_page}
-use Rattle.enclave_table.specs.Enclaves.{EnclaveTable, Live, enclave_at}
+use Rattle.enclave_table.specs.Enclaves.{Live, enclave_at}
 use Rattle.enclave_table.specs.Tables.{IsTable}
 use Rattle.enclave_table.specs.declared.enclave.Enclave.{Enclave}
 use Rattle.monitor_core.specs.Changes.{past_call, with_running}
-use Rattle.monitor_core.specs.Measured.{Measures, asked_in}
+use Rattle.monitor_core.specs.Measured.{IsMade, asked_in}
 use Rattle.monitor_core.specs.States.{MonitorState}
 use Rattle.monitor_core.specs.Switches.{IsGone}
+use Rattle.monitor_core.specs.declared.answer.Answer.{Answer}
 use Rattle.hart_sim.specs.Memory.{measured_in, zeroed}
 use Rattle.trap_server.specs.declared.trap.TrapEvent.{TrapEvent}
 use Rattle.trap_server.specs.declared.trap.TrapEvent.TheVariants.{Call, Stop}
@@ -72,21 +73,20 @@ monitor_stays (Some range) s new memory byte d own =
     both_ways (has_page s.table.layout.monitor (byte / 4096)) (d.0.not_monitor (byte / 4096) yes) own) in
     ap (λ b. if b then 0 else memory byte) outside
 
--- the digest of a creation that was asked for is that of memory
-digest_is : (asked : Option Create) (s : MonitorState) (hart : ℕ) (question read digest : List ℕ) (memory : ℕ → ℕ) (parts : Create)
-    → AsksFor asked s hart question read digest → ReadsMemory memory read → Measures asked s.table (s.worlds hart) parts
-    → ((one : Create) → Measures asked s.table (s.worlds hart) one → one ≡ parts) → digest ≡ measured_in memory parts
-digest_is asked s hart question read digest memory parts (inl none) reads m only = absurd (none.2 parts m)
-digest_is asked s hart question read digest memory parts (inr some) reads m only =
+-- the digest of an enclave that was made is that of memory
+digest_is : (asked : Option Create) (answer : Answer) (question read digest : List ℕ) (memory : ℕ → ℕ) (parts : Create)
+    → AsksFor asked answer question read digest → ReadsMemory memory read → IsMade asked answer parts
+    → ((one : Create) → IsMade asked answer one → one ≡ parts) → digest ≡ measured_in memory parts
+digest_is asked answer question read digest memory parts (inl none) reads m only = absurd (none.2 parts m)
+digest_is asked answer question read digest memory parts (inr some) reads m only =
     let one = some.0 in
     let are = reads (one.base / 4096) (one.text_pages + one.data_pages) some.3 some.4 in
     some.5 ∙ ap (digest_of (layout_of one)) are ∙ ap (measured_in memory) (only one some.1)
 
--- the parts that are measured are those that were asked for
-only_parts : (asked : Option Create) (table : EnclaveTable) (s : MonitorState) (hart : ℕ) (parts one : Create) → Measures asked s.table (s.worlds hart) parts
-    → Measures asked s.table (s.worlds hart) one → one ≡ parts
-only_parts None table s hart parts one m n = absurd m
-only_parts (Some asked) table s hart parts one m n = n.0 ∙ sym m.0
+-- the parts of an enclave that was made are those that were asked for
+only_parts : (asked : Option Create) (answer : Answer) (parts one : Create) → IsMade asked answer parts → IsMade asked answer one → one ≡ parts
+only_parts None answer parts one m n = absurd m
+only_parts (Some asked) answer parts one m n = n.0 ∙ sym m.0
 
 new_digest :
     (event : TrapEvent) (s : MonitorState) (trap : Trap) (given : ControlWords) (read question answered : List ℕ) (new : MonitorState) (memory : ℕ → ℕ) (id : ℕ)
@@ -96,10 +96,11 @@ new_digest Call s trap given read question answered new memory id e right reads 
     let hart = trap.hart in
     let file = past_call trap.registers in
     let t = with_running s hart file in
-    let now : Live x.mid.table id e = subst (λ (y : MonitorState). Live y.table id e) x.woken live in
-    let made = made_call (call_of file) (λ parts. x.digest) t hart x.answer x.cleared x.mid id e right none now x.step in
+    let a = x.answers in
+    let now : Live a.mid.table id e = subst (λ (y : MonitorState). Live y.table id e) a.woken live in
+    let made = made_call (call_of file) (λ parts. x.digest) t hart x.answer a.cleared a.mid id e right none now a.step in
     let asked = asked_in (call_of trap.registers) in
-    made.1 ∙ digest_is asked s hart question read x.digest memory e.parts x.asks reads made.0 (λ one m. only_parts asked s.table s hart e.parts one made.0 m)
+    made.1 ∙ digest_is asked x.answer question read x.digest memory e.parts x.asks reads made.0 (λ one m. only_parts asked x.answer e.parts one made.0 m)
 new_digest Stop s trap given read question answered new memory id e right reads none live x =
     let hart = trap.hart in
     let t = with_running s hart trap.registers in

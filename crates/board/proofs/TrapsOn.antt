@@ -1,5 +1,5 @@
 -- A trap on a board that is as a state of the model.
-use Rattle.std.proofs.Common.{◌≡◌, ◌≢◌, ◌∙◌, ℕ, ◌+◌, ◌/◌, ◌<◌, ◌≤◌, ◌^◌, Bool, true, false, if◌then◌else◌, List, [], ◌∷◌, ◌++◌}
+use Rattle.std.proofs.Common.{ℕ, ◌≡◌, ◌∙◌, ◌+◌, ◌/◌, ◌<◌, ◌≤◌, ◌^◌, true, false, if◌then◌else◌, List, [], ◌∷◌, ◌++◌}
 use Rattle.std.proofs.Common.{length, Option, Some, None, IfSome, option_map, unwrap_or, refl, ap, sym, subst}
 use Rattle.pmp_encoding.specs.Limits.{limit_number}
 use Rattle.pmp_encoding.specs.declared.pages.PageRange.{PageRange}
@@ -7,7 +7,7 @@ use Rattle.pmp_encoding.specs.declared.region.Entry.{Entry}
 use Rattle.pmp_match.specs.Meaning.{IsFewest}
 use Rattle.platforms.specs.Platform.{PlatformLayout}
 use Rattle.sbi_decode.specs.Registers.{RegisterFile}
-use Rattle.sbi_decode.specs.Runners.{Runner, runner_of}
+use Rattle.sbi_decode.specs.Runners.{Runner}
 use Rattle.enclave_table.specs.Views.{current_view}
 use Rattle.monitor_core.specs.States.{MonitorState, running_registers}
 use Rattle.monitor_core.specs.Answers.{world_number}
@@ -24,41 +24,11 @@ use Rattle.trap_server.specs.Words.{word_at}
 use Rattle.trap_server.specs.declared.trap.TrapEvent.{TrapEvent}
 use Rattle.trap_server.specs.declared.words.ControlWords.{ControlWords}
 use Rattle.trap_server.proofs.Served.{mark_at}
-use Rattle.board.specs.Board.{Board, BoardEvent, BoardRun, ReadsMemory, happened, no_floats, trapped}
+use Rattle.board.specs.Board.{BoardEvent, ReadsMemory, happened, trapped}
 use Rattle.board.proofs.Named.{Says, named, says}
 use Rattle.board.proofs.TrapFrames.{frame_is, frame_size, trap_frame, trap_on}
 use Rattle.board.proofs.Trapped.{none_in}
-
--- a board that is as a state, with these registers of those that wait. Nobody computes in floating point
-abbrev pub monitor_of : MachineState → (Runner → RegisterFile) → (ℕ → Bool) → MonitorState
-monitor_of s registers marked = record {
-  table = s.table;
-  worlds = s.worlds;
-  registers = registers;
-  marked = marked;
-}
-
-abbrev pub board_of : MachineState → (Runner → RegisterFile) → (ℕ → Bool) → (ℕ → ControlWords) → (ℕ → List ℕ) → Board
-board_of s registers marked hosts loaded = record {
-  monitor = monitor_of s registers marked;
-  hosts = hosts;
-  memory = s.bytes;
-  loaded = loaded;
-  floats = λ hart. no_floats;
-  kept = λ who. no_floats;
-}
-
--- who runs on no hart
-abbrev pub Waits : MachineState → Runner → Type 0
-Waits s who = (hart : ℕ) → hart < s.table.layout.harts → who ≢ runner_of hart (s.worlds hart)
-
-pub record OnBoard (layout : PlatformLayout) (opened : List ℕ) (seen : List BoardEvent) (s : MachineState) : Type 0 where
-  pub registers : Runner → RegisterFile
-  pub marked : ℕ → Bool
-  pub hosts : ℕ → ControlWords
-  pub loaded : ℕ → List ℕ
-  pub runs : BoardRun layout opened seen (board_of s registers marked hosts loaded)
-  pub waits : (who : Runner) → Waits s who → registers who ≡ s.registers who
+use Rattle.board.proofs.OnBoards.{OnBoard, Waits, monitor_of}
 
 -- what a trap on a hart leaves of the monitor, and what it does on the state of a board
 pub record TrapLeaves (layout : PlatformLayout) (opened : List ℕ) (seen : List BoardEvent) (kind : TrapEvent) (old new : MachineState) (hart : ℕ)

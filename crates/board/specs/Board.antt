@@ -89,11 +89,10 @@ pub record DoesCompute (old : Board) (hart : ℕ) (floats : Floats) (new : Board
 abbrev pub runner_by : ℕ → ℕ → Runner
 runner_by hart world = if world == 0 then HostOf hart else EnclaveOf world
 
--- an answer says that this enclave was made: pages were asked for, the status is 0, and the value
--- is its number
+-- a trap says that this enclave was made: pages were asked for, and the value of the answer is its
+-- number
 abbrev pub SaysMade : List ℕ → List ℕ → Runner → Type 0
-SaysMade question answered who = (question ≢ []) × (word_at answered 3 ≡ 0)
-    × (who ≡ EnclaveOf (word_at answered 4))
+SaysMade question answered who = (question ≢ []) × (who ≡ EnclaveOf (word_at answered 4))
 
 -- registers of floating point over a trap of who runs on a hart. Where the answer says in its
 -- word 2 that another goes on, what the hart has is kept for the one, and it gets what is kept for

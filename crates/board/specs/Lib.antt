@@ -1,3 +1,4 @@
 pub mod Board
 pub mod Headline
 pub mod Model
+pub mod Stays

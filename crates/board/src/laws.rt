@@ -6,18 +6,19 @@ ghost use Rattle.trap_server.specs.Boot.{IsFirstAnswer};
 ghost use Rattle.board.specs.Board.{Board, BoardEvent, BoardRun};
 ghost use Rattle.board.specs.Headline.{BoardHeadline};
 ghost use Rattle.board.specs.Model.{ModelRunsOnBoard};
+ghost use Rattle.board.specs.Stays.{FreshPagesStay, NewPagesStay};
 
 use hart_sim::step_law;
 use trap_server::firmware_law;
 
-/// After any events on a board, from boot on with any memory and on every platform that keeps its rules: the traps among them are a run of the loop, so
-/// `firmware_law` holds of them. The entries that each hart has loaded mean the view of its world, by the fewest that
-/// do. Each access was allowed exactly as that view allows it. Private pages were read by nobody but their enclave,
-/// and their bytes changed by its own stores alone; nobody reached the monitor's pages. The private pages of an
-/// enclave that was destroyed were zero after that trap, and no other byte changed in any. An enclave that was
+/// After any events on a board, from boot on with any memory and on every platform that keeps its rules: the traps among
+/// them are a run of the loop, so `firmware_law` holds of them. The entries that each hart has loaded mean the view of its
+/// world, by the fewest that do. Each access was allowed exactly as that view allows it. Private pages were read by nobody
+/// but their enclave, and their bytes changed by its own stores alone; nobody reached the monitor's pages. The private
+/// pages of an enclave that was destroyed were zero after that trap, and no other byte changed in any. An enclave that was
 /// created has the digest of its private pages as they were in memory, and as they are until it is entered. Each host and
-/// each enclave finds in registers of floating point what it left there, on whichever hart it goes on, and an enclave
-/// that was created finds zeros.
+/// each enclave finds in registers of floating point what it left there, on whichever hart it goes on, and an enclave that
+/// was created finds zeros.
 pub fn board_law()
     ensures { (layout : PlatformLayout) (opened : List ℕ) (events : List BoardEvent)
         (board : Board) (run : BoardRun layout opened events board)
@@ -34,6 +35,17 @@ pub fn board_law()
 /// of the worlds that wait are the same. So what [`board_law`] says of every board holds of the model.
 pub fn model_law()
     ensures { ModelRunsOnBoard }
+{
+    board_law();
+}
+
+/// Between two traps the private pages of an enclave that was not entered stay, whatever the worlds of all harts do
+/// meanwhile. A trap is one event of a board, with the pages that were read in it. This law is what lets the code around
+/// the monitor read the pages of a new enclave later: after its creation was answered, one by one, at any moment until
+/// the next trap, while other harts run. What it finds then is what [`board_law`] says of that trap.
+pub fn pages_law()
+    ensures fresh { FreshPagesStay }
+    ensures made { NewPagesStay }
 {
     board_law();
 }

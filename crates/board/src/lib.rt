@@ -6,7 +6,8 @@
 //! by nothing else; an answer makes pages zero; the pages of a creation are read from memory; registers of floating
 //! point are kept and loaded where the world of a hart changes. These are the duties of the code around the monitor
 //! (`firmware/README.md`), in one definition, `specs/Board`. An event is an access by a world below machine mode, of
-//! any kind, address and value, a computation in floating point, or a trap that is served while no world runs.
+//! any kind, address and value, a computation in floating point, or a trap that is served while no world runs. The
+//! pages of a new enclave may be read later than that, until the next trap: they stay ([`pages_law`]).
 //!
 //! For the layer above: after boot and any list of events, on one to four harts, each access is allowed exactly as
 //! the view of its world allows it, and no world but an enclave itself reads or changes its private pages, or its
@@ -19,4 +20,4 @@
 
 mod laws;
 
-pub use laws::{board_law, model_law};
+pub use laws::{board_law, model_law, pages_law};

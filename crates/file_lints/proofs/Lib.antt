@@ -4,6 +4,7 @@ mod Overlaps
 mod WarningLines
 pub mod Steps
 pub mod Parts
+pub mod PlacesInRest
 pub mod FirstParts
 mod Accesses
 mod Complete

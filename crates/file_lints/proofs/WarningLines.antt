@@ -5,6 +5,7 @@ use Rattle.std.proofs.lemmas.List.{drop_more}
 use Rattle.file_lints.specs.declared.breach.TomlPath.TheVariants.{Device}
 use Rattle.file_lints.specs.declared.held_masters.HeldMaster.{HeldMaster}
 use Rattle.file_lints.specs.KeyPlaces.{table_word}
+use Rattle.file_lints.specs.declared.key_places.Sought.TheVariants.{Header}
 use Rattle.file_lints.specs.MasterTexts.{AreWarnings, held_text, warned}
 use Rattle.file_lints.specs.Positions.{IsPosition}
 
@@ -20,7 +21,7 @@ Follows name text all i said = (more : List ℕ) → AreWarnings name text (drop
 -- a line more
 pub one_more :
     (name text : List ℕ) (all : List HeldMaster) (i : ℕ) (d : HeldMaster) (said new position : List ℕ) → i < length all → Follows name text all i said
-    → IsPosition text (table_word (Device (get_or all i d).device)) position
+    → IsPosition text (Header (Device (get_or all i d).device)) (table_word (Device (get_or all i d).device)) position
     → new ≡ said ++ ((name ++ (position ++ held_text (get_or all i d))) ++ codes "\n")
     → Follows name text all (i + 1) new
 one_more name text all i d said new position low follows is written = λ more are.

@@ -10,6 +10,7 @@ use Rattle.file_lints.specs.declared.masters.Master.{Master}
 use Rattle.file_lints.specs.declared.held_masters.HeldMaster.{HeldMaster}
 use Rattle.file_lints.specs.declared.breach.TomlPath.TheVariants.{Device}
 use Rattle.file_lints.specs.KeyPlaces.{table_word}
+use Rattle.file_lints.specs.declared.key_places.Sought.TheVariants.{Header}
 use Rattle.file_lints.specs.Positions.{IsPosition}
 use Rattle.file_lints.specs.PlatformTexts.{place_text}
 
@@ -44,7 +45,7 @@ pub data AreWarnings (name text : List ℕ) : List HeldMaster → List ℕ → T
   end : AreWarnings name text [] []
   warned :
       {rest : List HeldMaster} {said : List ℕ} (held : HeldMaster) (position : List ℕ)
-      → IsPosition text (table_word (Device held.device)) position
+      → IsPosition text (Header (Device held.device)) (table_word (Device held.device)) position
       → AreWarnings name text rest said
       → AreWarnings name text (held ∷ rest)
       ((name ++ (position ++ held_text held)) ++ (codes "\n" ++ said))

@@ -6,7 +6,7 @@ use Rattle.toml.specs.Data.{Members}
 use Rattle.toml.specs.Parse.{parse_document}
 use Rattle.platforms.specs.Platform.{PlatformLayout}
 use Rattle.platform_file.specs.Document.{IsPlatformFile}
-use Rattle.file_lints.specs.KeyPlaces.{word_about}
+use Rattle.file_lints.specs.KeyPlaces.{sought_by, word_about}
 use Rattle.file_lints.specs.Masters.{held_masters}
 use Rattle.file_lints.specs.MasterTexts.{AreWarnings}
 use Rattle.file_lints.specs.Order.{IsFirstBreach}
@@ -24,7 +24,8 @@ abbrev pub Says : List ℕ → Option Members → List ℕ → Type 0
 Says text None said = IsSyntaxText text said
 Says text (Some document) said =
     (breach : Breach) × IsFirstBreach document breach × (position : List ℕ)
-    × IsPosition text (word_about breach) position × (said ≡ position ++ breach_text breach)
+    × IsPosition text (sought_by breach) (word_about breach) position
+    × (said ≡ position ++ breach_text breach)
 
 -- the line for a text that is no platform
 abbrev pub IsFinding : List ℕ → List ℕ → List ℕ → Type 0

@@ -1,11 +1,14 @@
 //! Where a platform file has the key or the table that a breach is about. The parser of TOML does not say it, so the text is
 //! searched once more: lines that begin with a bare key or a header. A key in quotes, or of a table within a line, is not found.
 
-ghost use Rattle.std.specs.Prelude.{◌≡◌, ◌≤◌, length, option_map, IfSome};
-ghost use Rattle.file_lints.specs.KeyPlaces.{rule_word, table_word, word_about, HasWordAt, IsPlaceOf};
+ghost use Rattle.std.specs.Prelude.{◌≡◌, ◌≤◌, ◌<◌, ◌+◌, ◌-◌, ◌^◌, ◌↔◌, ◌∷◌, length, option_map, true, Some};
+ghost use Rattle.std.specs.List.{prefix_len};
+ghost use Rattle.text_lines.specs.Lines.{raw_lines};
+ghost use Rattle.file_lints.specs.KeyPlaces.{rule_word, table_word, word_about, front_len, is_bare, is_header, name_of, opening_tables, sought_by};
+ghost use Rattle.file_lints.specs.KeyPlaces.{Begins, Follows, IsKept, IsPlaceOf, IsSought, IsThere};
 
 use crate::breach::{Breach, Key, TomlPath};
-use lint_texts::split_line;
+use lint_texts::len_before;
 use platforms::PlatformFault;
 use text_lines::is_blank;
 
@@ -51,13 +54,15 @@ fn word_about<'a>(breach: &Breach<'a>) -> Option<&'a str>
 
 /// What is searched for: the header of a table, or a key of one.
 #[derive(Clone, Copy)]
-enum Sought {
+pub(crate) enum Sought {
     Header(TomlPath),
     KeyOf(TomlPath),
 }
 
 /// What a breach is about.
-fn sought_by(breach: &Breach<'_>) -> Sought {
+fn sought_by(breach: &Breach<'_>) -> Sought
+    ensures { result ≡ sought_by breach.now }
+{
     match *breach {
         Breach::Unknown(table, _) | Breach::NoNumber(table, _) | Breach::NoPerm(table) => {
             Sought::KeyOf(table)
@@ -72,7 +77,7 @@ fn sought_by(breach: &Breach<'_>) -> Sought {
 
 /// The tables of a text up to a line of it.
 #[derive(Clone, Copy)]
-struct Tables {
+pub(crate) struct Tables {
     /// The one that the line is of, where a platform may have it.
     current: Option<TomlPath>,
     /// How many ranges of memory have begun.
@@ -83,7 +88,9 @@ struct Tables {
 
 impl Tables {
     /// Those before the first line.
-    fn new() -> Tables {
+    fn new() -> Tables
+        ensures { result ≡ opening_tables }
+    {
         Tables {
             current: Some(TomlPath::File),
             ram: 0,
@@ -92,48 +99,69 @@ impl Tables {
     }
 
     /// Those from the header of a table of that name on.
-    fn begin(&mut self, name: &[u8]) {
+    fn begin(&mut self, name: &[u8])
+        requires ram { self.old.ram < 2 ^ 64 - 1 }
+        requires devices { self.old.devices < 2 ^ 64 - 1 }
+        ensures { Begins name.now self.old self.new }
+    {
         self.current = if name == b"monitor".as_slice() {
             Some(TomlPath::Monitor)
         } else if name == b"ram".as_slice() {
-            self.ram = self.ram.saturating_add(1);
+            self.ram += 1;
             Some(TomlPath::Ram(self.ram))
         } else if name == b"device".as_slice() {
-            self.devices = self.devices.saturating_add(1);
+            self.devices += 1;
             Some(TomlPath::Device(self.devices))
         } else {
             None
         };
     }
 
-    /// Whether a line of that name, a header that has begun or a key, is what is searched for.
-    fn has(&self, sought: Sought, is_header: bool, is_word: bool) -> bool {
-        match (sought, is_header) {
-            (Sought::Header(table), true) => self.current == Some(table),
-            (Sought::Header(_), false) => is_word && self.current == Some(TomlPath::File),
-            (Sought::KeyOf(table), true) => is_word && table == TomlPath::File,
-            (Sought::KeyOf(table), false) => is_word && self.current == Some(table),
+    /// Those from a line on.
+    fn follow(&mut self, line: &[u8])
+        requires ram { self.old.ram < 2 ^ 64 - 1 }
+        requires devices { self.old.devices < 2 ^ 64 - 1 }
+        ensures follows { Follows line.now self.old self.new }
+        ensures ram { self.new.ram ≤ self.old.ram + 1 }
+        ensures devices { self.new.devices ≤ self.old.devices + 1 }
+    {
+        if is_header(line) {
+            self.begin(name_of(line));
         }
+    }
+
+    /// Whether a line that has the name is what is searched for: a header that has begun, or a key.
+    fn is_there(&self, sought: Sought, is_header: bool) -> bool
+        ensures { (result ≡ true) ↔ IsThere sought self.now is_header }
+    {
+        match (sought, is_header) {
+            (Sought::Header(table), true) | (Sought::KeyOf(table), false) => {
+                self.current == Some(table)
+            }
+            (Sought::Header(_), false) => self.current == Some(TomlPath::File),
+            (Sought::KeyOf(table), true) => table == TomlPath::File,
+        }
+    }
+
+    /// Whether a line is what is searched for.
+    fn has(&self, sought: Sought, word: &[u8], line: &[u8]) -> bool
+        ensures { (result ≡ true) ↔ IsSought sought word.now self.now line.now }
+    {
+        name_of(line) == word && self.is_there(sought, is_header(line))
     }
 }
 
-/// The name that a line begins with, after blanks and brackets.
-#[derive(Clone, Copy)]
-struct Named<'a> {
-    /// How many bytes of the line come before it.
-    before: usize,
-    name: &'a [u8],
-    is_header: bool,
-}
-
 /// Whether a byte may be in a bare key of TOML.
-fn is_bare(byte: u8) -> bool {
+fn is_bare(byte: u8) -> bool
+    ensures { result ≡ is_bare byte }
+{
     byte.is_ascii_alphanumeric() || byte == b'_' || byte == b'-'
 }
 
 /// How many bytes of a bare key a text begins with.
 fn bare_len(text: &[u8]) -> usize
-    ensures { result ≤ length text.now }
+    ensures within { result ≤ length text.now }
+    ensures len { result ≡ prefix_len is_bare text.now }
 {
     for (i, byte) in text.iter().enumerate() {
         if !is_bare(*byte) {
@@ -143,32 +171,52 @@ fn bare_len(text: &[u8]) -> usize
     text.len()
 }
 
-/// How many blanks and brackets a text begins with.
-fn brackets_len(text: &[u8]) -> usize
-    ensures { result ≤ length text.now }
+/// How many blanks and brackets a line begins with.
+fn front_len(line: &[u8]) -> usize
+    ensures within { result ≤ length line.now }
+    ensures len { result ≡ front_len line.now }
 {
-    for (i, byte) in text.iter().enumerate() {
+    for (i, byte) in line.iter().enumerate() {
         if !is_blank(*byte) && *byte != b'[' {
             return i;
         }
     }
-    text.len()
+    line.len()
 }
 
-/// The name that a line begins with.
-fn named_in(line: &[u8]) -> Named<'_> {
-    let before = brackets_len(line);
-    let rest = &line[before..];
-    Named {
-        before,
-        name: &rest[..bare_len(rest)],
-        is_header: line[..before].contains(&b'['),
+/// Whether a bracket is among them: the line is the header of a table.
+fn is_header(line: &[u8]) -> bool
+    ensures { result ≡ is_header line.now }
+{
+    line[..front_len(line)].iter().any(|byte| *byte == b'[')
+}
+
+/// The name that follows them.
+fn name_of(line: &[u8]) -> &[u8]
+    ensures { result.now ≡ name_of line.now }
+{
+    let rest = &line[front_len(line)..];
+    &rest[..bare_len(rest)]
+}
+
+/// The first line of a text, and what comes after its LF: as `split_line` of `lint_texts` has them, and how long both are.
+fn first_line(text: &[u8]) -> (&[u8], &[u8])
+    requires { 0 < length text.now }
+    ensures lines { raw_lines text.now ≡ result.0.now ∷ raw_lines result.1.now }
+    ensures shorter { length result.1.now < length text.now }
+    ensures length { 0 < length result.1.now
+        → length text.now ≡ length result.0.now + 1 + length result.1.now }
+{
+    let len = len_before(b'\n', text);
+    if len == text.len() {
+        return (text, &[]);
     }
+    (&text[..len], &text[len + 1..])
 }
 
 /// That byte of a text, where the text has that word there.
 fn where_word_is(text: &[u8], at: usize, word: &[u8]) -> Option<usize>
-    ensures { IfSome result (λ at. HasWordAt text.now at word.now) }
+    ensures { IsKept text.now word.now (Some at) result }
 {
     if at <= text.len() && word.len() <= text.len() - at && &text[at..at + word.len()] == word {
         return Some(at);
@@ -176,39 +224,35 @@ fn where_word_is(text: &[u8], at: usize, word: &[u8]) -> Option<usize>
     None
 }
 
-/// Where a text has what is searched for, in whose place that word is.
+/// Where a text has what is searched for, which that word names.
 fn find(text: &[u8], sought: Sought, word: &[u8]) -> Option<usize>
-    ensures { IfSome result (λ at. HasWordAt text.now at word.now) }
+    ensures { IsPlaceOf text.now sought (Some word.now) result }
 {
     let mut tables = Tables::new();
     let mut rest = text;
     while !rest.is_empty() {
-        let (line, after) = split_line(rest);
-        let named = named_in(line);
-        if named.is_header {
-            tables.begin(named.name);
-        }
-        if tables.has(sought, named.is_header, named.name == word) {
-            let at = (text.len() - rest.len()).saturating_add(named.before);
-            return where_word_is(text, at, word);
+        let (line, after) = first_line(rest);
+        tables.follow(line);
+        if tables.has(sought, word, line) {
+            return where_word_is(text, text.len() - rest.len() + front_len(line), word);
         }
         rest = after;
     }
     None
 }
 
-/// How many bytes of a text come before what a breach is about, where that is found: the text has that key, or the name of
-/// that table, there.
+/// How many bytes of a text come before what a breach is about: the key, or the name in the header of the table, of the first
+/// line that is it.
 pub(crate) fn place_of(text: &str, breach: &Breach<'_>) -> Option<usize>
-    ensures { IfSome result (IsPlaceOf text.now (word_about breach.now)) }
+    ensures { IsPlaceOf text.now (sought_by breach.now) (word_about breach.now) result }
 {
     let word = word_about(breach)?;
     find(text.as_bytes(), sought_by(breach), word.as_bytes())
 }
 
-/// How many bytes of a text come before the name in the header of that table, where that is found.
+/// How many bytes of a text come before the name in the header of that table.
 pub(crate) fn header_of(text: &str, table: TomlPath) -> Option<usize>
-    ensures { IfSome result (IsPlaceOf text.now (table_word table)) }
+    ensures { IsPlaceOf text.now (Sought.Header table) (table_word table) result }
 {
     let word = table_word(table)?;
     find(text.as_bytes(), Sought::Header(table), word.as_bytes())

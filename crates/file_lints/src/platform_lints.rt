@@ -6,7 +6,7 @@ ghost use Rattle.toml.specs.Errors.{IsMemory, IsWithin, span_start};
 ghost use Rattle.toml.specs.View.{table_view};
 ghost use Rattle.platforms.specs.Platform.{PlatformLayout};
 ghost use Rattle.platform_file.specs.Document.{IsPlatformDocument, IsPlatformText};
-ghost use Rattle.file_lints.specs.KeyPlaces.{word_about};
+ghost use Rattle.file_lints.specs.KeyPlaces.{sought_by, word_about};
 ghost use Rattle.file_lints.specs.PlatformLints.{IsFinding, IsPlatformLintText, IsSyntaxText, no_text_line};
 ghost use Rattle.file_lints.specs.Positions.{IsPosition};
 ghost use Rattle.file_lints.specs.Order.{IsFirstBreach};
@@ -77,7 +77,7 @@ fn push_document(
     requires { (platform : PlatformLayout)
         → IsPlatformDocument (table_view document.now) platform → ⊥ }
     ensures { OnOk result ((breach : Breach) × IsFirstBreach (table_view document.now) breach
-        × (position : List ℕ) × IsPosition text.now (word_about breach) position
+        × (position : List ℕ) × IsPosition text.now (sought_by breach) (word_about breach) position
         × (line.new.items ≡ line.old.items ++ (position ++ breach_text breach))) }
 {
     let breach = breach_of(alloc, document)?;

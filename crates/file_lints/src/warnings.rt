@@ -10,7 +10,7 @@ ghost use Rattle.file_lints.specs.Positions.{IsPosition};
 
 use crate::breach::TomlPath;
 use crate::held_masters::{HeldMaster, held_masters};
-use crate::key_places::header_of;
+use crate::key_places::{Sought, header_of};
 use crate::masters::Master;
 use crate::positions::push_found;
 use crate::texts::push_place;
@@ -76,7 +76,8 @@ fn push_warning(
     held: HeldMaster,
 ) -> Result<(), AllocError>
     ensures { OnOk result ((position : List ℕ)
-        × IsPosition text.now (table_word (TomlPath.Device held.device)) position
+        × IsPosition text.now (Sought.Header (TomlPath.Device held.device))
+        (table_word (TomlPath.Device held.device)) position
         × (said.new.items ≡ said.old.items
         ++ ((name.now ++ (position ++ held_text held)) ++ codes "\n"))) }
 {

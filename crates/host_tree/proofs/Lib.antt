@@ -11,3 +11,7 @@ mod OneHost
 mod Ranged
 mod Steps
 mod Pairs
+mod WriteFaults
+mod Refused
+mod ReadNames
+mod RootRefused

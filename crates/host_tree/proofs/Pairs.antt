@@ -1,7 +1,10 @@
 -- Pairs of a base and a size, one behind another.
-use Rattle.std.proofs.Common.{◌≡◌, ℕ, zero, suc, ◌-◌, ◌<◌, ◌≤◌, List, [], ◌∷◌, ◌++◌, length, drop, slice_index, append_assoc, sym, ap, refl, ◌∙◌, arith}
+use Rattle.std.proofs.Common.{◌≡◌, ℕ, zero, suc, ◌-◌, ◌*◌, ◌<◌, ◌≤◌, Bool, true, false, cond, sym, ap, refl, ◌∙◌, arith}
+use Rattle.std.proofs.Common.{List, [], ◌∷◌, ◌++◌, length, drop, slice_index, append_assoc, length-append}
+use Rattle.std.specs.Prelude.{eqb}
+use Rattle.std.proofs.lemmas.List.{drop_all}
 use Rattle.board_ranges.specs.declared.rows.Extent.{Extent}
-use Rattle.host_tree.specs.Platforms.{flat_words, pairs_in, triples_in}
+use Rattle.host_tree.specs.Platforms.{IsClipped, flat_words, pairs_in, triples_in}
 
 pub pair_step : (F : ℕ → List ℕ → List Extent) (left : ℕ) (rest later : List ℕ) (x : Extent) (old new all : List Extent) → 0 < left
     → F (suc (left - 1)) rest ≡ x ∷ F (left - 1) later → new ≡ old ++ x ∷ [] → old ++ F left rest ≡ all → new ++ F (left - 1) later ≡ all
@@ -42,3 +45,31 @@ one_triple n [] h = absurd (omega (arith, h))
 one_triple n (a ∷ []) h = absurd (omega (arith, h))
 one_triple n (a ∷ b ∷ []) h = absurd (omega (arith, h))
 one_triple n (a ∷ b ∷ d ∷ later) h = refl
+
+-- so many words, and so many pairs
+flat_len : (xs : List Extent) → length (flat_words xs) ≡ 2 * length xs
+flat_len [] = refl
+flat_len (x ∷ xs) = omega (arith, flat_len xs)
+
+pub flat_all : (xs : List Extent) (words : List ℕ) (i : ℕ) → length xs ≤ i → words ++ flat_words (drop i xs) ≡ flat_words xs → length words ≡ 2 * length xs
+flat_all xs words i more is =
+    let none = ap (λ (z : List Extent). length (flat_words z)) (drop_all i xs more) in
+    omega (arith, none, ap length is, length-append words (flat_words (drop i xs)), flat_len xs)
+
+pub pairs_few : (count : ℕ) (words : List ℕ) → 2 * length (pairs_in count words) ≤ length words
+pairs_few zero words = omega arith
+pairs_few (suc n) [] = omega arith
+pairs_few (suc n) (a ∷ []) = omega arith
+pairs_few (suc n) (a ∷ b ∷ later) = omega (arith, pairs_few n later)
+
+-- of each range at most one is left
+one_left : (t : Bool) (x : Extent) → length (cond t [] (x ∷ [])) ≤ 1
+one_left true x = omega arith
+one_left false x = omega arith
+
+pub clipped_few : (memory xs kept : List Extent) → IsClipped memory xs kept → length kept ≤ length xs
+clipped_few memory [] kept h = omega (arith, ap length h)
+clipped_few memory (x ∷ xs) kept h =
+    let here = ap length h.2.2 in
+    let one = one_left (eqb h.2.0 0) (record { base = x.base; size = h.2.0 }) in
+    omega (arith, here, one, clipped_few memory xs h.1 h.3, ap length h.4, length-append h.0 h.1)

@@ -19,6 +19,7 @@ use Rattle.std.proofs.Common.{
   length-drop,
   sym,
   ap,
+  subst,
   refl,
   ◌∙◌,
   arith,
@@ -83,3 +84,26 @@ pub name_added : (names name : List ℕ) → IsText name → BeginsWithText (dro
 name_added names name h =
     let at = drop_front (length names) names (name ++ 0 ∷ []) refl in
     rw (append_assoc names name (0 ∷ []), at) (text_then_zero name [] h)
+
+-- a byte that is not zero before a text, and texts one behind another
+pub text_more : (b : ℕ) (text : List ℕ) → 0 < b → IsText text → IsText (b ∷ text)
+text_more zero text some h = absurd (omega (arith, some))
+text_more (suc b) text some h = let one = one_more b text in omega (arith, one, h)
+
+pub text_both : (x y : List ℕ) → IsText x → IsText y → IsText (x ++ y)
+text_both [] y h k = k
+text_both (zero ∷ x) y h k = absurd (omega (arith, h))
+text_both (suc b ∷ x) y h k =
+    let was = one_more b x in
+    text_more (suc b) (x ++ y) (omega arith) (text_both x y (omega (arith, h, was)) k)
+
+-- what is before the first zero
+pub text_taken : (bytes : List ℕ) → IsText (take (text_len bytes) bytes)
+text_taken [] = refl
+text_taken (zero ∷ bytes) = refl
+text_taken (suc b ∷ bytes) =
+    let one : text_len (suc b ∷ bytes) ≡ suc (text_len bytes) = omega (arith, one_more b bytes) in
+    subst (λ (n : ℕ). IsText (take n (suc b ∷ bytes))) (sym one) (text_more (suc b) (take (text_len bytes) bytes) (omega arith) (text_taken bytes))
+
+pub text_read : (bytes text : List ℕ) → BeginsWithText bytes text → IsText text
+text_read bytes text h = subst IsText (sym h.spelt) (text_taken bytes)

@@ -4,6 +4,7 @@ use Rattle.device_tree.specs.declared.reservations.Reservation.{Reservation}
 use Rattle.device_tree.specs.Pieces.{has}
 use Rattle.device_tree.specs.Nodes.{Nodes, Tree}
 use Rattle.device_tree.specs.Trees.{ReadsAs, SpellsTree}
+use Rattle.device_tree.specs.Words.{word_at}
 use Rattle.board_ranges.specs.declared.cells.Cells.{Cells}
 use Rattle.board_ranges.specs.declared.kinds.Place.TheVariants.{BelowRoot}
 use Rattle.board_ranges.specs.Windows.{same}
@@ -28,8 +29,8 @@ pub record IsHostTree (host : Portion) (ranges : List Reserved) (board made : Tr
   pub properties : made.properties ≡ board.properties
   pub children : made.children ≡ with_ranges cells ranges nodes
 
--- the bytes are the host's tree of the one that a board's bytes begin with, and the same
--- reservations
+-- the bytes are the host's tree of the one that a board's bytes begin with, with the same
+-- reservations and the same hart that boots
 pub record IsHosts (host : Portion) (ranges : List Reserved) (bytes out : List ℕ) : Type 0 where
   pub board : Tree
   pub made : Tree
@@ -37,3 +38,5 @@ pub record IsHosts (host : Portion) (ranges : List Reserved) (bytes out : List �
   pub read : ReadsAs bytes board reservations
   pub is_made : IsHostTree host ranges board made
   pub spelt : SpellsTree out made reservations
+  -- the number of the hart that boots
+  pub boot_hart : word_at out 28 ≡ word_at bytes 28

@@ -8,3 +8,4 @@ pub mod Boards
 pub mod Ranges
 pub mod HostTrees
 pub mod Platforms
+pub mod Refusals

@@ -1,8 +1,9 @@
 //! The parts of the structure block, one at the end of others.
 
-ghost use Rattle.std.specs.Prelude.{◌≡◌, ◌++◌, OnOk, List, ℕ, drop};
+ghost use Rattle.std.specs.Prelude.{◌≡◌, ◌++◌, IfErr, OnOk, List, [], ℕ, drop};
 ghost use Rattle.device_tree.specs.Pieces.{Setting, SpellsPart, begins, ends, has};
 ghost use Rattle.device_tree.specs.Words.{BeginsWithText};
+ghost use Rattle.host_tree.specs.Refusals.{IsWriteFault};
 ghost use Rattle.host_tree.specs.Written.{IsText, setting};
 
 use crate::bytes::{put_text, put_value, put_word};
@@ -12,8 +13,9 @@ use crate::write_fault::WriteFault;
 /// Appends the beginning of a node.
 pub(crate) fn put_begin(block: &mut Vec<u8>, name: &[u8]) -> Result<(), WriteFault>
     requires { IsText name.now }
-    ensures { OnOk result ((added : List ℕ) × (block.new.items ≡ block.old.items ++ added)
+    ensures put { OnOk result ((added : List ℕ) × (block.new.items ≡ block.old.items ++ added)
         × ((names rest : List ℕ) → SpellsPart names (added ++ rest) (begins name.now) rest)) }
+    ensures refused { IfErr result (λ fault. fault ≡ WriteFault.Memory) }
 {
     put_word(block, 1)?;
     put_text(block, name)?;
@@ -26,9 +28,10 @@ pub(crate) fn put_property(
     place: usize,
     value: &[u8],
 ) -> Result<(), WriteFault>
-    ensures { OnOk result ((added : List ℕ) × (block.new.items ≡ block.old.items ++ added)
+    ensures put { OnOk result ((added : List ℕ) × (block.new.items ≡ block.old.items ++ added)
         × ((names rest name : List ℕ) → BeginsWithText (drop place names) name
         → SpellsPart names (added ++ rest) (has (setting name value.now)) rest)) }
+    ensures refused { IfErr result (IsWriteFault [] []) }
 {
     let len = word_of(value.len())?;
     let place = word_of(place)?;
@@ -41,8 +44,9 @@ pub(crate) fn put_property(
 
 /// Appends the end of a node.
 pub(crate) fn put_end(block: &mut Vec<u8>) -> Result<(), WriteFault>
-    ensures { OnOk result ((added : List ℕ) × (block.new.items ≡ block.old.items ++ added)
+    ensures put { OnOk result ((added : List ℕ) × (block.new.items ≡ block.old.items ++ added)
         × ((names rest : List ℕ) → SpellsPart names (added ++ rest) ends rest)) }
+    ensures refused { IfErr result (λ fault. fault ≡ WriteFault.Memory) }
 {
     put_word(block, 2)?;
     Ok(())

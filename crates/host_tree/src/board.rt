@@ -1,6 +1,6 @@
 //! Harts and memory of a board, as its tree says them.
 
-ghost use Rattle.std.specs.Prelude.{◌≡◌, ◌++◌, IfOk, OnOk, List, true, false};
+ghost use Rattle.std.specs.Prelude.{◌≡◌, ◌⊎◌, ◌++◌, IfErr, IfOk, OnOk, List, true, false};
 ghost use Rattle.device_tree.specs.declared.reservations.Reservation.{Reservation};
 ghost use Rattle.device_tree.specs.Pieces.{parts_of};
 ghost use Rattle.device_tree.specs.Nodes.{Tree, parts_of_tree};
@@ -8,7 +8,10 @@ ghost use Rattle.device_tree.specs.Trees.{ReadsAs};
 ghost use Rattle.board_ranges.specs.declared.rows.Extent.{Extent};
 ghost use Rattle.board_ranges.specs.declared.registers.Found.{Found};
 ghost use Rattle.board_ranges.specs.Meaning.{Range, TreeSays, said_of};
+ghost use Rattle.board_ranges.specs.declared.fault.BoardReason.{BoardReason};
+ghost use Rattle.board_ranges.specs.Refusals.{HasNoRanges};
 ghost use Rattle.host_tree.specs.Boards.{extents_of, is_kind, one_extent};
+ghost use Rattle.host_tree.specs.Refusals.{IsBoardOfFault};
 
 use crate::fault::{HostTreeFault, MakeFault};
 use crate::write_fault::WriteFault;
@@ -36,8 +39,9 @@ fn is_kind(kind: Kind, is_hart: bool) -> bool
 
 /// Appends the extent of a range of that kind.
 fn note(list: &mut Vec<Extent>, found: Found<'_>, is_hart: bool) -> Result<(), MakeFault>
-    ensures { OnOk result (list.new.items ≡ list.old.items
+    ensures noted { OnOk result (list.new.items ≡ list.old.items
         ++ one_extent is_hart found.entry.kind found.entry.extent) }
+    ensures refused { IfErr result (λ fault. fault ≡ MakeFault.NotWritten WriteFault.Memory) }
 {
     if !is_kind(found.kind, is_hart) {
         return Ok(());
@@ -50,7 +54,8 @@ fn note(list: &mut Vec<Extent>, found: Found<'_>, is_hart: bool) -> Result<(), M
 
 /// The extents of the ranges of that kind.
 fn extents_of(alloc: Global, found: &[Found<'_>], is_hart: bool) -> Result<Vec<Extent>, MakeFault>
-    ensures { IfOk result (λ list. list.items ≡ extents_of is_hart (said_of found.now)) }
+    ensures ok { IfOk result (λ list. list.items ≡ extents_of is_hart (said_of found.now)) }
+    ensures refused { IfErr result (λ fault. fault ≡ MakeFault.NotWritten WriteFault.Memory) }
 {
     let mut list = Vec::new(alloc);
     for one in found {
@@ -61,10 +66,13 @@ fn extents_of(alloc: Global, found: &[Found<'_>], is_hart: bool) -> Result<Vec<E
 
 /// Harts and memory by the pieces of a tree.
 fn board_in<'a>(alloc: Global, pieces: &'a [PlacedPiece<'a>]) -> Result<Board, MakeFault>
-    ensures { IfOk result (λ board. (tree : Tree) → parts_of pieces.now ≡ parts_of_tree tree
+    ensures ok { IfOk result (λ board. (tree : Tree) → parts_of pieces.now ≡ parts_of_tree tree
         → (ranges : List Range) × TreeSays tree ranges
         × (board.harts.items ≡ extents_of true ranges)
         × (board.memory.items ≡ extents_of false ranges)) }
+    ensures refused { IfErr result (λ fault. (fault ≡ MakeFault.NotWritten WriteFault.Memory)
+        ⊎ ((reason : BoardReason) × (fault ≡ MakeFault.NotUnderstood reason)
+        × ((tree : Tree) → parts_of pieces.now ≡ parts_of_tree tree → HasNoRanges tree reason))) }
 {
     let found = match ranges_of(alloc, pieces) {
         Ok(found) => found,
@@ -79,10 +87,11 @@ fn board_in<'a>(alloc: Global, pieces: &'a [PlacedPiece<'a>]) -> Result<Board, M
 ///
 /// Refused where the bytes begin with no tree, or a node's cells or rows are not read. Memory can be refused for each piece.
 pub fn board_of(alloc: Global, bytes: &[u8]) -> Result<Board, HostTreeFault>
-    ensures { IfOk result (λ board. (tree : Tree) × (reservations : List Reservation)
+    ensures ok { IfOk result (λ board. (tree : Tree) × (reservations : List Reservation)
         × ReadsAs bytes.now tree reservations × (ranges : List Range) × TreeSays tree ranges
         × (board.harts.items ≡ extents_of true ranges)
         × (board.memory.items ≡ extents_of false ranges)) }
+    ensures refused { IfErr result (IsBoardOfFault bytes.now) }
 {
     match read_tree(alloc, bytes) {
         Ok(read) => match board_in(alloc, read.pieces.as_slice()) {

@@ -1,6 +1,6 @@
 //! Bytes and numbers at the end of others.
 
-ghost use Rattle.std.specs.Prelude.{◌≡◌, ◌↔◌, ◌+◌, ◌-◌, ◌≤◌, ◌<◌, ◌^◌, ◌++◌, IsTrue, OnOk, MatchOption, List, ℕ, length, replicate};
+ghost use Rattle.std.specs.Prelude.{◌≡◌, ◌↔◌, ◌+◌, ◌-◌, ◌≤◌, ◌<◌, ◌^◌, ◌++◌, IsTrue, IfErr, OnOk, MatchOption, List, ℕ, length, replicate};
 ghost use Rattle.device_tree.specs.Words.{BeginsWithText, padded, text_len};
 ghost use Rattle.host_tree.specs.Written.{IsText, double_word_bytes, text_bytes, value_bytes, word_bytes};
 
@@ -10,7 +10,8 @@ use memchr::memchr;
 
 /// Appends bytes.
 pub(crate) fn put_bytes(out: &mut Vec<u8>, bytes: &[u8]) -> Result<(), WriteFault>
-    ensures { OnOk result (out.new.items ≡ out.old.items ++ bytes.now) }
+    ensures put { OnOk result (out.new.items ≡ out.old.items ++ bytes.now) }
+    ensures refused { IfErr result (λ fault. fault ≡ WriteFault.Memory) }
 {
     let Ok(()) = out.extend_from_slice(bytes) else {
         return Err(WriteFault::Memory);
@@ -21,7 +22,8 @@ pub(crate) fn put_bytes(out: &mut Vec<u8>, bytes: &[u8]) -> Result<(), WriteFaul
 /// Appends a number of four bytes, the highest first.
 #[tactic(auto, unfolding(crate::specs::Written::word_bytes))]
 pub(crate) fn put_word(out: &mut Vec<u8>, word: u32) -> Result<(), WriteFault>
-    ensures { OnOk result (out.new.items ≡ out.old.items ++ word_bytes word) }
+    ensures put { OnOk result (out.new.items ≡ out.old.items ++ word_bytes word) }
+    ensures refused { IfErr result (λ fault. fault ≡ WriteFault.Memory) }
 {
     let mut bytes = [0; 4];
     BigEndian::write_u32(&mut bytes, word);
@@ -32,7 +34,8 @@ pub(crate) fn put_word(out: &mut Vec<u8>, word: u32) -> Result<(), WriteFault>
 /// Appends a number of eight bytes, the highest first.
 #[tactic(auto, unfolding(crate::specs::Written::double_word_bytes))]
 pub(crate) fn put_double_word(out: &mut Vec<u8>, word: u64) -> Result<(), WriteFault>
-    ensures { OnOk result (out.new.items ≡ out.old.items ++ double_word_bytes word) }
+    ensures put { OnOk result (out.new.items ≡ out.old.items ++ double_word_bytes word) }
+    ensures refused { IfErr result (λ fault. fault ≡ WriteFault.Memory) }
 {
     let mut bytes = [0; 8];
     BigEndian::write_u64(&mut bytes, word);
@@ -42,7 +45,8 @@ pub(crate) fn put_double_word(out: &mut Vec<u8>, word: u64) -> Result<(), WriteF
 
 /// Appends that many zeros.
 pub(crate) fn put_zeros(out: &mut Vec<u8>, count: usize) -> Result<(), WriteFault>
-    ensures { OnOk result (out.new.items ≡ out.old.items ++ replicate count 0) }
+    ensures put { OnOk result (out.new.items ≡ out.old.items ++ replicate count 0) }
+    ensures refused { IfErr result (λ fault. fault ≡ WriteFault.Memory) }
 {
     let mut left = count;
     'zeros: while left > 0 {
@@ -65,7 +69,8 @@ fn padding(len: usize, least: usize) -> usize
 
 /// Appends a value, and zeros up to a multiple of four.
 pub(crate) fn put_value(out: &mut Vec<u8>, value: &[u8]) -> Result<(), WriteFault>
-    ensures { OnOk result (out.new.items ≡ out.old.items ++ value_bytes value.now) }
+    ensures put { OnOk result (out.new.items ≡ out.old.items ++ value_bytes value.now) }
+    ensures refused { IfErr result (λ fault. fault ≡ WriteFault.Memory) }
 {
     put_bytes(out, value)?;
     put_zeros(out, padding(value.len(), 0))?;
@@ -74,7 +79,8 @@ pub(crate) fn put_value(out: &mut Vec<u8>, value: &[u8]) -> Result<(), WriteFaul
 
 /// Appends a text, the zero that ends it, and zeros up to a multiple of four.
 pub(crate) fn put_text(out: &mut Vec<u8>, text: &[u8]) -> Result<(), WriteFault>
-    ensures { OnOk result (out.new.items ≡ out.old.items ++ text_bytes text.now) }
+    ensures put { OnOk result (out.new.items ≡ out.old.items ++ text_bytes text.now) }
+    ensures refused { IfErr result (λ fault. fault ≡ WriteFault.Memory) }
 {
     put_bytes(out, text)?;
     put_zeros(out, padding(text.len(), 1))?;

@@ -1,11 +1,14 @@
 //! Which nodes are not the host's.
 
-ghost use Rattle.std.specs.Prelude.{◌≡◌, List, IfOk, Option, None, Some, codes, drop, option_map};
+ghost use Rattle.std.specs.Prelude.{◌≡◌, List, IfErr, IfOk, Option, None, Some, codes, drop, option_map};
 ghost use Rattle.device_tree.specs.Pieces.{parts_of};
 ghost use Rattle.board_ranges.specs.declared.rows.Extent.{Extent};
 ghost use Rattle.board_ranges.specs.Windows.{path_of};
 ghost use Rattle.board_ranges.specs.Properties.{value_in};
 ghost use Rattle.board_ranges.specs.Meaning.{is_there, live_kind};
+ghost use Rattle.board_ranges.specs.Refusals.{IsNodeFault, IsOwnFault};
+ghost use Rattle.board_ranges.specs.declared.fault.BoardReason.{BoardReason};
+ghost use Rattle.board_ranges.specs.declared.rows.RowFault.{RowFault};
 ghost use Rattle.host_tree.specs.Shares.{are_hosts, has_hart, is_closed, is_kept};
 ghost use Rattle.host_tree.specs.HostNodes.{AreRegisters};
 
@@ -59,8 +62,11 @@ fn registers_of(
     reg: Option<&[u8]>,
     cells: &Cells,
 ) -> Result<Vec<Extent>, MakeFault>
-    ensures { IfOk result (λ rows. AreRegisters kind
+    ensures ok { IfOk result (λ rows. AreRegisters kind
         (option_map (λ bytes. bytes.now) reg.entry) cells.now rows.items) }
+    ensures refused { IfErr result (λ fault. (rows : RowFault)
+        × (fault ≡ MakeFault.NotUnderstood (BoardReason.BadRows rows))
+        × IsOwnFault kind (option_map (λ bytes. bytes.now) reg.entry) cells.now rows) }
 {
     let Some(_) = kind else {
         return Ok(Vec::new(alloc));
@@ -92,11 +98,14 @@ pub(crate) fn is_closed<'a>(
     place: Place,
     bus: (&Cells, &Way),
 ) -> Result<bool, MakeFault>
-    ensures { IfOk result (λ closed. (rows : List Extent)
+    ensures ok { IfOk result (λ closed. (rows : List Extent)
         × AreRegisters (live_kind place (parts_of properties.now))
         (value_in (codes "reg") (parts_of properties.now)) bus.entry.0.now rows
         × (closed ≡ is_closed share.now.harts share.now.ranges.now (path_of bus.entry.1.now)
         (live_kind place (parts_of properties.now)) rows (parts_of properties.now))) }
+    ensures refused { IfErr result (λ fault. (reason : BoardReason)
+        × (fault ≡ MakeFault.NotUnderstood reason)
+        × IsNodeFault place bus.entry.0.now (parts_of properties.now) reason) }
 {
     let (cells, way) = bus;
     let kind = kind_of(place, properties);

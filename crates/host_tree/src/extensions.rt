@@ -1,6 +1,6 @@
 //! The names of a hart's extensions, without those that the monitor closes.
 
-ghost use Rattle.std.specs.Prelude.{◌≡◌, ◌++◌, ◌∷◌, IfOk, OnOk, List, [], drop};
+ghost use Rattle.std.specs.Prelude.{◌≡◌, ◌++◌, ◌∷◌, IfErr, IfOk, OnOk, List, [], drop};
 ghost use Rattle.host_tree.specs.Extensions.{is_closed_name, kept_unit, open_from, open_names};
 
 use crate::fault::MakeFault;
@@ -26,7 +26,8 @@ fn is_closed_name(name: &[u8]) -> bool
 
 /// Appends bytes.
 fn put_bytes(out: &mut Vec<u8>, bytes: &[u8]) -> Result<(), MakeFault>
-    ensures { OnOk result (out.new.items ≡ out.old.items ++ bytes.now) }
+    ensures put { OnOk result (out.new.items ≡ out.old.items ++ bytes.now) }
+    ensures refused { IfErr result (λ fault. fault ≡ MakeFault.NotWritten WriteFault.Memory) }
 {
     let Ok(()) = out.extend_from_slice(bytes) else {
         return Err(MakeFault::NotWritten(WriteFault::Memory));
@@ -36,7 +37,8 @@ fn put_bytes(out: &mut Vec<u8>, bytes: &[u8]) -> Result<(), MakeFault>
 
 /// Appends a separator and the name after it, where the name is not closed.
 fn put_unit(out: &mut Vec<u8>, unit: &[u8]) -> Result<(), MakeFault>
-    ensures { OnOk result (out.new.items ≡ out.old.items ++ kept_unit unit.now) }
+    ensures put { OnOk result (out.new.items ≡ out.old.items ++ kept_unit unit.now) }
+    ensures refused { IfErr result (λ fault. fault ≡ MakeFault.NotWritten WriteFault.Memory) }
 {
     let Some((_, name)) = unit.split_first() else {
         return Ok(());
@@ -49,7 +51,8 @@ fn put_unit(out: &mut Vec<u8>, unit: &[u8]) -> Result<(), MakeFault>
 
 /// A unit of one byte in place of another.
 fn begin_unit(unit: &mut Vec<u8>, byte: u8) -> Result<(), MakeFault>
-    ensures { OnOk result (unit.new.items ≡ byte ∷ []) }
+    ensures put { OnOk result (unit.new.items ≡ byte ∷ []) }
+    ensures refused { IfErr result (λ fault. fault ≡ MakeFault.NotWritten WriteFault.Memory) }
 {
     unit.clear();
     let Ok(()) = unit.push(byte) else {
@@ -60,7 +63,8 @@ fn begin_unit(unit: &mut Vec<u8>, byte: u8) -> Result<(), MakeFault>
 
 /// A unit and one byte more.
 fn add_byte(unit: &mut Vec<u8>, byte: u8) -> Result<(), MakeFault>
-    ensures { OnOk result (unit.new.items ≡ unit.old.items ++ byte ∷ []) }
+    ensures put { OnOk result (unit.new.items ≡ unit.old.items ++ byte ∷ []) }
+    ensures refused { IfErr result (λ fault. fault ≡ MakeFault.NotWritten WriteFault.Memory) }
 {
     let Ok(()) = unit.push(byte) else {
         return Err(MakeFault::NotWritten(WriteFault::Memory));
@@ -70,7 +74,8 @@ fn add_byte(unit: &mut Vec<u8>, byte: u8) -> Result<(), MakeFault>
 
 /// The names without those that are closed, with the `_` that comes before the first.
 fn open_units(alloc: Global, names: &[u8]) -> Result<Vec<u8>, MakeFault>
-    ensures { IfOk result (λ kept. kept.items ≡ open_from (95 ∷ []) names.now) }
+    ensures ok { IfOk result (λ kept. kept.items ≡ open_from (95 ∷ []) names.now) }
+    ensures refused { IfErr result (λ fault. fault ≡ MakeFault.NotWritten WriteFault.Memory) }
 {
     let mut open = Vec::new(alloc);
     let mut unit = Vec::new(alloc);
@@ -89,7 +94,8 @@ fn open_units(alloc: Global, names: &[u8]) -> Result<Vec<u8>, MakeFault>
 
 /// The value of `riscv,isa` or `riscv,isa-extensions` without the names that are closed.
 pub(crate) fn open_names(alloc: Global, names: &[u8]) -> Result<Vec<u8>, MakeFault>
-    ensures { IfOk result (λ kept. kept.items ≡ open_names names.now) }
+    ensures ok { IfOk result (λ kept. kept.items ≡ open_names names.now) }
+    ensures refused { IfErr result (λ fault. fault ≡ MakeFault.NotWritten WriteFault.Memory) }
 {
     let units = open_units(alloc, names)?;
     let mut open = Vec::new(alloc);

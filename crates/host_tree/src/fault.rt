@@ -1,5 +1,7 @@
 //! Why a host gets no tree.
 
+ghost use Rattle.std.specs.Prelude.{◌≡◌};
+
 use crate::write_fault::WriteFault;
 use board_ranges::{BoardReason, RowFault};
 use device_tree::TreeFault;
@@ -25,6 +27,8 @@ pub enum HostTreeFault {
 }
 
 /// What a node's rows were refused for.
-pub(crate) fn rows_fault(fault: RowFault) -> MakeFault {
+pub(crate) fn rows_fault(fault: RowFault) -> MakeFault
+    ensures { result ≡ MakeFault.NotUnderstood (BoardReason.BadRows fault) }
+{
     MakeFault::NotUnderstood(BoardReason::BadRows(fault))
 }

@@ -1,6 +1,6 @@
 //! The header: where the blocks are, and how large.
 
-ghost use Rattle.std.specs.Prelude.{◌≡◌, ◌++◌, OnOk, List, ℕ};
+ghost use Rattle.std.specs.Prelude.{◌≡◌, ◌++◌, IfErr, OnOk, List, ℕ};
 ghost use Rattle.host_tree.specs.Written.{words_bytes};
 ghost use Rattle.host_tree.specs.Header.{first_words, header_words, other_words};
 
@@ -31,8 +31,9 @@ pub(crate) struct Header {
 
 /// Appends the first five numbers.
 fn put_first(out: &mut Vec<u8>, header: &Header) -> Result<(), WriteFault>
-    ensures { OnOk result (out.new.items
+    ensures put { OnOk result (out.new.items
         ≡ out.old.items ++ words_bytes (first_words header.now)) }
+    ensures refused { IfErr result (λ fault. fault ≡ WriteFault.Memory) }
 {
     put_word(out, MAGIC)?;
     put_word(out, header.size)?;
@@ -44,8 +45,9 @@ fn put_first(out: &mut Vec<u8>, header: &Header) -> Result<(), WriteFault>
 
 /// Appends the other five.
 fn put_others(out: &mut Vec<u8>, header: &Header) -> Result<(), WriteFault>
-    ensures { OnOk result (out.new.items
+    ensures put { OnOk result (out.new.items
         ≡ out.old.items ++ words_bytes (other_words header.now)) }
+    ensures refused { IfErr result (λ fault. fault ≡ WriteFault.Memory) }
 {
     put_word(out, VERSION)?;
     put_word(out, OLDEST)?;
@@ -57,8 +59,9 @@ fn put_others(out: &mut Vec<u8>, header: &Header) -> Result<(), WriteFault>
 
 /// Appends a header.
 pub(crate) fn put_header(out: &mut Vec<u8>, header: &Header) -> Result<(), WriteFault>
-    ensures { OnOk result (out.new.items
+    ensures put { OnOk result (out.new.items
         ≡ out.old.items ++ words_bytes (header_words header.now)) }
+    ensures refused { IfErr result (λ fault. fault ≡ WriteFault.Memory) }
 {
     put_first(out, header)?;
     put_others(out, header)?;

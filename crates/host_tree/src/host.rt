@@ -1,13 +1,13 @@
 //! The tree of the host.
 
-ghost use Rattle.std.specs.Prelude.{◌≡◌, ◌≢◌, Err, List, IfOk, OnOk};
-ghost use Rattle.device_tree.specs.declared.reservations.Reservation.{Reservation};
-ghost use Rattle.device_tree.specs.declared.fault.TreeFault.{TreeFault};
+ghost use Rattle.std.specs.Prelude.{◌≡◌, ◌≤◌, IfErr, IfOk, OnOk, [], length};
 ghost use Rattle.device_tree.specs.Pieces.{parts_of};
 ghost use Rattle.device_tree.specs.Nodes.{Tree, parts_of_tree};
-ghost use Rattle.device_tree.specs.Trees.{ReadsAs, SpellsTree};
+ghost use Rattle.device_tree.specs.Trees.{SpellsTree};
+ghost use Rattle.device_tree.specs.Words.{word_at};
 ghost use Rattle.host_tree.specs.Written.{Adds};
 ghost use Rattle.host_tree.specs.HostTrees.{IsHostTree, IsHosts, portion_of};
+ghost use Rattle.host_tree.specs.Refusals.{IsHostTreeFault, IsMakeFault};
 
 use crate::fault::{HostTreeFault, MakeFault};
 use crate::properties::put_properties;
@@ -19,7 +19,7 @@ use crate::whole::Ends;
 use crate::writer::TreeWriter;
 use board_ranges::{BoardReason, cells_of, head_of};
 use byteorder::{BigEndian, ByteOrder};
-use device_tree::{DeviceTree, PlacedPiece, TreeReason, read_tree};
+use device_tree::{DeviceTree, PlacedPiece, read_tree};
 use std::alloc::Global;
 
 /// Writes the host's tree of a board's, whose pieces these are.
@@ -30,9 +30,11 @@ fn put_tree<'a>(
     ranges: &[Reserved],
     writer: &mut TreeWriter,
 ) -> Result<(), MakeFault>
-    ensures { OnOk result ((board : Tree) → parts_of pieces.now ≡ parts_of_tree board
+    ensures put { OnOk result ((board : Tree) → parts_of pieces.now ≡ parts_of_tree board
         → (made : Tree) × IsHostTree (portion_of share.now) ranges.now board made
         × Adds writer.old writer.new (parts_of_tree made)) }
+    ensures refused { IfErr result (λ fault. (board : Tree)
+        → parts_of pieces.now ≡ parts_of_tree board → IsMakeFault board ranges.now [] fault) }
 {
     let Some(root) = head_of(pieces) else {
         return Ok(());
@@ -48,10 +50,10 @@ fn put_tree<'a>(
 }
 
 /// The number of the hart that boots, as a tree's header says it.
-fn boot_hart_of(bytes: &[u8]) -> u32 {
-    if bytes.len() < 32 {
-        return 0;
-    }
+fn boot_hart_of(bytes: &[u8]) -> u32
+    requires { 32 ≤ length bytes.now }
+    ensures { result ≡ word_at bytes.now 28 }
+{
     BigEndian::read_u32(&bytes[28..])
 }
 
@@ -64,10 +66,14 @@ fn written<'a>(
     boot_hart: u32,
     free: u32,
 ) -> Result<Vec<u8>, MakeFault>
-    ensures { IfOk result (λ out. (board : Tree)
+    ensures ok { IfOk result (λ out. (board : Tree)
         → parts_of read.now.pieces.items ≡ parts_of_tree board
         → (made : Tree) × IsHostTree (portion_of share.now) ranges.now board made
         × SpellsTree out.items made read.now.reservations.items) }
+    ensures boot_hart { IfOk result (λ out. word_at out.items 28 ≡ boot_hart) }
+    ensures refused { IfErr result (λ fault. (board : Tree)
+        → parts_of read.now.pieces.items ≡ parts_of_tree board
+        → IsMakeFault board ranges.now read.now.reservations.items fault) }
 {
     let mut writer = TreeWriter::new(alloc);
     put_tree(alloc, share, read.pieces.as_slice(), ranges, &mut writer)?;
@@ -98,16 +104,16 @@ pub fn host_tree(
 ) -> Result<Vec<u8>, HostTreeFault>
     ensures ok { IfOk result (λ out.
         IsHosts (portion_of share.now) ranges.now bytes.now out.items) }
-    ensures refused { (fault : TreeFault) → result ≡ Err (HostTreeFault.NotRead fault)
-        → fault.reason ≢ TreeReason.Memory
-        → (tree : Tree) (reservations : List Reservation)
-        → ReadsAs bytes.now tree reservations → ⊥ }
+    ensures refused { IfErr result (IsHostTreeFault ranges.now bytes.now) }
 {
     match read_tree(alloc, bytes) {
-        Ok(read) => match written(alloc, share, &read, ranges, boot_hart_of(bytes), free) {
-            Ok(out) => Ok(out),
-            Err(fault) => Err(HostTreeFault::NotMade(fault)),
-        },
+        Ok(read) => {
+            let boot_hart = boot_hart_of(bytes);
+            match written(alloc, share, &read, ranges, boot_hart, free) {
+                Ok(out) => Ok(out),
+                Err(fault) => Err(HostTreeFault::NotMade(fault)),
+            }
+        }
         Err(fault) => Err(HostTreeFault::NotRead(fault)),
     }
 }

@@ -1,8 +1,9 @@
 //! The host's tree in place of the board's.
 
-ghost use Rattle.std.specs.Prelude.{◌≡◌, ◌++◌, IfOk, OnErr, OnOk, List, ℕ};
+ghost use Rattle.std.specs.Prelude.{◌≡◌, ◌<◌, ◌++◌, IfErr, IfOk, OnErr, OnOk, List, ℕ, length};
 ghost use Rattle.host_tree.specs.Platforms.{portion_in, reserved_in};
 ghost use Rattle.host_tree.specs.HostTrees.{IsHosts};
+ghost use Rattle.host_tree.specs.Refusals.{IsHostTreeFault, IsPlaceFault};
 
 use crate::fault::{HostTreeFault, MakeFault};
 use crate::host::host_tree;
@@ -31,7 +32,8 @@ fn reserved_in(
     platform: &PlatformWords,
     pool: Extent,
 ) -> Result<Vec<Reserved>, MakeFault>
-    ensures { IfOk result (λ list. list.items ≡ reserved_in platform.now pool) }
+    ensures ok { IfOk result (λ list. list.items ≡ reserved_in platform.now pool) }
+    ensures refused { IfErr result (λ fault. fault ≡ MakeFault.NotWritten WriteFault.Memory) }
 {
     let mut list = Vec::new(alloc);
     let monitor = Reserved {
@@ -60,6 +62,8 @@ fn reserved_in(
 fn put_front(place: &mut [u8], bytes: &[u8]) -> Result<(), PlaceFault>
     ensures done { OnOk result ((rest : List ℕ) × (place.new ≡ bytes.now ++ rest)) }
     ensures kept { OnErr result (place.new ≡ place.old) }
+    ensures refused { IfErr result (λ fault. (fault ≡ PlaceFault.NoRoom)
+        × (length place.old < length bytes.now)) }
 {
     if bytes.len() > place.len() {
         return Err(PlaceFault::NoRoom);
@@ -75,8 +79,10 @@ fn tree_for(
     pool: Extent,
     place: &[u8],
 ) -> Result<Vec<u8>, HostTreeFault>
-    ensures { IfOk result (λ out. IsHosts (portion_in platform.now)
+    ensures ok { IfOk result (λ out. IsHosts (portion_in platform.now)
         (reserved_in platform.now pool) place.now out.items) }
+    ensures refused { IfErr result
+        (IsHostTreeFault (reserved_in platform.now pool) place.now) }
 {
     let ranges = match platform.ranges(alloc) {
         Ok(ranges) => ranges,
@@ -110,6 +116,7 @@ pub fn put_host_tree(
     ensures done { OnOk result ((out rest : List ℕ) × (place.new ≡ out ++ rest)
         × IsHosts (portion_in platform.now) (reserved_in platform.now pool) place.old out) }
     ensures kept { OnErr result (place.new ≡ place.old) }
+    ensures refused { IfErr result (IsPlaceFault platform.now pool place.old) }
 {
     match tree_for(alloc, platform, pool, place) {
         Ok(tree) => put_front(place, tree.as_slice()),

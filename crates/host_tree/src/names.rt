@@ -1,6 +1,6 @@
 //! The strings block: the names of properties, each with the zero that ends it.
 
-ghost use Rattle.std.specs.Prelude.{◌≡◌, ◌+◌, ◌≤◌, ◌<◌, ◌^◌, ◌++◌, IfOk, IfSome, OnOk, List, ℕ, drop, length};
+ghost use Rattle.std.specs.Prelude.{◌≡◌, ◌+◌, ◌≤◌, ◌<◌, ◌^◌, ◌++◌, IfErr, IfOk, IfSome, OnOk, List, ℕ, drop, length};
 ghost use Rattle.device_tree.specs.Words.{BeginsWithText};
 ghost use Rattle.host_tree.specs.Written.{IsText};
 
@@ -34,6 +34,7 @@ fn place_in(names: &[u8], name: &[u8]) -> Option<usize>
 pub(crate) fn word_of(place: usize) -> Result<u32, WriteFault>
     ensures same { IfOk result (λ word. word ≡ place) }
     ensures fits { OnOk result (place < 2 ^ 32) }
+    ensures refused { IfErr result (λ fault. fault ≡ WriteFault.TooLarge) }
 {
     if place > u32::MAX as usize {
         return Err(WriteFault::TooLarge);
@@ -44,8 +45,9 @@ pub(crate) fn word_of(place: usize) -> Result<u32, WriteFault>
 /// Appends a name, and answers its place.
 fn add_name(names: &mut Vec<u8>, name: &[u8]) -> Result<usize, WriteFault>
     requires { IsText name.now }
-    ensures { IfOk result (λ place. BeginsWithText (drop place names.new.items) name.now
+    ensures put { IfOk result (λ place. BeginsWithText (drop place names.new.items) name.now
         × (added : List ℕ) × (names.new.items ≡ names.old.items ++ added)) }
+    ensures refused { IfErr result (λ fault. fault ≡ WriteFault.Memory) }
 {
     let place = names.as_slice().len();
     put_bytes(names, name)?;
@@ -56,8 +58,9 @@ fn add_name(names: &mut Vec<u8>, name: &[u8]) -> Result<usize, WriteFault>
 /// The place of a name, which is added where it is not there.
 pub(crate) fn place_of(names: &mut Vec<u8>, name: &[u8]) -> Result<usize, WriteFault>
     requires { IsText name.now }
-    ensures { IfOk result (λ place. BeginsWithText (drop place names.new.items) name.now
+    ensures put { IfOk result (λ place. BeginsWithText (drop place names.new.items) name.now
         × (added : List ℕ) × (names.new.items ≡ names.old.items ++ added)) }
+    ensures refused { IfErr result (λ fault. fault ≡ WriteFault.Memory) }
 {
     if let Some(place) = place_in(names.as_slice(), name) {
         return Ok(place);

@@ -1,11 +1,12 @@
 //! The beginning of a node and its properties as the host has them.
 
-ghost use Rattle.std.specs.Prelude.{◌≡◌, ◌∷◌, OnOk, List, codes, map};
+ghost use Rattle.std.specs.Prelude.{◌≡◌, ◌∷◌, IfErr, OnOk, List, codes, map};
 ghost use Rattle.device_tree.specs.Pieces.{Setting, begins, has, parts_of};
 ghost use Rattle.board_ranges.specs.declared.rows.Extent.{Extent};
 ghost use Rattle.board_ranges.specs.Windows.{path_of};
 ghost use Rattle.board_ranges.specs.Properties.{value_in};
 ghost use Rattle.board_ranges.specs.Meaning.{live_kind};
+ghost use Rattle.host_tree.specs.Refusals.{IsHeadFault};
 ghost use Rattle.host_tree.specs.Written.{Adds};
 ghost use Rattle.host_tree.specs.HostNodes.{AreRegisters, node_settings};
 ghost use Rattle.host_tree.specs.HostTrees.{portion_of};
@@ -28,12 +29,15 @@ pub(crate) fn put_head<'a>(
     bus: (&Cells, &Way),
     writer: &mut TreeWriter,
 ) -> Result<(), MakeFault>
-    ensures { OnOk result ((rows : List Extent)
+    ensures put { OnOk result ((rows : List Extent)
         × AreRegisters (live_kind place (parts_of head.now.properties.now))
         (value_in (codes "reg") (parts_of head.now.properties.now)) bus.entry.0.now rows
         × ((own : List Setting) → parts_of head.now.properties.now ≡ map has own
         → Adds writer.old writer.new (begins head.now.name.now ∷ map has
         (node_settings (portion_of share.now) place (path_of bus.entry.1.now) rows own)))) }
+    ensures refused { IfErr result (IsHeadFault place bus.entry.0.now
+        (parts_of head.now.properties.now)
+        (begins head.now.name.now ∷ parts_of head.now.properties.now)) }
 {
     let is_closed = is_closed(alloc, share, head.properties, place, bus)?;
     put_begin(writer, head.name)?;

@@ -1,10 +1,11 @@
 //! A new `/reserved-memory`.
 
-ghost use Rattle.std.specs.Prelude.{◌≡◌, ◌<◌, ◌≤◌, ◌^◌, ◌++◌, OnOk, List, map};
+ghost use Rattle.std.specs.Prelude.{◌≡◌, ◌<◌, ◌≤◌, ◌^◌, ◌++◌, IfErr, OnOk, List, [], map};
 ghost use Rattle.byteorder.specs.Endian.{big_bytes};
 ghost use Rattle.device_tree.specs.Nodes.{no_nodes, parts_of_nodes};
 ghost use Rattle.device_tree.specs.Pieces.{has};
 ghost use Rattle.host_tree.specs.Written.{Adds};
+ghost use Rattle.host_tree.specs.Refusals.{IsPutFault, IsRangeFault};
 ghost use Rattle.host_tree.specs.Ranges.{AllFit, parent_settings, with_ranges};
 
 use crate::fault::MakeFault;
@@ -27,7 +28,8 @@ fn count_bytes(cells: usize) -> [u8; 4]
 
 /// Writes the properties of a new `/reserved-memory`.
 fn put_settings(writer: &mut TreeWriter, cells: &Cells) -> Result<(), MakeFault>
-    ensures { OnOk result (Adds writer.old writer.new (map has (parent_settings cells.now))) }
+    ensures put { OnOk result (Adds writer.old writer.new (map has (parent_settings cells.now))) }
+    ensures refused { IfErr result (IsPutFault []) }
 {
     let address = count_bytes(cells.address);
     let size = count_bytes(cells.size);
@@ -47,6 +49,7 @@ pub(crate) fn put_parent(
     ensures written { OnOk result (Adds writer.old writer.new
         (parts_of_nodes (with_ranges cells.now ranges.now no_nodes))) }
     ensures fit { OnOk result (AllFit cells.now ranges.now) }
+    ensures refused { IfErr result (IsRangeFault cells.now ranges.now) }
 {
     put_begin(writer, b"reserved-memory".as_slice())?;
     put_settings(writer, cells)?;

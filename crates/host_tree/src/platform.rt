@@ -1,8 +1,9 @@
 //! A platform as firmware has it, of which a board may have less.
 
-ghost use Rattle.std.specs.Prelude.{◌≡◌, ◌++◌, ◌∷◌, MatchOption, OnErr, OnOk, IfOk, List, [], ℕ, suc, ◌≤◌, drop, length};
+ghost use Rattle.std.specs.Prelude.{◌≡◌, ◌++◌, ◌∷◌, MatchOption, OnErr, OnOk, IfErr, IfOk, List, [], ℕ, suc, ◌*◌, ◌≤◌, drop, length};
 ghost use Rattle.board_ranges.specs.declared.rows.Extent.{Extent};
 ghost use Rattle.host_tree.specs.Platforms.{IsClipped, IsFound, clipped_one, flat_words, pairs_in, triples_in};
+ghost use Rattle.host_tree.specs.Refusals.{IsBoardOfFault};
 
 use crate::board::{Board, board_of};
 use crate::fault::{HostTreeFault, MakeFault};
@@ -30,7 +31,8 @@ pub struct PlatformWords {
 
 /// Appends an extent.
 fn push(list: &mut Vec<Extent>, extent: Extent) -> Result<(), MakeFault>
-    ensures { OnOk result (list.new.items ≡ list.old.items ++ extent ∷ []) }
+    ensures put { OnOk result (list.new.items ≡ list.old.items ++ extent ∷ []) }
+    ensures refused { IfErr result (λ fault. fault ≡ MakeFault.NotWritten WriteFault.Memory) }
 {
     let Ok(()) = list.push(extent) else {
         return Err(MakeFault::NotWritten(WriteFault::Memory));
@@ -80,7 +82,8 @@ fn first_triple(words: &[u64]) -> Option<(Extent, &[u64])>
 
 /// Appends the extents of so many pairs, or of as many as there are.
 fn put_pairs(list: &mut Vec<Extent>, words: &[u64], count: u64) -> Result<(), MakeFault>
-    ensures { OnOk result (list.new.items ≡ list.old.items ++ pairs_in count words.now) }
+    ensures put { OnOk result (list.new.items ≡ list.old.items ++ pairs_in count words.now) }
+    ensures refused { IfErr result (λ fault. fault ≡ MakeFault.NotWritten WriteFault.Memory) }
 {
     let mut left = count;
     let mut rest = words;
@@ -97,7 +100,8 @@ fn put_pairs(list: &mut Vec<Extent>, words: &[u64], count: u64) -> Result<(), Ma
 
 /// The same of a base, a size and another number.
 fn put_triples(list: &mut Vec<Extent>, words: &[u64], count: u64) -> Result<(), MakeFault>
-    ensures { OnOk result (list.new.items ≡ list.old.items ++ triples_in count words.now) }
+    ensures put { OnOk result (list.new.items ≡ list.old.items ++ triples_in count words.now) }
+    ensures refused { IfErr result (λ fault. fault ≡ MakeFault.NotWritten WriteFault.Memory) }
 {
     let mut left = count;
     let mut rest = words;
@@ -115,7 +119,8 @@ fn put_triples(list: &mut Vec<Extent>, words: &[u64], count: u64) -> Result<(), 
 impl PlatformWords {
     /// The ranges of memory.
     fn memory(&self, alloc: Global) -> Result<Vec<Extent>, MakeFault>
-        ensures { IfOk result (λ list. list.items ≡ pairs_in self.now.ram_count self.now.ram) }
+        ensures ok { IfOk result (λ list. list.items ≡ pairs_in self.now.ram_count self.now.ram) }
+        ensures refused { IfErr result (λ fault. fault ≡ MakeFault.NotWritten WriteFault.Memory) }
     {
         let mut list = Vec::new(alloc);
         put_pairs(&mut list, self.ram.as_slice(), self.ram_count)?;
@@ -124,8 +129,9 @@ impl PlatformWords {
 
     /// The ranges of addresses that its host has: memory and devices.
     pub fn ranges(&self, alloc: Global) -> Result<Vec<Extent>, MakeFault>
-        ensures { IfOk result (λ list. list.items ≡ pairs_in self.now.ram_count self.now.ram
+        ensures ok { IfOk result (λ list. list.items ≡ pairs_in self.now.ram_count self.now.ram
             ++ triples_in self.now.device_count self.now.device) }
+        ensures refused { IfErr result (λ fault. fault ≡ MakeFault.NotWritten WriteFault.Memory) }
     {
         let mut list = Vec::new(alloc);
         put_pairs(&mut list, self.ram.as_slice(), self.ram_count)?;
@@ -136,8 +142,9 @@ impl PlatformWords {
 
 /// Appends as much of a range as a board with this memory has, if it has some.
 fn put_clipped(list: &mut Vec<Extent>, memory: &[Extent], range: Extent) -> Result<(), MakeFault>
-    ensures { OnOk result ((kept : List Extent)
+    ensures put { OnOk result ((kept : List Extent)
         × (list.new.items ≡ list.old.items ++ kept) × clipped_one memory.now range kept) }
+    ensures refused { IfErr result (λ fault. fault ≡ MakeFault.NotWritten WriteFault.Memory) }
 {
     let size = memory_there(memory, range.base, range.size);
     if size == 0 {
@@ -154,7 +161,8 @@ fn put_clipped(list: &mut Vec<Extent>, memory: &[Extent], range: Extent) -> Resu
 
 /// As much of each range as a board with this memory has.
 fn clipped(alloc: Global, memory: &[Extent], ranges: &[Extent]) -> Result<Vec<Extent>, MakeFault>
-    ensures { IfOk result (λ list. IsClipped memory.now ranges.now list.items) }
+    ensures ok { IfOk result (λ list. IsClipped memory.now ranges.now list.items) }
+    ensures refused { IfErr result (λ fault. fault ≡ MakeFault.NotWritten WriteFault.Memory) }
 {
     let mut list = Vec::new(alloc);
     for range in ranges {
@@ -165,8 +173,9 @@ fn clipped(alloc: Global, memory: &[Extent], ranges: &[Extent]) -> Result<Vec<Ex
 
 /// Appends a base and a size.
 fn put_words(words: &mut Vec<u64>, range: Extent) -> Result<(), MakeFault>
-    ensures { OnOk result (words.new.items
+    ensures put { OnOk result (words.new.items
         ≡ words.old.items ++ range.base ∷ range.size ∷ []) }
+    ensures refused { IfErr result (λ fault. fault ≡ MakeFault.NotWritten WriteFault.Memory) }
 {
     let Ok(()) = words.push(range.base) else {
         return Err(MakeFault::NotWritten(WriteFault::Memory));
@@ -179,7 +188,9 @@ fn put_words(words: &mut Vec<u64>, range: Extent) -> Result<(), MakeFault>
 
 /// The words of ranges, one after another.
 fn flat_words(alloc: Global, ranges: &[Extent]) -> Result<Vec<u64>, MakeFault>
-    ensures { IfOk result (λ words. words.items ≡ flat_words ranges.now) }
+    ensures ok { IfOk result (λ words. words.items ≡ flat_words ranges.now) }
+    ensures len { IfOk result (λ words. length words.items ≡ 2 * length ranges.now) }
+    ensures refused { IfErr result (λ fault. fault ≡ MakeFault.NotWritten WriteFault.Memory) }
 {
     let mut words = Vec::new(alloc);
     for range in ranges {
@@ -190,13 +201,12 @@ fn flat_words(alloc: Global, ranges: &[Extent]) -> Result<Vec<u64>, MakeFault>
 
 /// The words of ranges, of which a platform has at most 32, and zeros behind them.
 fn words_of(alloc: Global, ranges: &[Extent]) -> Result<[u64; 64], MakeFault>
-    ensures { IfOk result (λ words. (zeros : List ℕ)
+    requires { length ranges.now ≤ 32 }
+    ensures ok { IfOk result (λ words. (zeros : List ℕ)
         × (words ≡ flat_words ranges.now ++ zeros)) }
+    ensures refused { IfErr result (λ fault. fault ≡ MakeFault.NotWritten WriteFault.Memory) }
 {
     let flat = flat_words(alloc, ranges)?;
-    if flat.len() > 64 {
-        return Err(MakeFault::NotWritten(WriteFault::TooLarge));
-    }
     let mut words = [0; 64];
     words[..flat.len()].copy_from_slice(flat.as_slice());
     Ok(words)
@@ -208,9 +218,10 @@ fn left_of(
     board: &Board,
     platform: &PlatformWords,
 ) -> Result<(u64, [u64; 64]), MakeFault>
-    ensures { IfOk result (λ left. (ranges : List Extent)
+    ensures ok { IfOk result (λ left. (ranges : List Extent)
         × IsClipped board.now.memory.items (pairs_in platform.now.ram_count platform.now.ram) ranges
         × (left.0 ≡ length ranges) × (zeros : List ℕ) × (left.1 ≡ flat_words ranges ++ zeros)) }
+    ensures refused { IfErr result (λ fault. fault ≡ MakeFault.NotWritten WriteFault.Memory) }
 {
     let ranges = platform.memory(alloc)?;
     let left = clipped(alloc, board.memory.as_slice(), ranges.as_slice())?;
@@ -230,6 +241,7 @@ pub fn find_platform(
 ) -> Result<(), HostTreeFault>
     ensures found { OnOk result (IsFound bytes.now platform.old platform.new) }
     ensures kept { OnErr result (platform.new ≡ platform.old) }
+    ensures refused { IfErr result (IsBoardOfFault bytes.now) }
 {
     let board = match board_of(alloc, bytes) {
         Ok(board) => board,

@@ -1,7 +1,8 @@
 //! The properties of a node as the host has them.
 
-ghost use Rattle.std.specs.Prelude.{◌≡◌, ◌∷◌, OnOk, List, [], map};
+ghost use Rattle.std.specs.Prelude.{◌≡◌, ◌∷◌, IfErr, OnOk, List, [], map};
 ghost use Rattle.device_tree.specs.Pieces.{Setting, has, part_of, parts_of};
+ghost use Rattle.host_tree.specs.Refusals.{IsPutFault};
 ghost use Rattle.host_tree.specs.Written.{Adds, setting};
 ghost use Rattle.host_tree.specs.Settings.{host_settings, host_value, left_setting, left_settings, names_extensions, status_of};
 
@@ -27,8 +28,9 @@ fn put_host_value(
     value: &[u8],
     is_hart: bool,
 ) -> Result<(), MakeFault>
-    ensures { OnOk result (Adds writer.old writer.new
+    ensures put { OnOk result (Adds writer.old writer.new
         (has (setting name.now (host_value is_hart name.now value.now)) ∷ [])) }
+    ensures refused { IfErr result (IsPutFault (has (setting name.now value.now) ∷ [])) }
 {
     if is_hart && names_extensions(name) {
         let open = open_names(alloc, value)?;
@@ -46,8 +48,9 @@ fn put_left(
     is_hart: bool,
     is_closed: bool,
 ) -> Result<(), MakeFault>
-    ensures { OnOk result (Adds writer.old writer.new
+    ensures put { OnOk result (Adds writer.old writer.new
         (map has (left_setting is_hart is_closed (setting name.now value.now)))) }
+    ensures refused { IfErr result (IsPutFault (has (setting name.now value.now) ∷ [])) }
 {
     if is_closed && name == b"status".as_slice() {
         return Ok(());
@@ -63,8 +66,9 @@ fn put_piece(
     is_hart: bool,
     is_closed: bool,
 ) -> Result<(), MakeFault>
-    ensures { OnOk result ((one : Setting) → part_of piece.entry ≡ has one
+    ensures put { OnOk result ((one : Setting) → part_of piece.entry ≡ has one
         → Adds writer.old writer.new (map has (left_setting is_hart is_closed one))) }
+    ensures refused { IfErr result (IsPutFault (part_of piece.entry ∷ [])) }
 {
     match piece {
         Piece::Has(name, value) => put_left(alloc, writer, name, value, is_hart, is_closed),
@@ -74,7 +78,8 @@ fn put_piece(
 
 /// Writes the status of a node that is closed.
 fn put_status(writer: &mut TreeWriter, is_closed: bool) -> Result<(), MakeFault>
-    ensures { OnOk result (Adds writer.old writer.new (map has (status_of is_closed))) }
+    ensures put { OnOk result (Adds writer.old writer.new (map has (status_of is_closed))) }
+    ensures refused { IfErr result (IsPutFault []) }
 {
     if is_closed {
         return put_property(writer, b"status".as_slice(), b"disabled\0".as_slice());
@@ -90,8 +95,9 @@ fn put_all_left<'a>(
     is_hart: bool,
     is_closed: bool,
 ) -> Result<(), MakeFault>
-    ensures { OnOk result ((own : List Setting) → parts_of properties.now ≡ map has own
+    ensures put { OnOk result ((own : List Setting) → parts_of properties.now ≡ map has own
         → Adds writer.old writer.new (map has (left_settings is_hart is_closed own))) }
+    ensures refused { IfErr result (IsPutFault (parts_of properties.now)) }
 {
     for placed in properties {
         put_piece(alloc, writer, placed.piece, is_hart, is_closed)?;
@@ -107,8 +113,9 @@ pub(crate) fn put_properties<'a>(
     is_hart: bool,
     is_closed: bool,
 ) -> Result<(), MakeFault>
-    ensures { OnOk result ((own : List Setting) → parts_of properties.now ≡ map has own
+    ensures put { OnOk result ((own : List Setting) → parts_of properties.now ≡ map has own
         → Adds writer.old writer.new (map has (host_settings is_hart is_closed own))) }
+    ensures refused { IfErr result (IsPutFault (parts_of properties.now)) }
 {
     put_status(writer, is_closed)?;
     put_all_left(alloc, writer, properties, is_hart, is_closed)?;

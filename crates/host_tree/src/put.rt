@@ -1,7 +1,8 @@
 //! Parts of a tree, written.
 
-ghost use Rattle.std.specs.Prelude.{◌∷◌, OnOk, []};
+ghost use Rattle.std.specs.Prelude.{◌∷◌, IfErr, OnOk, []};
 ghost use Rattle.device_tree.specs.Pieces.{begins, ends, has};
+ghost use Rattle.host_tree.specs.Refusals.{IsPutFault};
 ghost use Rattle.host_tree.specs.Written.{Adds, setting};
 
 use crate::fault::MakeFault;
@@ -9,7 +10,8 @@ use crate::writer::TreeWriter;
 
 /// Writes the beginning of a node.
 pub(crate) fn put_begin(writer: &mut TreeWriter, name: &[u8]) -> Result<(), MakeFault>
-    ensures { OnOk result (Adds writer.old writer.new (begins name.now ∷ [])) }
+    ensures put { OnOk result (Adds writer.old writer.new (begins name.now ∷ [])) }
+    ensures refused { IfErr result (IsPutFault (begins name.now ∷ [])) }
 {
     match writer.begin_node(name) {
         Ok(()) => Ok(()),
@@ -23,7 +25,8 @@ pub(crate) fn put_property(
     name: &[u8],
     value: &[u8],
 ) -> Result<(), MakeFault>
-    ensures { OnOk result (Adds writer.old writer.new (has (setting name.now value.now) ∷ [])) }
+    ensures put { OnOk result (Adds writer.old writer.new (has (setting name.now value.now) ∷ [])) }
+    ensures refused { IfErr result (IsPutFault (has (setting name.now value.now) ∷ [])) }
 {
     match writer.property(name, value) {
         Ok(()) => Ok(()),
@@ -33,7 +36,8 @@ pub(crate) fn put_property(
 
 /// Writes the end of a node.
 pub(crate) fn put_end(writer: &mut TreeWriter) -> Result<(), MakeFault>
-    ensures { OnOk result (Adds writer.old writer.new (ends ∷ [])) }
+    ensures put { OnOk result (Adds writer.old writer.new (ends ∷ [])) }
+    ensures refused { IfErr result (IsPutFault []) }
 {
     match writer.end_node() {
         Ok(()) => Ok(()),

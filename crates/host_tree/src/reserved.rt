@@ -1,10 +1,11 @@
 //! Ranges that are reserved, as nodes.
 
-ghost use Rattle.std.specs.Prelude.{◌≡◌, ◌*◌, ◌<◌, ◌≤◌, ◌^◌, ◌++◌, ◌∷◌, OnOk, IfOk, List, [], map, drop};
+ghost use Rattle.std.specs.Prelude.{◌≡◌, ◌⊎◌, ◌*◌, ◌<◌, ◌≤◌, ◌^◌, ◌++◌, ◌∷◌, OnOk, IfErr, IfOk, List, [], map, drop};
 ghost use Rattle.byteorder.specs.Endian.{big_bytes};
 ghost use Rattle.device_tree.specs.Pieces.{has};
 ghost use Rattle.device_tree.specs.Nodes.{parts_of_nodes};
 ghost use Rattle.host_tree.specs.Written.{Adds};
+ghost use Rattle.host_tree.specs.Refusals.{IsPutFault, IsRangeFault, IsUnfit, IsUnfitRange};
 ghost use Rattle.host_tree.specs.Ranges.{AllFit, Fits, compatible_of, hex_digit, hex_text, purpose_name, range_name, range_nodes, range_settings, reg_bytes};
 
 use crate::fault::MakeFault;
@@ -33,7 +34,8 @@ pub struct Reserved {
 
 /// Appends bytes.
 fn put_bytes(out: &mut Vec<u8>, bytes: &[u8]) -> Result<(), MakeFault>
-    ensures { OnOk result (out.new.items ≡ out.old.items ++ bytes.now) }
+    ensures put { OnOk result (out.new.items ≡ out.old.items ++ bytes.now) }
+    ensures refused { IfErr result (λ fault. fault ≡ MakeFault.NotWritten WriteFault.Memory) }
 {
     let Ok(()) = out.extend_from_slice(bytes) else {
         return Err(MakeFault::NotWritten(WriteFault::Memory));
@@ -44,7 +46,8 @@ fn put_bytes(out: &mut Vec<u8>, bytes: &[u8]) -> Result<(), MakeFault>
 /// Appends a digit to the base 16.
 fn put_digit(out: &mut Vec<u8>, value: u8) -> Result<(), MakeFault>
     requires { value < 16 }
-    ensures { OnOk result (out.new.items ≡ out.old.items ++ hex_digit value ∷ []) }
+    ensures put { OnOk result (out.new.items ≡ out.old.items ++ hex_digit value ∷ []) }
+    ensures refused { IfErr result (λ fault. fault ≡ MakeFault.NotWritten WriteFault.Memory) }
 {
     let digit = if value < 10 { 48 + value } else { 87 + value };
     let Ok(()) = out.push(digit) else {
@@ -55,7 +58,8 @@ fn put_digit(out: &mut Vec<u8>, value: u8) -> Result<(), MakeFault>
 
 /// Appends a number to the base 16, its lowest digits, at most so many.
 fn put_hex(out: &mut Vec<u8>, most: u32, value: u64) -> Result<(), MakeFault>
-    ensures { OnOk result (out.new.items ≡ out.old.items ++ hex_text most value) }
+    ensures put { OnOk result (out.new.items ≡ out.old.items ++ hex_text most value) }
+    ensures refused { IfErr result (λ fault. fault ≡ MakeFault.NotWritten WriteFault.Memory) }
 {
     if most == 0 {
         return Ok(());
@@ -81,7 +85,8 @@ fn purpose_name(purpose: Purpose) -> &'static [u8]
 
 /// The name of a range's node.
 fn range_name(alloc: Global, range: Reserved) -> Result<Vec<u8>, MakeFault>
-    ensures { IfOk result (λ name. name.items ≡ range_name range) }
+    ensures ok { IfOk result (λ name. name.items ≡ range_name range) }
+    ensures refused { IfErr result (λ fault. fault ≡ MakeFault.NotWritten WriteFault.Memory) }
 {
     let mut name = Vec::new(alloc);
     put_bytes(&mut name, purpose_name(range.purpose))?;
@@ -94,6 +99,8 @@ fn range_name(alloc: Global, range: Reserved) -> Result<Vec<u8>, MakeFault>
 fn put_cells(out: &mut Vec<u8>, cells: usize, number: u64) -> Result<(), MakeFault>
     ensures spelt { OnOk result (out.new.items ≡ out.old.items ++ big_bytes (4 * cells) number) }
     ensures fits { OnOk result (number < 256 ^ (4 * cells)) }
+    ensures refused { IfErr result (λ fault. (fault ≡ MakeFault.NotWritten WriteFault.Memory)
+        ⊎ ((fault ≡ MakeFault.BadCells) × IsUnfit cells number)) }
 {
     if cells == 1 && number < 1 << 32 {
         let mut bytes = [0; 4];
@@ -112,6 +119,8 @@ fn put_cells(out: &mut Vec<u8>, cells: usize, number: u64) -> Result<(), MakeFau
 fn reg_bytes(alloc: Global, cells: &Cells, extent: Extent) -> Result<Vec<u8>, MakeFault>
     ensures spelt { IfOk result (λ reg. reg.items ≡ reg_bytes cells.now extent) }
     ensures fits { OnOk result (Fits cells.now extent) }
+    ensures refused { IfErr result (λ fault. (fault ≡ MakeFault.NotWritten WriteFault.Memory)
+        ⊎ ((fault ≡ MakeFault.BadCells) × IsUnfitRange cells.now extent)) }
 {
     let mut reg = Vec::new(alloc);
     put_cells(&mut reg, cells.address, extent.base)?;
@@ -121,7 +130,8 @@ fn reg_bytes(alloc: Global, cells: &Cells, extent: Extent) -> Result<Vec<u8>, Ma
 
 /// Writes for what an operating system may use a range.
 fn put_compatible(writer: &mut TreeWriter, purpose: Purpose) -> Result<(), MakeFault>
-    ensures { OnOk result (Adds writer.old writer.new (map has (compatible_of purpose))) }
+    ensures put { OnOk result (Adds writer.old writer.new (map has (compatible_of purpose))) }
+    ensures refused { IfErr result (IsPutFault []) }
 {
     match purpose {
         Purpose::Monitor => Ok(()),
@@ -146,6 +156,7 @@ fn put_settings(
     ensures written { OnOk result (Adds writer.old writer.new
         (map has (range_settings cells.now range))) }
     ensures fits { OnOk result (Fits cells.now range.extent) }
+    ensures refused { IfErr result (IsRangeFault cells.now (range ∷ [])) }
 {
     let reg = reg_bytes(alloc, cells, range.extent)?;
     put_compatible(writer, range.purpose)?;
@@ -164,6 +175,7 @@ fn put_range(
     ensures written { OnOk result (Adds writer.old writer.new
         (parts_of_nodes (range_nodes cells.now (range ∷ [])))) }
     ensures fits { OnOk result (Fits cells.now range.extent) }
+    ensures refused { IfErr result (IsRangeFault cells.now (range ∷ [])) }
 {
     let name = range_name(alloc, range)?;
     put_begin(writer, name.as_slice())?;
@@ -182,6 +194,7 @@ pub(crate) fn put_ranges(
     ensures written { OnOk result (Adds writer.old writer.new
         (parts_of_nodes (range_nodes cells.now ranges.now))) }
     ensures fit { OnOk result (AllFit cells.now ranges.now) }
+    ensures refused { IfErr result (IsRangeFault cells.now ranges.now) }
 {
     for range in ranges {
         put_range(alloc, writer, cells, *range)?;

@@ -1,13 +1,14 @@
 //! The children of the root, and among them `/reserved-memory`.
 
-ghost use Rattle.std.specs.Prelude.{◌≡◌, ◌≤◌, ◌++◌, ◌∷◌, IfOk, OnOk, List, bytes_eq, codes, length};
-ghost use Rattle.device_tree.specs.Pieces.{Part, ends, parts_of};
-ghost use Rattle.device_tree.specs.Nodes.{BeginsNoNode, Nodes, parts_of_nodes};
+ghost use Rattle.std.specs.Prelude.{◌≡◌, ◌≤◌, ◌++◌, ◌∷◌, IfErr, IfOk, OnOk, List, [], bytes_eq, codes, length, map};
+ghost use Rattle.device_tree.specs.Pieces.{Part, Setting, ends, has, parts_of};
+ghost use Rattle.device_tree.specs.Nodes.{BeginsNoNode, Nodes, node, parts_of_nodes};
 ghost use Rattle.board_ranges.specs.declared.kinds.Place.TheVariants.{BelowRoot};
 ghost use Rattle.board_ranges.specs.Windows.{same};
 ghost use Rattle.host_tree.specs.Written.{Adds};
 ghost use Rattle.host_tree.specs.HostNodes.{HostNodes, IsChild};
 ghost use Rattle.host_tree.specs.HostTrees.{portion_of};
+ghost use Rattle.host_tree.specs.Refusals.{AreRefused};
 ghost use Rattle.host_tree.specs.Ranges.{AllFit, range_nodes, with_ranges};
 
 use crate::fault::MakeFault;
@@ -41,6 +42,11 @@ fn put_child<'a>(
     ensures ok { IfOk result (λ behind. IsChild (portion_of share.now) BelowRoot cells.now same
         head.now.name.now (parts_of head.now.properties.now) (parts_of head.now.inner.now)
         (parts_of behind.now) writer.old writer.new) }
+    ensures refused { IfErr result (λ fault. (own : List Setting) (children : Nodes)
+        (rest : List Part) → parts_of head.now.properties.now ≡ map has own
+        → parts_of head.now.inner.now ≡ parts_of_nodes children ++ rest → BeginsNoNode rest
+        → (later : Nodes) → AreRefused BelowRoot cells.now same []
+        (node head.now.name.now own children later) fault) }
 {
     let bus = (cells, &Way::Same);
     put_head(alloc, share, head, Place::BelowRoot, bus, writer)?;
@@ -70,6 +76,9 @@ pub(crate) fn put_children<'a>(
         → (made : Nodes) × HostNodes (portion_of share.now) BelowRoot cells.now same nodes made
         × Adds writer.old writer.new
         (parts_of_nodes (with_ranges cells.now ranges.now made))) }
+    ensures refused { IfErr result (λ fault. (nodes : Nodes) (behind : List Part)
+        → parts_of pieces.now ≡ parts_of_nodes nodes ++ behind → BeginsNoNode behind
+        → AreRefused BelowRoot cells.now same ranges.now nodes fault) }
 {
     let mut rest = pieces;
     'nodes: loop {
@@ -108,6 +117,9 @@ fn put_last<'a>(
         → (made : Nodes) × HostNodes (portion_of share.now) BelowRoot cells.now same later made
         × Adds writer.old writer.new (parts_of_nodes (range_nodes cells.now ranges.now)
         ++ (ends ∷ parts_of_nodes made))) }
+    ensures refused { IfErr result (λ fault. (later : Nodes) (behind : List Part)
+        → parts_of pieces.now ≡ ends ∷ (parts_of_nodes later ++ behind) → BeginsNoNode behind
+        → AreRefused BelowRoot cells.now same ranges.now later fault) }
 {
     put_ranges(alloc, writer, cells, ranges)?;
     put_end(writer)?;

@@ -1,9 +1,10 @@
 //! Nodes as the host has them, one after another.
 
-ghost use Rattle.std.specs.Prelude.{◌≡◌, ◌≤◌, ◌++◌, IfOk, List, length};
+ghost use Rattle.std.specs.Prelude.{◌≡◌, ◌≤◌, ◌++◌, IfErr, IfOk, List, [], length};
 ghost use Rattle.device_tree.specs.Pieces.{Part, parts_of};
 ghost use Rattle.device_tree.specs.Nodes.{BeginsNoNode, Nodes, parts_of_nodes};
 ghost use Rattle.board_ranges.specs.Windows.{path_of};
+ghost use Rattle.host_tree.specs.Refusals.{AreRefused};
 ghost use Rattle.host_tree.specs.Written.{Adds};
 ghost use Rattle.host_tree.specs.HostNodes.{HostNodes};
 ghost use Rattle.host_tree.specs.HostTrees.{portion_of};
@@ -34,6 +35,9 @@ pub(crate) fn put_nodes<'a>(
         × HostNodes (portion_of share.now) place bus.entry.0.now (path_of bus.entry.1.now)
         nodes made
         × Adds writer.old writer.new (parts_of_nodes made)) }
+    ensures refused { IfErr result (λ fault. (nodes : Nodes) (behind : List Part)
+        → parts_of pieces.now ≡ parts_of_nodes nodes ++ behind → BeginsNoNode behind
+        → AreRefused place bus.entry.0.now (path_of bus.entry.1.now) [] nodes fault) }
 {
     let mut rest = pieces;
     'nodes: loop {

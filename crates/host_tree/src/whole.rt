@@ -1,9 +1,10 @@
 //! The whole tree: its header and its blocks.
 
-ghost use Rattle.std.specs.Prelude.{◌≡◌, ◌≤◌, ◌+◌, ◌*◌, ◌<◌, ◌^◌, IfOk, OnOk, List, length};
+ghost use Rattle.std.specs.Prelude.{◌≡◌, ◌≤◌, ◌+◌, ◌*◌, ◌<◌, ◌^◌, IfErr, IfOk, OnOk, List, [], length};
 ghost use Rattle.device_tree.specs.Nodes.{Tree, parts_of_tree};
 ghost use Rattle.device_tree.specs.Trees.{SpellsTree};
 ghost use Rattle.device_tree.specs.Words.{word_at};
+ghost use Rattle.host_tree.specs.Refusals.{IsWriteFault};
 ghost use Rattle.host_tree.specs.Written.{HasWritten};
 
 use crate::bytes::{put_bytes, put_word, put_zeros};
@@ -28,6 +29,7 @@ pub struct Ends<'a> {
 fn reserved_size(count: usize) -> Result<usize, WriteFault>
     ensures size { IfOk result (λ size. size ≡ 16 * (count + 1)) }
     ensures few { OnOk result (count < 2 ^ 32) }
+    ensures refused { IfErr result (λ fault. fault ≡ WriteFault.TooLarge) }
 {
     if count > u32::MAX as usize {
         return Err(WriteFault::TooLarge);
@@ -50,6 +52,7 @@ fn header_of(
         ≡ header.names + header.names_size + ends.now.free) }
     ensures boot_hart { IfOk result (λ header. header.boot_hart ≡ ends.now.boot_hart) }
     ensures fits { IfOk result (λ header. header.size < 2 ^ 32) }
+    ensures refused { IfErr result (λ fault. fault ≡ WriteFault.TooLarge) }
 {
     let block_at = HEADER + reserved_size(reservations)?;
     let block = word_of(block)? as usize;
@@ -73,6 +76,7 @@ impl TreeWriter {
             → HasWritten self.now (parts_of_tree tree)
             → SpellsTree bytes.items tree ends.now.reservations.now) }
         ensures boot_hart { IfOk result (λ bytes. word_at bytes.items 28 ≡ ends.now.boot_hart) }
+        ensures refused { IfErr result (IsWriteFault [] ends.now.reservations.now) }
     {
         let header = header_of(
             ends.reservations.len(),

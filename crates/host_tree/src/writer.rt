@@ -1,7 +1,8 @@
 //! A tree that is being written.
 
-ghost use Rattle.std.specs.Prelude.{◌∷◌, OnOk, []};
+ghost use Rattle.std.specs.Prelude.{◌≡◌, ◌∷◌, IfErr, OnOk, []};
 ghost use Rattle.device_tree.specs.Pieces.{begins, ends, has};
+ghost use Rattle.host_tree.specs.Refusals.{IsWriteFault};
 ghost use Rattle.host_tree.specs.Written.{Adds, HasWritten, setting};
 
 use crate::blocks::{put_begin, put_end, put_property};
@@ -32,7 +33,8 @@ impl TreeWriter {
 
     /// A node begins, of this name and unit address.
     pub fn begin_node(&mut self, name: &[u8]) -> Result<(), WriteFault>
-        ensures { OnOk result (Adds self.old self.new (begins name.now ∷ [])) }
+        ensures put { OnOk result (Adds self.old self.new (begins name.now ∷ [])) }
+        ensures refused { IfErr result (IsWriteFault (begins name.now ∷ []) []) }
     {
         if !is_text(name) {
             return Err(WriteFault::ZeroInName);
@@ -43,7 +45,9 @@ impl TreeWriter {
 
     /// The node that began last has a property.
     pub fn property(&mut self, name: &[u8], value: &[u8]) -> Result<(), WriteFault>
-        ensures { OnOk result (Adds self.old self.new (has (setting name.now value.now) ∷ [])) }
+        ensures put { OnOk result (Adds self.old self.new (has (setting name.now value.now) ∷ [])) }
+        ensures refused { IfErr result
+            (IsWriteFault (has (setting name.now value.now) ∷ []) []) }
     {
         if !is_text(name) {
             return Err(WriteFault::ZeroInName);
@@ -55,7 +59,8 @@ impl TreeWriter {
 
     /// The node that began last and has not ended ends.
     pub fn end_node(&mut self) -> Result<(), WriteFault>
-        ensures { OnOk result (Adds self.old self.new (ends ∷ [])) }
+        ensures put { OnOk result (Adds self.old self.new (ends ∷ [])) }
+        ensures refused { IfErr result (λ fault. fault ≡ WriteFault.Memory) }
     {
         put_end(&mut self.block)?;
         Ok(())

@@ -199,10 +199,9 @@ HasTaskHints (tasks.Lint file platform) options first second hints =
 HasTaskHints (tasks.Show map limit) options first second hints =
     HasFileHints options.registers options.xlen map.now (table_bounds options.at_most) first hints
     × IsUnread second
-HasTaskHints (tasks.Measure file layout) options first second hints = (hints ≡ None)
-    × IsUnread first × IsUnread second
 HasTaskHints (tasks.Platform board monitor) options first second hints =
     HasSizeHints files.Tree board.now first hints × IsUnread second
+HasTaskHints _ options first second hints = (hints ≡ None) × IsUnread first × IsUnread second
 
 -- the hints of a task are written to standard error, whole or up to where the device fails; and
 -- nothing where it has none, or where an input could not be had or memory was refused

@@ -309,8 +309,8 @@ fn task_hints<'a, R: Source>(
         Task::Lint { file, platform } => {
             hints_of_lint(alloc, options.kind, platform, file, first, second)
         }
-        Task::Measure { .. } => Ok(None),
         Task::Platform { board, .. } => size_hints(alloc, FileKind::Tree, board, first),
+        _ => Ok(None),
     }
 }
 

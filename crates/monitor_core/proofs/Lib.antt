@@ -9,6 +9,7 @@ pub mod Awake
 pub mod WorldsKept
 pub mod Wanted
 pub mod Views
+pub mod Digested
 pub mod Zeroed
 pub mod Cleared
 pub mod Others

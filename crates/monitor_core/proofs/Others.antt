@@ -7,11 +7,10 @@ use Rattle.pmp_encoding.specs.declared.pages.PageRange.{PageRange}
 use Rattle.permission_map.specs.Views.{SameView}
 use Rattle.enclave_table.specs.Enclaves.{EnclaveTable, Live, enclave_at, with_enclave}
 use Rattle.enclave_table.specs.Tables.{IsCurrent}
-use Rattle.enclave_table.specs.Lives.{Enters, Leaves, state_after}
+use Rattle.enclave_table.specs.Lives.{Leaves, state_after}
 use Rattle.enclave_table.specs.declared.enclave.Enclave.{Enclave}
 use Rattle.enclave_table.specs.declared.enclave.Stage.{Stage}
-use Rattle.enclave_table.specs.declared.enclave.Stage.TheVariants.{Fresh, Running, Stopped}
-use Rattle.enclave_table.specs.Checks.{state_before}
+use Rattle.enclave_table.specs.declared.enclave.Stage.TheVariants.{Stopped}
 use Rattle.enclave_table.specs.declared.life.Entering.{Entering}
 use Rattle.enclave_table.specs.declared.life.Entering.TheVariants.{Run as FirstRun, Resume}
 use Rattle.enclave_table.specs.declared.life.Leaving.{Leaving}
@@ -27,7 +26,7 @@ use Rattle.monitor_core.specs.Changes.{is_host}
 pub use Rattle.monitor_core.specs.Frames.{KeepsOthers}
 use Rattle.monitor_core.specs.Steps.{DoesCall, DoesEnter, Interrupts}
 use Rattle.monitor_core.specs.Worlds.{ArePlaced}
-use Rattle.monitor_core.proofs.Views.{view_other, view_turned}
+use Rattle.monitor_core.proofs.Views.{view_other, view_replaced}
 
 -- the view of a hart in another table, its world as it was
 there : (s new : MonitorState) (i : ℕ) (table : EnclaveTable) → new.table ≡ table → new.worlds i ≡ s.worlds i
@@ -63,17 +62,16 @@ owned s new hart id slot harts above many free table worlds marks = record {
       there s new i (with_enclave s.table id slot) table (worlds i) (view_other s.table id slot (s.worlds i) above (free i low) parts.0);
 }
 
--- a hart went from one world to another, and an enclave that no other hart runs into another state
+-- a hart went from one world to another, and an enclave into another state
 moved : (s new : MonitorState) (hart id : ℕ) (e : Enclave) (stage : Stage) (to : World) → Live s.table id e
-    → ((i : ℕ) → i ≢ hart → i < s.table.layout.harts → s.worlds i ≢ InEnclave id)
     → new.table ≡ with_enclave s.table id (Some (record e { state = stage })) → ((i : ℕ) → new.worlds i ≡ (if i == hart then to else s.worlds i))
     → ((i : ℕ) → new.marked i ≡ s.marked i) → KeepsOthers s new hart
-moved s new hart id e stage to live free table worlds marks = record {
+moved s new hart id e stage to live table worlds marks = record {
   awake = λ i other off. sym (marks i) ∙ off;
   views = λ i other low off.
       there s new i (with_enclave s.table id (Some (record e { state = stage }))) table
       (worlds i ∙ ap (λ (t : Bool). if t then to else s.worlds i) (ne_eqb i hart other))
-      (view_turned s.table id e stage (s.worlds i) live (free i other low));
+      (view_replaced s.table id e (record e { state = stage }) (s.worlds i) live refl);
 }
 
 -- an id that is free runs on no hart
@@ -83,32 +81,21 @@ free_nowhere s id w free i low is =
     let now : IsCurrent s.table (InEnclave id) = subst (IsCurrent s.table) is (w.current i low) in
     let z : None ≡ Some now.0 = sym free ∙ now.1 in absurd cc
 
--- nor one that is entered
-entered_nowhere : (s : MonitorState) (id : ℕ) (world : World) (entering : Entering) (table : EnclaveTable) → ArePlaced s
-    → Enters s.table world id (state_before entering) table → (i : ℕ) → i < s.table.layout.harts → s.worlds i ≢ InEnclave id
-entered_nowhere s id world entering table w en i low is =
-    let now : IsCurrent s.table (InEnclave id) = subst (IsCurrent s.table) is (w.current i low) in
-    never entering (sym (en.passes.1.1.0 now.0 now.1) ∙ now.2)
-  where
-    never : (entering : Entering) → state_before entering ≡ Running → ⊥
-    never FirstRun e = let z : Fresh ≡ Running = e in cc
-    never Resume e = let z : Stopped ≡ Running = e in cc
-
-enters : (entering : Entering) (s : MonitorState) (hart id : ℕ) (answer : Answer) (zero : Option PageRange) (new : MonitorState) → ArePlaced s
+enters : (entering : Entering) (s : MonitorState) (hart id : ℕ) (answer : Answer) (zero : Option PageRange) (new : MonitorState)
     → DoesEnter entering id s hart answer zero new → KeepsOthers s new hart
-enters entering s hart id answer zero new w (inr x) = others_stay s new _ hart x.2.state refl refl refl
-enters FirstRun s hart id answer zero new w (inl x) =
-    moved s new hart id x.3.turned.0 _ (InEnclave id) x.3.turned.1 (λ i other low. entered_nowhere s id (s.worlds hart) FirstRun x.1 w x.3 i low)
+enters entering s hart id answer zero new (inr x) = others_stay s new _ hart x.2.state refl refl refl
+enters FirstRun s hart id answer zero new (inl x) =
+    moved s new hart id x.3.turned.0 _ (InEnclave id) x.3.turned.1
     (ap (λ y. y.table) x.4.state ∙ x.3.turned.2) (λ i. ap (λ y. y.worlds i) x.4.state) (λ i. ap (λ y. y.marked i) x.4.state)
-enters Resume s hart id answer zero new w (inl x) =
-    moved s new hart id x.3.turned.0 _ (InEnclave id) x.3.turned.1 (λ i other low. entered_nowhere s id (s.worlds hart) Resume x.1 w x.3 i low)
+enters Resume s hart id answer zero new (inl x) =
+    moved s new hart id x.3.turned.0 _ (InEnclave id) x.3.turned.1
     (ap (λ y. y.table) x.4.state ∙ x.3.turned.2) (λ i. ap (λ y. y.worlds i) x.4.state) (λ i. ap (λ y. y.marked i) x.4.state)
 
-left : (s new : MonitorState) (hart id : ℕ) (leaving : Leaving) (table : EnclaveTable) → hart < s.table.layout.harts → ArePlaced s
+left : (s new : MonitorState) (hart id : ℕ) (leaving : Leaving) (table : EnclaveTable)
     → Leaves s.table (s.worlds hart) (state_after leaving) id table
     → new.table ≡ table → ((i : ℕ) → new.worlds i ≡ (if i == hart then Host else s.worlds i)) → ((i : ℕ) → new.marked i ≡ s.marked i) → KeepsOthers s new hart
-left s new hart id leaving table low w l is worlds marks =
-    moved s new hart id l.turned.0 _ Host l.turned.1 (λ i other under at. other (w.alone i hart id under low at l.left)) (is ∙ l.turned.2) worlds marks
+left s new hart id leaving table l is worlds marks =
+    moved s new hart id l.turned.0 _ Host l.turned.1 (is ∙ l.turned.2) worlds marks
 
 pub others_call : (call : Option Call) (digests : Create → List ℕ) (s : MonitorState) (hart : ℕ) (answer : Answer) (zero : Option PageRange)
     (new : MonitorState) → hart < s.table.layout.harts → ArePlaced s → DoesCall call digests s hart answer zero new → KeepsOthers s new hart
@@ -124,13 +111,13 @@ others_call (Some (calls.Destroy id)) digests s hart answer zero new low w (inl 
     (λ i under is. let now : IsCurrent s.table (InEnclave id) = subst (IsCurrent s.table) is (w.current i under) in x.2.passes.1.1.0 now.0 now.1 now.2)
     (ap (λ y. y.table) x.3.state ∙ x.2.removed) (λ i. ap (λ y. y.worlds i) x.3.state) (λ i. ap (λ y. y.marked i) x.3.state)
 others_call (Some (calls.Destroy id)) digests s hart answer zero new low w (inr x) = others_stay s new _ hart x.2.state refl refl refl
-others_call (Some (calls.Run id)) digests s hart answer zero new low w x = enters FirstRun s hart id answer zero new w x
+others_call (Some (calls.Run id)) digests s hart answer zero new low w x = enters FirstRun s hart id answer zero new x
 others_call (Some calls.Stop) digests s hart answer zero new low w (inl x) =
-    left s new hart x.0 Stop x.1 low w x.2 (ap (λ y. y.table) x.3.state) (λ i. ap (λ y. y.worlds i) x.3.state) (λ i. ap (λ y. y.marked i) x.3.state)
+    left s new hart x.0 Stop x.1 x.2 (ap (λ y. y.table) x.3.state) (λ i. ap (λ y. y.worlds i) x.3.state) (λ i. ap (λ y. y.marked i) x.3.state)
 others_call (Some calls.Stop) digests s hart answer zero new low w (inr x) = others_stay s new _ hart x.2.state refl refl refl
-others_call (Some (calls.Resume id)) digests s hart answer zero new low w x = enters Resume s hart id answer zero new w x
+others_call (Some (calls.Resume id)) digests s hart answer zero new low w x = enters Resume s hart id answer zero new x
 others_call (Some (calls.Exit value)) digests s hart answer zero new low w (inl x) =
-    left s new hart x.0 Exit x.1 low w x.2 (ap (λ y. y.table) x.3.state) (λ i. ap (λ y. y.worlds i) x.3.state) (λ i. ap (λ y. y.marked i) x.3.state)
+    left s new hart x.0 Exit x.1 x.2 (ap (λ y. y.table) x.3.state) (λ i. ap (λ y. y.worlds i) x.3.state) (λ i. ap (λ y. y.marked i) x.3.state)
 others_call (Some (calls.Exit value)) digests s hart answer zero new low w (inr x) = others_stay s new _ hart x.2.state refl refl refl
 others_call (Some (calls.Measure id k)) digests s hart answer zero new low w (inl x) = others_stay s new _ hart x.2.state refl refl refl
 others_call (Some (calls.Measure id k)) digests s hart answer zero new low w (inr x) = others_stay s new _ hart x.2.state refl refl refl
@@ -139,5 +126,5 @@ pub others_irq : (world : World) (s : MonitorState) (hart : ℕ) (new : MonitorS
     → Interrupts world s hart new → KeepsOthers s new hart
 others_irq Host s hart new at low w x = others_stay s new s hart x refl refl refl
 others_irq (InEnclave id) s hart new at low w x =
-    left s new hart id Stop x.0 low w (subst (λ v. Leaves s.table v Stopped id x.0) (sym at) x.1) (ap (λ y. y.table) x.2) (λ i. ap (λ y. y.worlds i) x.2)
+    left s new hart id Stop x.0 (subst (λ v. Leaves s.table v Stopped id x.0) (sym at) x.1) (ap (λ y. y.table) x.2) (λ i. ap (λ y. y.worlds i) x.2)
     (λ i. ap (λ y. y.marked i) x.2)

@@ -13,7 +13,7 @@ use Rattle.pmp_encoding.specs.declared.pages.PageRange.{PageRange}
 use Rattle.enclave_table.proofs.Created.{sound_from, apart_from}
 use Rattle.enclave_table.proofs.Placed.{free_place, added_table, removed_table}
 use Rattle.enclave_table.proofs.Places.{live_above, live_inside}
-use Rattle.enclave_table.proofs.Turned.{turned_table}
+use Rattle.enclave_table.proofs.Replaced.{replaced_table}
 use Rattle.sbi_decode.specs.declared.world.World.{World}
 use Rattle.sbi_decode.specs.declared.world.World.TheVariants.{Host, Enclave as InEnclave}
 use Rattle.sbi_decode.specs.declared.calls.Call.{Call}
@@ -44,7 +44,8 @@ destroyed old world id range new x t =
 
 -- one enclave in another state
 turned : (old : EnclaveTable) (id : ℕ) (stage : Stage) (new : EnclaveTable) → Turns old id stage new → IsTable old → IsTable new
-turned old id stage new x t = same (with_enclave old id (Some (record x.0 { state = stage }))) new x.2 (turned_table old id x.0 stage x.1 t)
+turned old id stage new x t = same (with_enclave old id (Some (record x.0 { state = stage }))) new x.2
+    (replaced_table old id x.0 (record x.0 { state = stage }) x.1 refl t)
 
 pub call_keeps_table : (call : Option Call) (digests : Create → List ℕ) (s : MonitorState) (hart : ℕ) (answer : Answer) (zero : Option PageRange)
     (new : MonitorState) → DoesCall call digests s hart answer zero new → IsTable s.table → IsTable new.table

@@ -204,6 +204,7 @@ impl Monitor {
     }
 
     /// An enclave that is live has this digest now, where its pages are measured after it was made. Nothing else changes.
+    #[tactic(auto, unfolding(crate::specs::Monitors::state_by, crate::specs::Monitors::kept_by))]
     pub fn give_digest(&mut self, id: u64, digest: &[u8; 32])
         requires { (e : Enclave) × Live (state_by self.old).table id e }
         ensures { (e : Enclave) → Live (state_by self.old).table id e

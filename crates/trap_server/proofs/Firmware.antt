@@ -149,9 +149,10 @@ next_good Call layout s trap given read question answered new most low good x =
     let hart = trap.hart in
     let file = past_call trap.registers in
     let t = with_running s hart file in
-    woken_good layout x.mid new most x.woken (call_keeps_table (call_of file) (λ parts. x.digest) t hart x.answer x.cleared x.mid x.step good.table)
-    (call_keeps_layout (call_of file) (λ parts. x.digest) t hart x.answer x.cleared x.mid x.step ∙ good.platform)
-    (call_keeps_worlds (call_of file) (λ parts. x.digest) t hart x.answer x.cleared x.mid low (good.awake hart low) x.step
+    let a = x.answers in
+    woken_good layout a.mid new most a.woken (call_keeps_table (call_of file) (λ parts. x.digest) t hart x.answer a.cleared a.mid a.step good.table)
+    (call_keeps_layout (call_of file) (λ parts. x.digest) t hart x.answer a.cleared a.mid a.step ∙ good.platform)
+    (call_keeps_worlds (call_of file) (λ parts. x.digest) t hart x.answer a.cleared a.mid low (good.awake hart low) a.step
     (putting_keeps_worlds s hart file good.worlds))
 next_good Stop layout s trap given read question answered new most low good x =
     let hart = trap.hart in

@@ -1,5 +1,7 @@
 pub mod Waking
+mod Remeasured
 pub mod Served
+mod Answering
 mod Looped
 mod Came
 mod ServedFrom

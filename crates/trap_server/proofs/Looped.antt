@@ -129,7 +129,7 @@ goes_on count old new hosts kept trap frame harts before now mid after held midd
   first = p.first;
   opened = p.opened;
   read = p.read ++ (frame ++ s.0);
-  written = p.written ++ (s.1 ++ s.2);
+  written = p.written ++ (s.2 ++ s.1);
   size = p.size;
   platform = p.platform;
   may_open = p.may_open;
@@ -139,9 +139,9 @@ goes_on count old new hosts kept trap frame harts before now mid after held midd
   consumed = consumed_as before after ((p.first ++ p.read) ++ (frame ++ s.0)) (p.first ++ (p.read ++ (frame ++ s.0)))
       (append_assoc p.first p.read (frame ++ s.0))
       (Consumes-trans before now after (p.first ++ p.read) (frame ++ s.0) p.consumed (Consumes-trans now mid after frame s.0 came s.6));
-  appended = appended_as held holds ((p.opened ++ p.written) ++ (s.1 ++ s.2)) (p.opened ++ (p.written ++ (s.1 ++ s.2)))
-      (append_assoc p.opened p.written (s.1 ++ s.2))
-      (Appends-trans held middle holds (p.opened ++ p.written) (s.1 ++ s.2) p.appended s.7);
+  appended = appended_as held holds ((p.opened ++ p.written) ++ (s.2 ++ s.1)) (p.opened ++ (p.written ++ (s.2 ++ s.1)))
+      (append_assoc p.opened p.written (s.2 ++ s.1))
+      (Appends-trans held middle holds (p.opened ++ p.written) (s.2 ++ s.1) p.appended s.7);
   quiet = s.4;
 }
 

@@ -1,5 +1,5 @@
 -- A trap that was served, from what was asked, read and written.
-use Rattle.std.proofs.Common.{◌≡◌, inl, inr, subst, ℕ, zero, suc, ◌<◌, ◌≤◌, Bool, true, false, List, [], ◌++◌, take, Option, Result, Ok, Err, sym, refl, arith}
+use Rattle.std.proofs.Common.{◌≡◌, inl, inr, subst, ℕ, zero, suc, ◌<◌, ◌≤◌, Bool, true, false, List, [], ◌++◌, take, Option, Result, Err, sym, refl, arith}
 use Rattle.std.proofs.Common.{append-nil}
 use Rattle.std.proofs.lemmas.Bool.{true≢false}
 use Rattle.std.specs.Prelude.{slice_index_or}
@@ -7,7 +7,6 @@ use Rattle.std.specs.Io.KnownBytes.{Appends, Consumes}
 use Rattle.std.proofs.KnownBytes.{Appends-trans}
 use Rattle.measurement.specs.declared.request.Create.{Create}
 use Rattle.sbi_decode.specs.declared.world.World.TheVariants.{Host}
-use Rattle.monitor_core.specs.Measured.{Measures, asked_in}
 use Rattle.trap_server.specs.PageDigest.{Asks, question_of}
 use Rattle.trap_server.specs.EndFrames.{end_bytes}
 use Rattle.trap_server.specs.declared.end.EndReason.{EndReason}
@@ -15,8 +14,6 @@ use Rattle.trap_server.specs.declared.end.EndReason.TheVariants as refusals
 use Rattle.trap_server.specs.PageDigest.{Measures as MeasuresPages}
 use Rattle.trap_server.specs.declared.frame_fault.FrameFault.{FrameFault}
 use Rattle.trap_server.specs.declared.frame_fault.FrameFault.TheVariants as frames
-use Rattle.trap_server.specs.declared.trap.TrapEvent.TheVariants.{Call}
-use Rattle.sbi_decode.specs.Calls.{call_of}
 use Rattle.trap_server.specs.declared.fault.ServeFault.TheVariants as faults
 use Rattle.trap_server.specs.Ends.{CountsRead, CountsReads, CountsWrite, CountsWrites, BreaksOff, EndsAs, FrameRead, FrameWrite, IsPart, Refuses}
 use Rattle.trap_server.specs.Traps.{ReadsTrap}
@@ -24,12 +21,10 @@ use Rattle.trap_server.specs.Traps.{CountsRead as CountsFrame}
 use Rattle.trap_server.specs.Traps.{CountsWrite as CountsFrameWrite}
 use Rattle.trap_server.specs.Platforms.{ReadsPlatform}
 use Rattle.monitor_core.specs.States.{MonitorState}
-use Rattle.trap_server.specs.declared.words.ControlWords.{ControlWords}
 use Rattle.trap_server.specs.declared.trap.Trap.{Trap}
 use Rattle.trap_server.specs.declared.fault.ServeFault.{ServeFault}
 use Rattle.trap_server.specs.Answered.{AreAwake, marks_of, unmarked}
-use Rattle.trap_server.specs.Service.{ServesTrap}
-use Rattle.trap_server.specs.Steps.{MayWake, Serves, StopsTrap, Writes}
+use Rattle.trap_server.specs.Steps.{MayWake, StopsMeasuring}
 
 -- which of four harts are marked
 pub mark_at : (s : MonitorState) (hart : ℕ) → slice_index_or (marks_of s) hart false ≡ true → s.marked hart ≡ true
@@ -49,26 +44,6 @@ awake s harts (suc zero) most known = refl
 awake s harts (suc (suc zero)) most known = refl
 awake s harts (suc (suc (suc zero))) most known = refl
 awake s harts (suc (suc (suc (suc n)))) most known = absurd (none_there n harts most known)
-
--- a trap was served where its answer was written
-pub serves :
-    (result : Result (Unit {0}) ServeFault) (Are : List ℕ → Type 0) (trap : Trap) (old new : MonitorState) (hosts kept : ℕ → ControlWords)
-    (before after held middle holds : Option (List ℕ)) (question read : List ℕ)
-    → ((bytes : List ℕ) → Are bytes → ServesTrap old hosts trap read question bytes new kept) → AreAwake new → new.table.layout ≡ old.table.layout
-    → Consumes before after read → Appends held middle question
-    → Writes result Are middle holds → Serves result trap old hosts new kept before after held holds
-serves (Ok done) Are trap old new hosts kept before after held middle holds question read served quiet layout consumed asked wrote =
-    (read, question, wrote.0, served wrote.0 wrote.1, quiet, layout, consumed, Appends-trans held middle holds question wrote.0 asked wrote.2)
-serves (Err fault) Are trap old new hosts kept before after held middle holds question read served quiet layout consumed asked wrote =
-    let answer = wrote.1 in
-    let part = take wrote.3.0 answer in (
-      read,
-      question ++ part,
-      subst (λ f. StopsTrap f old hosts trap read (question ++ part) after) (sym wrote.0)
-          (inr (inr (question, answer, new, kept, served answer wrote.2, (part, (wrote.3.0, wrote.3.1, refl), refl)))),
-      consumed,
-      Appends-trans held middle holds question part asked wrote.3.2,
-    )
 
 -- who may be woken after a step, from its marks
 pub may_wake :
@@ -100,36 +75,21 @@ refuse_then result refusal question held middle holds Why asked refused why fail
 
 -- a measurement that ended: what it had read, what was written, and why
 pub measure_stops :
-    (result : ServeFault) (fault : FrameFault) (s : MonitorState) (trap : Trap) (parts : Create) (before after held middle holds : Option (List ℕ))
-    → trap.event ≡ Call
-    → Measures (asked_in (call_of trap.registers)) s.table (s.worlds trap.hart) parts → MeasuresPages (Err fault) parts before after
-    → Asks (Err fault) parts held middle → EndsAs result fault middle holds
-    → (read rest : List ℕ) × ((hosts : ℕ → ControlWords) → StopsTrap result s hosts trap read rest after) × Consumes before after read × Appends held holds rest
-measure_stops result frames.NotUnderstood s trap parts before after held middle holds call measures stops asked ends =
+    (result : ServeFault) (fault : FrameFault) (parts : Create) (before after held middle holds : Option (List ℕ))
+    → MeasuresPages (Err fault) parts before after → Asks (Err fault) parts held middle → EndsAs result fault middle holds
+    → (read rest : List ℕ) × StopsMeasuring result parts read rest after × Consumes before after read × Appends held holds rest
+measure_stops result frames.NotUnderstood parts before after held middle holds stops asked ends =
     let e = refuse_then result refusals.NotUnderstood (question_of parts) held middle holds
-    (λ f rest. (hosts : ℕ → ControlWords) → StopsTrap f s hosts trap stops.0 rest after) asked ends
-    (λ hosts. (parts, (call, measures), stops.1, refl)) (λ rest off hosts. inr (inl (parts, (call, measures), stops.1, off))) in
+    (λ f rest. StopsMeasuring f parts stops.0 rest after) asked ends (stops.1, refl) (λ rest off. inr (stops.1, off)) in
     (stops.0, e.0, e.1, stops.2, e.2)
-measure_stops result frames.Read s trap parts before after held middle holds call measures stops asked ends =
+measure_stops result frames.Read parts before after held middle holds stops asked ends =
     let question = question_of parts in
-    let wrote = subst (Appends held holds) (append-nil question) (Appends-trans held middle holds question [] asked ends.1) in (
-      stops.0,
-      question,
-      λ hosts. subst (λ f. StopsTrap f s hosts trap stops.0 question after) (sym ends.0)
-          (parts, (call, measures), stops.1, refl),
-      stops.2,
-      wrote,
-    )
-measure_stops result frames.Write s trap parts before after held middle holds call measures stops asked ends =
+    let wrote = subst (Appends held holds) (append-nil question) (Appends-trans held middle holds question [] asked ends.1) in
+    (stops.0, question, subst (λ f. StopsMeasuring f parts stops.0 question after) (sym ends.0) (stops.1, refl), stops.2, wrote)
+measure_stops result frames.Write parts before after held middle holds stops asked ends =
     let part = take asked.0 (question_of parts) in
-    let wrote = subst (Appends held holds) (append-nil part) (Appends-trans held middle holds part [] asked.2 ends.1) in (
-      [],
-      part,
-      λ hosts. subst (λ f. StopsTrap f s hosts trap [] part after) (sym ends.0)
-          (inl (parts, (call, measures), refl, (asked.0, asked.1, refl))),
-      stops,
-      wrote,
-    )
+    let wrote = subst (Appends held holds) (append-nil part) (Appends-trans held middle holds part [] asked.2 ends.1) in
+    ([], part, subst (λ f. StopsMeasuring f parts [] part after) (sym ends.0) (inl (refl, (asked.0, asked.1, refl))), stops, wrote)
 
 -- counts over two parts, of which the first ended well
 pub reads_then : {X : Type 0} (result : Result X ServeFault) (a b d : ℕ) → b ≡ a → CountsReads result b d → CountsReads result a d

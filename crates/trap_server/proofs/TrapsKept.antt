@@ -10,6 +10,8 @@ use Rattle.sbi_decode.specs.Registers.{RegisterFile}
 use Rattle.sbi_decode.specs.Runners.{EnclaveOf}
 use Rattle.sbi_decode.specs.declared.world.World.{World}
 use Rattle.sbi_decode.specs.declared.world.World.TheVariants.{Host, Enclave as InEnclave}
+use Rattle.platforms.specs.CheckLists.{AllPass}
+use Rattle.enclave_table.specs.Checks.{create_checks}
 use Rattle.enclave_table.specs.Enclaves.{EnclaveTable, enclave_at}
 use Rattle.enclave_table.specs.Refusals.{refusal_number}
 use Rattle.enclave_table.specs.Tables.{IsTable}
@@ -20,11 +22,12 @@ use Rattle.enclave_table.proofs.Places.{live_above, live_inside, set_same}
 use Rattle.monitor_core.specs.Answers.{below_zero}
 use Rattle.monitor_core.specs.Changes.{past_call, with_running}
 use Rattle.monitor_core.specs.Frames.{ClearsMemory, KeepsOthers}
-use Rattle.monitor_core.specs.Measured.{Measures, asked_in}
+use Rattle.monitor_core.specs.Measured.{IsMade, asked_in}
 use Rattle.monitor_core.specs.States.{MonitorState}
 use Rattle.monitor_core.specs.Switches.{HasExited, KeepsRegisters, runner_on}
 use Rattle.monitor_core.specs.Wants.{IsRefusedByNeed}
 use Rattle.monitor_core.specs.Worlds.{ArePlaced}
+use Rattle.monitor_core.specs.declared.answer.Answer.{Answer}
 use Rattle.monitor_core.proofs.Cases.{both}
 use Rattle.monitor_core.proofs.Cleared.{call_clears_memory}
 use Rattle.monitor_core.proofs.Others.{others_call, others_irq}
@@ -43,30 +46,28 @@ use Rattle.trap_server.specs.Firmware.{AreDestroyed, AreThose, AsksMemory, Keeps
 use Rattle.trap_server.specs.Given.{GivesWords, keeping, words_in}
 use Rattle.trap_server.specs.Service.{AsksFor, ServesAs, ServesCall, ServesStop, ServesTrap}
 use Rattle.trap_server.specs.Traps.{is_machine}
+use Rattle.trap_server.proofs.Remeasured.{made_passes}
 use Rattle.trap_server.proofs.RegistersCame.{Through, call_through, interrupt_through}
 use Rattle.trap_server.proofs.WorldsStay.{call_elsewhere, interrupt_elsewhere}
 
--- the private pages of a creation that passes its checks
-measured_memory : (asked : Option Create) (table : EnclaveTable) (world : World) (parts : Create) → Measures asked table world parts
+-- the private pages of an enclave that was made are memory, by its checks
+made_memory : (table : EnclaveTable) (world : World) (parts : Create) → AllPass (create_checks table world parts)
     → ClearsMemory table.layout (private_pages parts)
-measured_memory None table world parts m = absurd m
-measured_memory (Some asked) table world parts m =
-    let pass = m.1 in
-    let places = pass.1.1.0 in
-    let ends = places.private.1 in
+made_memory table world parts pass =
+    let ends = pass.1.1.0.private.1 in
     record {
       inside = omega (arith, ends);
       in_ram = λ page is. pass.1.1.1.1.0 page (ap (λ b. b || is_shared parts page) is);
       not_monitor = λ page is. (pass.1.1.1.1.1.0.owned page (ap (λ b. b || is_shared parts page) is)).0;
     }
 
-pub asks_memory : (asked : Option Create) (s : MonitorState) (hart : ℕ) (question read digest : List ℕ) → AsksFor asked s hart question read digest
-    → AsksMemory s.table.layout question read
-asks_memory asked s hart question read digest (inl none) = inl (none.0, none.1)
-asks_memory asked s hart question read digest (inr some) =
+asks_memory :
+    (asked : Option Create) (answer : Answer) (table : EnclaveTable) (world : World) (question read digest : List ℕ) → AsksFor asked answer question read digest
+    → ((parts : Create) → IsMade asked answer parts → AllPass (create_checks table world parts)) → AsksMemory table.layout question read
+asks_memory asked answer table world question read digest (inl none) pass = inl (none.0, none.1)
+asks_memory asked answer table world question read digest (inr some) pass =
     let parts = some.0 in
-    let range = private_pages parts in
-    inr (range, some.3, measured_memory asked s.table (s.worlds hart) parts some.1, some.2, some.4)
+    inr (private_pages parts, some.3, made_memory table world parts (pass parts some.1), some.2, some.4)
 
 -- of harts that are woken only the marks change
 not_marked : (s : MonitorState) (hart harts : ℕ) → hart < harts → harts ≤ 4 → slice_index_or (marks_of s) hart false ≡ false → s.marked hart ≡ false
@@ -153,32 +154,34 @@ call_kept s hosts kept trap given read question answered new ready is words all 
     let t = with_running s hart file in
     let me = runner_on s hart in
     let placed = putting_keeps_worlds s hart file ready.placed in
+    let a = x.answers in
     let Refused = λ (e : TrapEvent). IsRefusedByNeed (called e trap.registers) s.table (s.worlds hart)
     (λ refusal. x.answer.status ≡ below_zero (refusal_number refusal)) in
     record {
       answer = x.answer;
-      cleared = x.cleared;
-      woken = marks_of x.mid;
+      cleared = a.cleared;
+      woken = marks_of a.mid;
       given = given;
-      says = x.goes_on;
-      need = subst Refused (sym is) (call_refused_by_need call (λ parts. x.digest) t hart x.answer x.cleared x.mid ready.table x.step);
-      asks = asks_memory (asked_in (call_of trap.registers)) s hart question read x.digest x.asks;
-      zeroes = destroyed t x.mid new x.cleared x.woken (call_clears_memory call (λ parts. x.digest) t hart x.answer x.cleared x.mid ready.table x.step)
-          (zeroed.cleared call (λ parts. x.digest) t hart x.answer x.cleared x.mid x.step);
-      destroys = λ id gone. lost_call call (λ parts. x.digest) t hart x.answer x.cleared x.mid id gone.0 gone.1
-          (sym (ap (λ (y : MonitorState). enclave_at y.table.enclaves id) x.woken) ∙ gone.2) x.step;
-      stays = λ other differs. ap (λ (y : MonitorState). y.worlds other) x.woken
-          ∙ call_elsewhere call (λ parts. x.digest) t hart x.answer x.cleared x.mid other differs x.step;
-      others = woken_others t x.mid new hart x.woken ready.most (others_call call
-          (λ parts. x.digest) t hart x.answer x.cleared x.mid ready.known placed x.step);
-      registers = woken_registers s x.mid new hart x.woken (put_before s x.mid hart file
-          (call_keeps_registers call (λ parts. x.digest) t hart x.answer x.cleared x.mid x.step));
+      says = a.goes_on;
+      need = subst Refused (sym is) (call_refused_by_need call (λ parts. x.digest) t hart x.answer a.cleared a.mid ready.table a.step);
+      asks = asks_memory (asked_in (call_of trap.registers)) x.answer s.table (s.worlds hart) question read x.digest x.asks
+          (λ parts. made_passes call (λ of. x.digest) t hart x.answer a.cleared a.mid parts a.step);
+      zeroes = destroyed t a.mid new a.cleared a.woken (call_clears_memory call (λ parts. x.digest) t hart x.answer a.cleared a.mid ready.table a.step)
+          (zeroed.cleared call (λ parts. x.digest) t hart x.answer a.cleared a.mid a.step);
+      destroys = λ id gone. lost_call call (λ parts. x.digest) t hart x.answer a.cleared a.mid id gone.0 gone.1
+          (sym (ap (λ (y : MonitorState). enclave_at y.table.enclaves id) a.woken) ∙ gone.2) a.step;
+      stays = λ other differs. ap (λ (y : MonitorState). y.worlds other) a.woken
+          ∙ call_elsewhere call (λ parts. x.digest) t hart x.answer a.cleared a.mid other differs a.step;
+      others = woken_others t a.mid new hart a.woken ready.most (others_call call
+          (λ parts. x.digest) t hart x.answer a.cleared a.mid ready.known placed a.step);
+      registers = woken_registers s a.mid new hart a.woken (put_before s a.mid hart file
+          (call_keeps_registers call (λ parts. x.digest) t hart x.answer a.cleared a.mid a.step));
       came = λ none.
-          let lived = λ (id : ℕ) (mine : me ≡ EnclaveOf id) (over : HasExited t x.mid id). none id mine
-          (subst (λ (y : MonitorState). HasExited s y id) (sym x.woken) over) in
-          let through = call_through call (λ parts. x.digest) t hart x.answer x.cleared x.mid (placed.current hart ready.known) x.step lived in
+          let lived = λ (id : ℕ) (mine : me ≡ EnclaveOf id) (over : HasExited t a.mid id). none id mine
+          (subst (λ (y : MonitorState). HasExited s y id) (sym a.woken) over) in
+          let through = call_through call (λ parts. x.digest) t hart x.answer a.cleared a.mid (placed.current hart ready.known) a.step lived in
           subst (λ (e : TrapEvent). AreThose e trap.registers (new.registers me)) (sym is)
-          (subst (λ (y : MonitorState). AreThose Call trap.registers (y.registers me)) (sym x.woken) (past trap.registers _ _ (put_there s hart file) through));
+          (subst (λ (y : MonitorState). AreThose Call trap.registers (y.registers me)) (sym a.woken) (past trap.registers _ _ (put_there s hart file) through));
       words = words;
       below = given_below hosts kept hart (s.worlds hart) (new.worlds hart) trap.control given words all;
       user = user_mode hosts kept hart (s.worlds hart) (new.worlds hart) trap.control given words;

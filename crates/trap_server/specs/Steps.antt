@@ -14,7 +14,7 @@ use Rattle.monitor_core.specs.Changes.{having_digest}
 use Rattle.monitor_core.specs.Measured.{IsMade, asked_in}
 use Rattle.monitor_core.specs.States.{MonitorState}
 use Rattle.monitor_core.specs.declared.answer.Answer.{Answer}
-use Rattle.trap_server.specs.Answered.{AreAwake}
+use Rattle.trap_server.specs.Answered.{AreAwake, no_answer}
 use Rattle.trap_server.specs.EndFrames.{end_bytes}
 use Rattle.trap_server.specs.Ends.{BreaksOff, IsPart}
 use Rattle.trap_server.specs.Given.{GivesWords}
@@ -41,55 +41,53 @@ Writes (Err fault) Are held holds = (fault ≡ faults.Write) × (bytes : List �
     × TakesPart bytes held holds
 
 -- a trap is answered by what happened, whatever digest an enclave that it makes will get
-abbrev pub AnswersAs : TrapEvent → MonitorState → Trap → ControlWords → List ℕ → MonitorState
-    → Type 0
-AnswersAs Call s trap given answered new = (digest : List ℕ) × (answer : Answer)
+abbrev pub AnswersAs : TrapEvent → MonitorState → Trap → ControlWords → Answer → List ℕ
+    → MonitorState → Type 0
+AnswersAs Call s trap given answer answered new = (digest : List ℕ)
     × AnswersCall s trap given digest answer answered new
-AnswersAs Stop s trap given answered new = ServesStop s trap given [] [] answered new
+AnswersAs Stop s trap given answer answered new = (answer ≡ no_answer)
+    × ServesStop s trap given [] [] answered new
 
--- a trap is answered
+-- a trap is answered, and each world has its own control words
 pub record AnswersTrap (s : MonitorState) (hosts : ℕ → ControlWords) (trap : Trap)
-    (answered : List ℕ) : Type 0 where
+    (answer : Answer) (answered : List ℕ) : Type 0 where
   pub given : ControlWords
   pub new : MonitorState
   pub kept : ℕ → ControlWords
   pub words : GivesWords hosts trap.hart (s.worlds trap.hart) (new.worlds trap.hart) trap.control
       kept given
-  pub answers : AnswersAs trap.event s trap given answered new
+  pub answers : AnswersAs trap.event s trap given answer answered new
 
--- a trap is answered that made an enclave of these parts, so that its private pages are asked for
-pub record AnswersMade (s : MonitorState) (hosts : ℕ → ControlWords) (trap : Trap) (parts : Create)
-    (answered : List ℕ) : Type 0 where
-  pub given : ControlWords
-  pub new : MonitorState
-  pub kept : ℕ → ControlWords
-  pub words : GivesWords hosts trap.hart (s.worlds trap.hart) (new.worlds trap.hart) trap.control
-      kept given
-  pub is_call : trap.event ≡ Call
-  pub digest : List ℕ
-  pub answer : Answer
-  pub answers : AnswersCall s trap given digest answer answered new
-  pub made : IsMade (asked_in (call_of trap.registers)) answer parts
+-- a call is answered that made an enclave of these parts, so that its private pages are asked for
+abbrev pub AnswersMade : MonitorState → (ℕ → ControlWords) → Trap → Create → List ℕ → Type 0
+AnswersMade s hosts trap parts answered = (trap.event ≡ Call) × (answer : Answer)
+    × IsMade (asked_in (call_of trap.registers)) answer parts
+    × AnswersTrap s hosts trap answer answered
 
--- why the loop ends at a trap that was read, and what was written for it. It was answered, pages
--- were asked for, and what came is no frame of the page that was to come, or a read failed before
--- that was whole. Or a write failed: in the answer, in the question, or in the last frame
+-- why the loop ends after an enclave of these parts was made and the call answered: what was read
+-- and written since. Its pages were asked for, and what came is no frame of the page that was to
+-- come, or a read failed before that was whole. Or a write failed: in the question, or in the last
+-- frame
+abbrev pub StopsMeasuring : ServeFault → Create → List ℕ → List ℕ → Option (List ℕ) → Type 0
+StopsMeasuring (faults.Refused NotUnderstood) parts read rest after = StopsAtPage parts read after
+    × (rest ≡ question_of parts ++ end_bytes NotUnderstood)
+StopsMeasuring (faults.Refused _) parts read rest after = ⊥
+StopsMeasuring faults.Read parts read rest after = BreaksAtPage parts read
+    × (rest ≡ question_of parts)
+StopsMeasuring faults.Write parts read rest after =
+    ((read ≡ []) × IsPart rest (question_of parts))
+    ⊎ (StopsAtPage parts read after
+    × BreaksOff rest (question_of parts) (end_bytes NotUnderstood))
+
+-- why the loop ends at a trap that was read, and what was read and written for it. A write failed
+-- in the answer. Or it was answered, and the loop ends as the enclave that it made is measured
 abbrev pub StopsTrap : ServeFault → MonitorState → (ℕ → ControlWords) → Trap → List ℕ → List ℕ
     → Option (List ℕ) → Type 0
-StopsTrap (faults.Refused NotUnderstood) s hosts trap read rest after =
-    (parts : Create) × (answered : List ℕ) × AnswersMade s hosts trap parts answered
-    × StopsAtPage parts read after
-    × (rest ≡ answered ++ (question_of parts ++ end_bytes NotUnderstood))
-StopsTrap (faults.Refused _) s hosts trap read rest after = ⊥
-StopsTrap faults.Read s hosts trap read rest after = (parts : Create) × (answered : List ℕ)
-    × AnswersMade s hosts trap parts answered × BreaksAtPage parts read
-    × (rest ≡ answered ++ question_of parts)
-StopsTrap faults.Write s hosts trap read rest after =
-    ((answered : List ℕ) × AnswersTrap s hosts trap answered × (read ≡ []) × IsPart rest answered)
-    ⊎ ((parts : Create) × (answered : List ℕ) × AnswersMade s hosts trap parts answered
-    × (((read ≡ []) × BreaksOff rest answered (question_of parts))
-    ⊎ (StopsAtPage parts read after
-    × BreaksOff rest (answered ++ question_of parts) (end_bytes NotUnderstood))))
+StopsTrap fault s hosts trap read rest after =
+    ((answer : Answer) × (answered : List ℕ) × AnswersTrap s hosts trap answer answered
+    × (fault ≡ faults.Write) × (read ≡ []) × IsPart rest answered)
+    ⊎ ((parts : Create) × (answered more : List ℕ) × AnswersMade s hosts trap parts answered
+    × StopsMeasuring fault parts read more after × (rest ≡ answered ++ more))
 
 -- a trap was served and answered, or the loop ends, and why
 abbrev pub Serves : Result (Unit {0}) ServeFault → Trap → MonitorState → (ℕ → ControlWords)
@@ -103,28 +101,15 @@ Serves (Err fault) trap old hosts new kept before after held holds =
     (read rest : List ℕ) × StopsTrap fault old hosts trap read rest after
     × Consumes before after read × Appends held holds rest
 
--- why the loop ends after the answer to a call that made an enclave of these parts: what was read
--- and written since
-abbrev pub StopsMeasuring : ServeFault → Create → List ℕ → List ℕ → Option (List ℕ) → Type 0
-StopsMeasuring (faults.Refused NotUnderstood) parts read rest after = StopsAtPage parts read after
-    × (rest ≡ question_of parts ++ end_bytes NotUnderstood)
-StopsMeasuring (faults.Refused _) parts read rest after = ⊥
-StopsMeasuring faults.Read parts read rest after = BreaksAtPage parts read
-    × (rest ≡ question_of parts)
-StopsMeasuring faults.Write parts read rest after =
-    ((read ≡ []) × IsPart rest (question_of parts))
-    ⊎ (StopsAtPage parts read after
-    × BreaksOff rest (question_of parts) (end_bytes NotUnderstood))
-
 -- the pages of an enclave that was made were asked for and read, and it has their digest; or the
 -- loop ends
 abbrev pub MeasuresMade : Result (Unit {0}) ServeFault → Create → ℕ → MonitorState → MonitorState
     → Option (List ℕ) → Option (List ℕ) → Option (List ℕ) → Option (List ℕ) → Type 0
 MeasuresMade (Ok done) parts id old new before after held holds =
-    (read digest : List ℕ) × (pages : List (List ℕ))
+    (read : List ℕ) × (pages : List (List ℕ))
     × ArePages (parts.base / 4096) (parts.text_pages + parts.data_pages) read pages
-    × (digest ≡ digest_of (layout_of parts) pages)
-    × ((e : Enclave) → Live old.table id e → new ≡ having_digest old id e digest)
+    × ((e : Enclave) → Live old.table id e
+    → new ≡ having_digest old id e (digest_of (layout_of parts) pages))
     × Consumes before after read × Appends held holds (question_of parts)
 MeasuresMade (Err fault) parts id old new before after held holds =
     (read rest : List ℕ) × StopsMeasuring fault parts read rest after × Consumes before after read

@@ -1,5 +1,7 @@
-use Rattle.std.proofs.Common.{◌≡◌, ◌++◌, ◌∙◌, ℕ, List, length, ap, refl}
+use Rattle.std.proofs.Common.{◌≡◌, [], ◌++◌, ◌∙◌, ℕ, List, length, ap, refl}
 use Rattle.host_tree.specs.Written.{value_bytes, word_bytes}
+use Rattle.std.proofs.lemmas.Result.{err_from_is_err_and}
+use Rattle.host_tree.proofs.WriteFaults.{no_memory, too_large}
 use Rattle.host_tree.proofs.Fronts.{four_joined, property_bytes, property_front}
 use Rattle.host_tree.proofs.blocks.put_property.Goals as goal
 
@@ -9,15 +11,45 @@ unfolding property_bytes
 bytes_are len place l p value e w v = ap (λ (n : ℕ). word_bytes 3 ++ (word_bytes n ++ (word_bytes place ++ value_bytes value))) (e ∙ v)
     ∙ ap (λ (n : ℕ). word_bytes 3 ++ (word_bytes (length value) ++ (word_bytes n ++ value_bytes value))) w
 
-pub returns : goal.returns
-returns c =
+pub returns-clause-put : goal.returns-clause-put
+returns-clause-put c =
     let value = c.args.value.now in
     let l = c.in_ok-len.ensures in
     let p = c.in_ok-place.ensures in
     let joined = four_joined c.args.block.now.items _ _ _ _ (word_bytes 3) (word_bytes c.in_ok-len.len) (word_bytes c.in_ok-place.place) (value_bytes value)
-    c.in_ok-put_word.ensures c.in_ok-put_word-2.ensures c.in_ok-put_word-3.ensures c.in_ok-put_value.ensures in
+    c.in_ok-put_word.ensures.put c.in_ok-put_word-2.ensures.put c.in_ok-put_word-3.ensures.put c.in_ok-put_value.ensures.put in
     let same = bytes_are c.in_ok-len.len c.in_ok-place.place (length value) c.args.place value l.same p.same refl in (
       property_bytes c.args.place value,
       joined ∙ ap (λ (x : List ℕ). c.args.block.now.items ++ x) same,
       λ names rest name named. property_front names value rest name c.args.place l.fits p.fits named,
     )
+
+pub returns-in_err-len-clause-refused : goal.returns-in_err-len-clause-refused
+returns-in_err-len-clause-refused c =
+    let p = err_from_is_err_and c.from_residual.result c.from_residual.ensures.1 in
+    rw (p.1, p.2) (too_large [] [] _ c.in_err-len.ensures.refused)
+
+pub returns-in_err-place-clause-refused : goal.returns-in_err-place-clause-refused
+returns-in_err-place-clause-refused c =
+    let p = err_from_is_err_and c.from_residual-in_err-place.result c.from_residual-in_err-place.ensures.1 in
+    rw (p.1, p.2) (too_large [] [] _ c.in_err-place.ensures.refused)
+
+pub returns-in_err-put_word-clause-refused : goal.returns-in_err-put_word-clause-refused
+returns-in_err-put_word-clause-refused c =
+    let p = err_from_is_err_and c.from_residual-in_err-put_word.result c.from_residual-in_err-put_word.ensures.1 in
+    rw (p.1, p.2) (no_memory [] [] _ c.in_err-put_word.ensures.refused)
+
+pub returns-in_err-put_word-2-clause-refused : goal.returns-in_err-put_word-2-clause-refused
+returns-in_err-put_word-2-clause-refused c =
+    let p = err_from_is_err_and c.from_residual-in_err-put_word-2.result c.from_residual-in_err-put_word-2.ensures.1 in
+    rw (p.1, p.2) (no_memory [] [] _ c.in_err-put_word-2.ensures.refused)
+
+pub returns-in_err-put_word-3-clause-refused : goal.returns-in_err-put_word-3-clause-refused
+returns-in_err-put_word-3-clause-refused c =
+    let p = err_from_is_err_and c.from_residual-in_err-put_word-3.result c.from_residual-in_err-put_word-3.ensures.1 in
+    rw (p.1, p.2) (no_memory [] [] _ c.in_err-put_word-3.ensures.refused)
+
+pub returns-in_err-put_value-clause-refused : goal.returns-in_err-put_value-clause-refused
+returns-in_err-put_value-clause-refused c =
+    let p = err_from_is_err_and c.from_residual-in_err-put_value.result c.from_residual-in_err-put_value.ensures.1 in
+    rw (p.1, p.2) (no_memory [] [] _ c.in_err-put_value.ensures.refused)

@@ -12,12 +12,12 @@ at_end : (place : ℕ) (names name all : List ℕ) → place ≡ length names �
 at_end place names name all e w h = subst (λ (x : List ℕ). BeginsWithText (drop place x) name) (sym w)
     (subst (λ (n : ℕ). BeginsWithText (drop n ((names ++ name) ++ 0 ∷ [])) name) (sym e) h)
 
-pub returns : goal.returns
-returns c =
+pub returns-clause-put : goal.returns-clause-put
+returns-clause-put c =
     let names = c.args.names.now.items in
     let name = c.args.name.now in
-    let first = c.in_ok-put_bytes.ensures in
-    let last : c.put_bytes-2.new.out.items ≡ c.put_bytes.new.out.items ++ 0 ∷ [] = c.in_ok-put_bytes-2.ensures ∙ ap (λ (x : List ℕ).
+    let first = c.in_ok-put_bytes.ensures.put in
+    let last : c.put_bytes-2.new.out.items ≡ c.put_bytes.new.out.items ++ 0 ∷ [] = c.in_ok-put_bytes-2.ensures.put ∙ ap (λ (x : List ℕ).
     c.put_bytes.new.out.items ++ x) c.as_slice.ensures in
     let whole = two names _ name _ first last in (
       at_end _ names name c.put_bytes-2.new.out.items (ap length c.as_slice-place.ensures.value) whole (name_added names name c.requires),

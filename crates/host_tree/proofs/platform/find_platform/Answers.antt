@@ -3,12 +3,13 @@ use Rattle.board_ranges.specs.declared.rows.Extent.{Extent}
 use Rattle.host_tree.specs.Boards.{HartsThere, extents_of}
 use Rattle.host_tree.specs.Platforms.{IsClipped, pairs_in}
 use Rattle.host_tree.proofs.Pairs.{pairs_are}
+use Rattle.host_tree.proofs.RootRefused.{board_lacks_memory}
 use Rattle.host_tree.proofs.platform.find_platform.Goals as goal
 
 pub returns-clause-found : goal.returns-clause-found
 returns-clause-found c =
-    let b = c.in-Ok.ensures in
-    let l = c.in-Ok-left_of.ensures in
+    let b = c.in-Ok.ensures.ok in
+    let l = c.in-Ok-left_of.ensures.ok in
     let old = c.args.platform.now in
     record {
       tree = b.0;
@@ -26,3 +27,6 @@ returns-clause-found c =
       device_count = refl;
       device = refl;
     }
+
+pub returns-in-Err-left_of-clause-refused : goal.returns-in-Err-left_of-clause-refused
+returns-in-Err-left_of-clause-refused c = board_lacks_memory c.args.bytes.now c.in-Err-left_of.fault c.in-Err-left_of.ensures.refused

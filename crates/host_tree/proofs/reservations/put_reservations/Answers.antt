@@ -1,7 +1,9 @@
-use Rattle.std.proofs.Common.{◌≡◌, ℕ, List, [], ◌++◌, ◌+◌, ◌*◌, length, length-append, append_assoc, drop, subst, sym, arith}
+use Rattle.std.proofs.Common.{◌≡◌, ℕ, List, [], ◌++◌, ◌+◌, ◌*◌, length, length-append, append_assoc, drop, subst, sym, ⊎_elim, inl, inr, arith}
 use Rattle.std.proofs.lemmas.List.{drop_all}
 use Rattle.device_tree.specs.Trees.{BeginsWithReservations}
 use Rattle.device_tree.specs.declared.reservations.Reservation.{Reservation}
+use Rattle.std.proofs.lemmas.Result.{err_from_is_err_and}
+use Rattle.host_tree.proofs.WriteFaults.{empty_at}
 use Rattle.host_tree.proofs.Fronts.{two_joined}
 use Rattle.host_tree.proofs.Steps.{held_step}
 use Rattle.host_tree.proofs.reservations.put_reservations.Goals as goal
@@ -20,7 +22,7 @@ last added end list i e was ends rest =
 pub loop-one-preserved : goal.loop-one-preserved
 loop-one-preserved c =
     let was = c.loop-one.invariant in
-    let one = c.in_ok-put_reservation.ensures in
+    let one = c.in_ok-put_reservation.ensures.put in
     let both = length-append was.0 one.0 in (
       was.0 ++ one.0,
       two_joined c.args.out.now.items _ _ was.0 one.0 was.1 one.1,
@@ -28,10 +30,10 @@ loop-one-preserved c =
       held_step was.0 one.0 c.args.list.now c.loop-one.one-index _ (omega arith) was.3 one.3,
     )
 
-pub returns : goal.returns
-returns c =
+pub returns-clause-put : goal.returns-clause-put
+returns-clause-put c =
     let was = c.loop-one.invariant in
-    let ended = c.in_ok-put_end.ensures in
+    let ended = c.in_ok-put_end.ensures.put in
     let list = c.args.list.now in
     let at_end : length list ≡ c.loop-one.one-index = omega arith in (
       was.0 ++ ended.0,
@@ -39,3 +41,14 @@ returns c =
       all_there (length was.0) (length ended.0) _ c.loop-one.one-index (length list) was.2 ended.2 (sym at_end) (length-append was.0 ended.0),
       last was.0 ended.0 list c.loop-one.one-index at_end was.3 ended.3,
     )
+
+pub returns-in_err-put_reservation-clause-refused : goal.returns-in_err-put_reservation-clause-refused
+returns-in_err-put_reservation-clause-refused c =
+    let p = err_from_is_err_and c.from_residual.result c.from_residual.ensures.1 in
+    rw (p.1, p.2) (⊎_elim (λ is. inl is)
+    (λ one. inr (one.0, empty_at c.args.list.now c.loop-one.one-index _ (omega arith) (one.1, one.2))) c.in_err-put_reservation.ensures.refused)
+
+pub returns-in_err-put_end-clause-refused : goal.returns-in_err-put_end-clause-refused
+returns-in_err-put_end-clause-refused c =
+    let p = err_from_is_err_and c.from_residual-in_err-put_end.result c.from_residual-in_err-put_end.ensures.1 in
+    rw (p.1, p.2) (inl c.in_err-put_end.ensures.refused)

@@ -1,4 +1,4 @@
-use Rattle.std.proofs.Common.{◌≡◌, ◌∙◌, ◌+◌, ◌-◌, ◌<◌, ◌≤◌, suc, [], ◌∷◌, ◌++◌, set, take, List, ℕ, length, length-take-le, replicate, ap, sym, append_assoc, arith, rules}
+use Rattle.std.proofs.Common.{◌≡◌, ◌∙◌, ◌+◌, ◌-◌, ◌<◌, suc, [], ◌∷◌, ◌++◌, set, take, List, ℕ, length, length-take-le, replicate, ap, sym, append_assoc, arith, rules}
 use Rattle.std.proofs.Math.Seq.{set-append_seam, take-set-lt}
 use Rattle.std.proofs.lemmas.List.{set-append_right}
 use Rattle.trap_server.specs.Answers.{cfg_bytes}

@@ -17,9 +17,9 @@ private_range parts = record { first = parts.base / 4096; count = parts.text_pag
 pub returns-clause-host : goal.returns-clause-host
 returns-clause-host c = λ id e next parts_are.
     let old : EnclaveTable = c.args.self.now.table in
-    let parts : Create = c.in-Some.parts in
+    let parts : Create = c.normalized-parts.result in
     let range : PageRange = c.private_pages.result in
-    let same_parts : parts ≡ e.parts = c.in-Some.ensures.parts ∙ sym parts_are in
+    let same_parts : parts ≡ e.parts = c.normalized-parts.ensures ∙ sym parts_are in
     let range_is : range ≡ private_range e.parts = c.private_pages.ensures.value ∙ ap private_range same_parts in
     let same : SameView (overwritten (host_view old) range.first range.count NoAccess) (host_view (with_enclave old id (Some e))) =
     along (host_view old) (host_view (with_enclave old id (Some e))) range (private_range e.parts) NoAccess range_is
@@ -31,4 +31,4 @@ returns-clause-host c = λ id e next parts_are.
 pub returns-clause-own : goal.returns-clause-own
 returns-clause-own c =
     let P : Create → Type 0 = λ parts. Needs (enclave_view parts) c.needed-2.result in
-    subst P c.in-Some.ensures.parts (rw c.needed-2.ensures (needs_of (enclave_view c.in-Some.parts) c.in_ok-own.own.entries c.in_ok-own.ensures))
+    subst P c.normalized-parts.ensures (rw c.needed-2.ensures (needs_of (enclave_view c.normalized-parts.result) c.in_ok-own.own.entries c.in_ok-own.ensures))

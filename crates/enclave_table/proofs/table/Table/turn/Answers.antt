@@ -1,9 +1,10 @@
-use Rattle.std.proofs.Common.{◌≡◌, ◌-◌, ◌<◌, ◌∙◌, sym, subst, length, None, Some}
+use Rattle.std.proofs.Common.{◌≡◌, ◌-◌, ◌<◌, ◌∙◌, refl, sym, subst, length, None, Some}
 use Rattle.std.proofs.lemmas.List.{get_or_default}
 use Rattle.enclave_table.specs.Enclaves.{Live}
 use Rattle.enclave_table.specs.Tables.{Kept}
+use Rattle.enclave_table.specs.declared.enclave.Enclave.{Enclave}
 use Rattle.enclave_table.proofs.Places.{live_inside, live_place}
-use Rattle.enclave_table.proofs.Turned.{in_state, turned_kept, turned_tree}
+use Rattle.enclave_table.proofs.Replaced.{replaced_kept, replaced_tree}
 use Rattle.enclave_table.proofs.table.Table.turn.Goals as goal
 
 pub invariant_of-self : goal.invariant_of-self
@@ -18,10 +19,11 @@ invariant_of-self c =
     } in
     let live : Live kept.table c.args.id e = let P : Kept → Type 0 = λ v. Live v.table c.args.id e in subst P (sym c.self.view_is) c.requires.live.1 in
     let inside : c.args.id - 1 < length items = live_inside items c.args.id e live in
-    let slot : c.put_state.new.place ≡ Some (in_state e c.args.state) =
+    let turned : Enclave = record e { state = c.args.state } in
+    let slot : c.put_state.new.place ≡ Some turned =
     c.put_state.ensures e (c.index_mut.ensures.value ∙ get_or_default items (c.args.id - 1) _ None inside ∙ live_place items c.args.id e live) in
     rw slot (
-      turned_kept kept c.args.id e c.args.state live c.self.invariant.0,
-      turned_tree kept.table c.self.inside.host_tree c.args.id e c.args.state live
+      replaced_kept kept c.args.id e turned live refl c.self.invariant.0,
+      replaced_tree kept.table c.self.inside.host_tree c.args.id e turned live refl
           c.self.invariant.1,
     )

@@ -1,14 +1,21 @@
 use Rattle.std.proofs.Common.{ℕ, List, [], ◌∷◌, ◌++◌, subst, sym}
 use Rattle.device_tree.specs.Pieces.{begins}
 use Rattle.host_tree.specs.Written.{SpellsFront}
+use Rattle.std.proofs.lemmas.Result.{err_from_is_err_and}
+use Rattle.host_tree.proofs.WriteFaults.{no_memory}
 use Rattle.host_tree.proofs.Fronts.{and_part}
 use Rattle.host_tree.proofs.writer.TreeWriter.begin_node.Goals as goal
 
-pub returns : goal.returns
-returns c = λ parts h. record {
+pub returns-clause-put : goal.returns-clause-put
+returns-clause-put c = λ parts h. record {
   spelt = λ more.
       let names = c.args.self.now.names.items ++ more in
-      let added = c.in_ok-put_begin.ensures in
+      let added = c.in_ok-put_begin.ensures.put in
       subst (λ (x : List ℕ). SpellsFront names x (parts ++ begins c.args.name.now ∷ [])) (sym added.1)
       (and_part names c.args.self.now.block.items added.0 parts (begins c.args.name.now) (h.spelt more) (λ rest. added.2 names rest));
 }
+
+pub returns-in_err-put_begin-clause-refused : goal.returns-in_err-put_begin-clause-refused
+returns-in_err-put_begin-clause-refused c =
+    let p = err_from_is_err_and c.from_residual.result c.from_residual.ensures.1 in
+    rw (p.1, p.2) (no_memory (begins c.args.name.now ∷ []) [] _ c.in_err-put_begin.ensures.refused)

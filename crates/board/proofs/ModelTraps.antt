@@ -1,27 +1,20 @@
--- Each step of the model on a board that is as its state.
-use Rattle.std.proofs.Common.{◌≡◌, ◌≢◌, ◌∙◌, inl, inr, ℕ, ◌+◌, ◌<◌, ◌≤◌, ◌^◌, ◌==◌, Bool, false, if◌then◌else◌, List, [], ◌∷◌, ◌++◌}
-use Rattle.std.proofs.Common.{length, Option, Some, None, IfSome, Result, Ok, Err, append-nil, refl, ap, sym, subst, arith}
+-- A call and an interrupt of the model, on a board that is as its state.
+use Rattle.std.proofs.Common.{ℕ, ◌≡◌, ◌∙◌, ◌+◌, ◌<◌, ◌≤◌, ◌^◌, ◌==◌, false, if◌then◌else◌, List, [], ◌∷◌, ◌++◌}
+use Rattle.std.proofs.Common.{length, Option, Some, None, IfSome, refl, ap, sym, subst, arith}
 use Rattle.std.proofs.lemmas.Bool.{both_ways, eq-eqb, eqb-true}
 use Rattle.pmp_encoding.specs.Limits.{limit_number}
-use Rattle.pmp_encoding.specs.Lists.{MeansList}
 use Rattle.pmp_encoding.specs.declared.limit.Limit.{Limit}
 use Rattle.pmp_encoding.specs.declared.pages.PageRange.{PageRange}
 use Rattle.pmp_encoding.specs.declared.region.Entry.{Entry}
-use Rattle.pmp_match.specs.Judgement.{Judges}
 use Rattle.pmp_match.specs.Meaning.{IsFewest, View}
-use Rattle.pmp_match.specs.declared.access.Access.{Access}
-use Rattle.pmp_match.specs.declared.access.Kind.{Kind}
-use Rattle.pmp_match.specs.declared.access.Kind.TheVariants.{Fetch, Load, Store}
-use Rattle.pmp_match.specs.declared.access.Mode.TheVariants.{Machine}
-use Rattle.pmp_match.specs.declared.cause.Cause.{Cause}
 use Rattle.platforms.specs.Platform.{PlatformLayout}
 use Rattle.sbi_decode.specs.Calls.{call_of}
 use Rattle.sbi_decode.specs.Registers.{RegisterFile}
-use Rattle.sbi_decode.specs.Runners.{Runner, runner_of}
+use Rattle.sbi_decode.specs.Runners.{runner_of}
 use Rattle.sbi_decode.specs.declared.world.World.{World}
 use Rattle.sbi_decode.specs.declared.world.World.TheVariants.{Host, Enclave as InEnclave}
 use Rattle.enclave_table.specs.Fewest.{FitsIn}
-use Rattle.enclave_table.specs.Tables.{IsCurrent, IsTable}
+use Rattle.enclave_table.specs.Tables.{IsCurrent}
 use Rattle.enclave_table.specs.Views.{current_view}
 use Rattle.monitor_core.specs.Answers.{world_number}
 use Rattle.monitor_core.specs.Changes.{is_same, past_call, with_running}
@@ -29,13 +22,11 @@ use Rattle.monitor_core.specs.Frames.{ClearsMemory}
 use Rattle.monitor_core.specs.Measured.{asked_in}
 use Rattle.monitor_core.specs.States.{MonitorState, running_registers}
 use Rattle.monitor_core.specs.Steps.{DoesCall, Interrupts}
-use Rattle.monitor_core.specs.Worlds.{ArePlaced}
 use Rattle.monitor_core.proofs.Cases.{both}
 use Rattle.monitor_core.proofs.Cleared.{call_clears_memory}
 use Rattle.monitor_core.proofs.Layouts.{call_keeps_layout, interrupt_keeps_layout}
-use Rattle.monitor_core.proofs.Put.{same_not, same_self}
+use Rattle.monitor_core.proofs.Put.{same_self}
 use Rattle.monitor_core.proofs.WorldsKept.{call_keeps_worlds, interrupt_keeps_worlds, putting_keeps_worlds}
-use Rattle.hart_trace.specs.declared.event.Event.{Event}
 use Rattle.hart_trace.specs.declared.event.Event.TheVariants as events
 use Rattle.hart_trace.specs.declared.reply.Reply.{Reply}
 use Rattle.hart_trace.specs.declared.reply.Reply.TheVariants as replies
@@ -43,150 +34,23 @@ use Rattle.hart_sim.specs.Changes.{calling}
 use Rattle.hart_sim.specs.Memory.{measured_in}
 use Rattle.hart_sim.specs.Replies.{RepliesWith}
 use Rattle.hart_sim.specs.States.{MachineState, awoken, core_of, with_core}
-use Rattle.hart_sim.specs.Steps.{Accesses, Serves, TakesEffect, verdict}
-use Rattle.trap_server.specs.Answered.{AreAwake, no_answer}
-use Rattle.trap_server.specs.Firmware.{HasFewest, loaded_pairs}
+use Rattle.hart_sim.specs.Steps.{Serves}
+use Rattle.trap_server.specs.Answered.{no_answer}
 use Rattle.trap_server.specs.declared.trap.TrapEvent.TheVariants as traps
 use Rattle.trap_server.proofs.Waking.{marks_in_host}
-use Rattle.board.specs.Board.{BoardEvent, BoardRun, DoesAccess, access, happened, memory_after, no_floats, put_by, trapped}
-use Rattle.board.specs.Model.{IsOneTrap, IsSeen, SaysReply}
-use Rattle.board.proofs.Asked.{asks, frames_of_memory, measures_known}
+use Rattle.board.specs.Board.{BoardEvent, trapped}
+use Rattle.board.specs.Model.{IsOneTrap, SaysReply}
+use Rattle.board.proofs.Asked.{asks, frames_of_memory}
 use Rattle.board.proofs.Follows.{Follows, IsElsewhere, call_follows, digest_by, irq_follows}
-use Rattle.board.proofs.Judged.{judged}
 use Rattle.board.proofs.Rooms.{AllFit, call_fits, current_fits, irq_fits}
 use Rattle.board.proofs.Runners.{same_is}
 use Rattle.board.proofs.Runners.{alone as alone_on}
 use Rattle.board.proofs.TrapFrames.{trap_frame, trap_on}
-use Rattle.board.proofs.TrapsOn.{OnBoard, TrapLeaves, Waits, board_of, clears, monitor_of, trap_seen}
-
--- what the theorem of a board says of one that is as a state
-pub record IsGood (layout : PlatformLayout) (s : MachineState) (registers : Runner → RegisterFile) (marked : ℕ → Bool) (loaded : ℕ → List ℕ) : Type 0 where
-  pub table : IsTable s.table
-  pub platform : s.table.layout ≡ layout
-  pub worlds : ArePlaced (monitor_of s registers marked)
-  pub awake : AreAwake (monitor_of s registers marked)
-  pub banks : (hart : ℕ) → hart < layout.harts → HasFewest (loaded hart) layout.limit (current_view s.table (s.worlds hart))
-
--- what is seen of a step
-pub record Next (layout : PlatformLayout) (opened : List ℕ) (seen : List BoardEvent) (event : Event) (s : MachineState) (hart : ℕ) (reply : Reply)
-    (new : MachineState) : Type 0 where
-  pub now : List BoardEvent
-  pub is_seen : IsSeen event s hart reply now
-  pub on : OnBoard layout opened (seen ++ now) new
+use Rattle.board.proofs.OnBoards.{IsGood, Next, OnBoard, Waits, monitor_of}
+use Rattle.board.proofs.TrapsOn.{TrapLeaves, clears, trap_seen}
 
 module _ (layout : PlatformLayout) (opened : List ℕ) (seen : List BoardEvent) (s : MachineState) (hart : ℕ) (reply : Reply) (new : MachineState)
     (known : hart < s.table.layout.harts) (on : OnBoard layout opened seen s) (good : IsGood layout s on.registers on.marked on.loaded) where
-  abbrev On : List BoardEvent → MachineState → Type 0
-  On events that = OnBoard layout opened events that
-
-  -- nothing was seen
-  nothing : (that : MachineState) → On seen that → On (seen ++ []) that
-  nothing that x = subst (λ events. On events that) (sym (append-nil seen)) x
-
-  -- an access, with what the view says of it
-  acts : (a : Access) (value : ℕ) (said : Result (Unit {0}) Cause) → a.mode ≢ Machine → said ≡ verdict (current_view s.table (s.worlds hart)) a
-      → (memory : ℕ → ℕ) → memory ≡ memory_after said s.bytes a value
-      → DoesAccess (board_of s on.registers on.marked on.hosts on.loaded) hart a value said
-      (record (board_of s on.registers on.marked on.hosts on.loaded) { memory = memory })
-  acts a value said below is memory same =
-      let fewest = good.banks hart (subst (λ l. hart < l.harts) good.platform known) in
-      record {
-        known = known;
-        below = below;
-        entries = fewest.entries;
-        loaded = subst (λ l. MeansList (loaded_pairs (on.loaded hart) 0 (limit_number l.limit)) fewest.entries) (sym good.platform) fewest.list;
-        judged = subst (Judges fewest.entries a) (sym is) (judged (current_view s.table (s.worlds hart)) fewest.entries a fewest.fewest.means below);
-        state = ap (λ m. record (board_of s on.registers on.marked on.hosts on.loaded) { memory = m }) same;
-      }
-
-  -- an access that leaves this state, which differs in memory alone
-  access_on : (a : Access) (value : ℕ) (said : Result (Unit {0}) Cause) → a.mode ≢ Machine → said ≡ verdict (current_view s.table (s.worlds hart)) a
-      → (that : MachineState) → that.table ≡ s.table → that.worlds ≡ s.worlds → that.registers ≡ s.registers
-      → that.bytes ≡ memory_after said s.bytes a value
-      → On (seen ++ access hart a value said ∷ []) that
-  access_on a value said below is that table worlds registers bytes =
-      let put = record (board_of s on.registers on.marked on.hosts on.loaded) { memory = that.bytes } in
-      let same : put ≡ board_of that on.registers on.marked on.hosts on.loaded = λ i. record {
-        monitor = record { table = sym table i; worlds = sym worlds i; registers = on.registers; marked = on.marked };
-        hosts = on.hosts;
-        memory = that.bytes;
-        loaded = on.loaded;
-        floats = λ hart. no_floats;
-        kept = λ who. no_floats;
-      } in
-      record {
-        registers = on.registers;
-        marked = on.marked;
-        hosts = on.hosts;
-        loaded = on.loaded;
-        runs = subst (BoardRun layout opened (seen ++ access hart a value said ∷ [])) same
-            (happened on.runs (access hart a value said) (acts a value said below is that.bytes bytes));
-        waits = λ who off.
-            on.waits who (λ h low. subst (λ w. who ≢ runner_of h (w h)) worlds (off h (subst (λ t. h < t.layout.harts) (sym table) low)))
-            ∙ sym (ap (λ r. r who) registers);
-      }
-
-  takes : (a : Access) (value : ℕ) (kind : Kind) → a.kind ≡ kind → a.mode ≢ Machine → Ok tt ≡ verdict (current_view s.table (s.worlds hart)) a
-      → TakesEffect kind (awoken s hart) a value reply new → Next layout opened seen (events.Access a value) s hart reply new
-  takes a value Fetch kind below is x = record {
-    now = access hart a value (Ok tt) ∷ [];
-    is_seen = subst (λ r. IsSeen (events.Access a value) s hart r (access hart a value (Ok tt) ∷ [])) (sym x.0) refl;
-    on = access_on a value (Ok tt) below is new (ap (λ n. n.table) x.1) (ap (λ n. n.worlds) x.1) (ap (λ n. n.registers) x.1)
-        (ap (λ n. n.bytes) x.1 ∙ ap (λ k. put_by k s.bytes a value) (sym kind));
-  }
-  takes a value Load kind below is x = record {
-    now = access hart a value (Ok tt) ∷ [];
-    is_seen = subst (λ r. IsSeen (events.Access a value) s hart r (access hart a value (Ok tt) ∷ [])) (sym x.0) refl;
-    on = access_on a value (Ok tt) below is new (ap (λ n. n.table) x.1) (ap (λ n. n.worlds) x.1) (ap (λ n. n.registers) x.1)
-        (ap (λ n. n.bytes) x.1 ∙ ap (λ k. put_by k s.bytes a value) (sym kind));
-  }
-  takes a value Store kind below is (inl x) = record {
-    now = access hart a value (Ok tt) ∷ [];
-    is_seen = subst (λ r. IsSeen (events.Access a value) s hart r (access hart a value (Ok tt) ∷ [])) (sym x.0) refl;
-    on = access_on a value (Ok tt) below is new (ap (λ n. n.table) x.1) (ap (λ n. n.worlds) x.1) (ap (λ n. n.registers) x.1)
-        (ap (λ n. n.bytes) x.1 ∙ ap (λ k. put_by k s.bytes a value) (sym kind));
-  }
-  takes a value Store kind below is (inr x) = record {
-    now = [];
-    is_seen = subst (λ r. IsSeen (events.Access a value) s hart r []) (sym x.0) refl;
-    on = subst (On (seen ++ [])) (sym x.2) (nothing (awoken s hart) (record {
-      registers = on.registers;
-      marked = on.marked;
-      hosts = on.hosts;
-      loaded = on.loaded;
-      runs = on.runs;
-      waits = on.waits;
-    }));
-  }
-
-  pub access_next : (a : Access) (value : ℕ) (said : Result (Unit {0}) Cause) → a.mode ≢ Machine → said ≡ verdict (current_view s.table (s.worlds hart)) a
-      → Accesses said (awoken s hart) a value reply new → Next layout opened seen (events.Access a value) s hart reply new
-  access_next a value (Err cause) below is x = record {
-    now = access hart a value (Err cause) ∷ [];
-    is_seen = subst (λ r. IsSeen (events.Access a value) s hart r (access hart a value (Err cause) ∷ [])) (sym x.0) refl;
-    on = access_on a value (Err cause) below is new (ap (λ n. n.table) x.1) (ap (λ n. n.worlds) x.1) (ap (λ n. n.registers) x.1) (ap (λ n. n.bytes) x.1);
-  }
-  access_next a value (Ok done) below is x = takes a value a.kind refl below is x
-
-  -- a register is set of who runs, and of nobody who waits
-  pub reg_next : (n value : ℕ) (file : RegisterFile)
-      → (reply ≡ replies.Done) × (new ≡ with_core (awoken s hart) (with_running (core_of (awoken s hart)) hart file))
-      → Next layout opened seen (events.Reg n value) s hart reply new
-  reg_next n value file x = record {
-    now = [];
-    is_seen = refl;
-    on = subst (On (seen ++ [])) (sym x.1) (nothing (with_core (awoken s hart) (with_running (core_of (awoken s hart)) hart file)) (record {
-      registers = on.registers;
-      marked = on.marked;
-      hosts = on.hosts;
-      loaded = on.loaded;
-      runs = on.runs;
-      waits = λ who off.
-          on.waits who off
-          ∙ sym (ap (λ b. if b then file else s.registers who) (same_not who (runner_of hart (s.worlds hart)) (off hart known)));
-    }));
-  }
-
   -- who runs on the hart runs on no other
   alone : IsElsewhere s.table.layout.harts s.worlds hart (runner_of hart (s.worlds hart))
   alone other low differ = alone_on (monitor_of s on.registers on.marked) hart other good.worlds known low differ
@@ -247,7 +111,7 @@ module _ (layout : PlatformLayout) (opened : List ℕ) (seen : List BoardEvent) 
       let new_fit : AllFit new.table = subst AllFit (sym (ap (λ n. n.table) is)) (call_fits call digests old hart answer pages core good.table does fit) in
       let placed = call_keeps_worlds call (λ parts. digest_by digests (asked_in call)) now hart answer pages mid known (good.awake hart known) f.1
       (putting_keeps_worlds base hart gone good.worlds) in
-      let a = asks (asked_in call) base hart s.bytes (measures_known call digests old hart answer pages core does) in
+      let a = asks (asked_in call) answer s.bytes in
       let low : hart < new.table.layout.harts = subst (λ l. hart < l.harts) (sym layout_is) known in
       let current : IsCurrent new.table (new.worlds hart) = subst (λ t. IsCurrent t (new.worlds hart)) (sym table)
       (subst (λ w. IsCurrent mid.table (w hart)) (sym worlds) (placed.current hart (subst (λ t. hart < t.layout.harts) table low))) in (
@@ -280,12 +144,8 @@ module _ (layout : PlatformLayout) (opened : List ℕ) (seen : List BoardEvent) 
           serves = λ given answered that same goes_on. record {
             digest = digest_by digests (asked_in call);
             answer = answer;
-            cleared = pages;
-            mid = mid;
+            answers = record { cleared = pages; mid = mid; step = f.1; woken = same; goes_on = goes_on };
             asks = a.2;
-            step = f.1;
-            woken = same;
-            goes_on = goes_on;
           };
         },
         new_fit,
@@ -392,7 +252,7 @@ module _ (layout : PlatformLayout) (opened : List ℕ) (seen : List BoardEvent) 
   pub trap_next : (file : RegisterFile) (words : List ℕ) → past_call file ≡ calling s hart words
       → (x : TrapLeaves layout opened seen traps.Call s new hart file on)
       → reply ≡ replies.Call x.answer.status x.answer.value (world_number (new.worlds hart)) (length x.entries)
-      → (now : List BoardEvent) × IsOneTrap traps.Call hart (λ file. past_call file ≡ calling s hart words) reply now × On (seen ++ now) new
+      → (now : List BoardEvent) × IsOneTrap traps.Call hart (λ file. past_call file ≡ calling s hart words) reply now × OnBoard layout opened (seen ++ now) new
   trap_next file words came x replied =
       let t = trap_seen layout opened seen traps.Call s new hart file on known x in (
         trapped (trap_on traps.Call hart file) (trap_frame traps.Call hart file) x.read x.question t.0 ∷ [],

@@ -1,0 +1,139 @@
+-- Why a host gets no tree, or nothing is known of a board: what is wrong with the board's own tree.
+-- Of memory, and of a tree of 4 GiB, nothing is said.
+use Rattle.std.specs.Prelude.{◌≡◌, ◌≢◌, ◌⊎◌, ℕ, ◌*◌, ◌^◌, ◌<◌, ◌≤◌, ⊤}
+use Rattle.std.specs.Prelude.{List, [], ◌∷◌, length, map}
+use Rattle.device_tree.specs.declared.fault.TreeFault.{TreeFault}
+use Rattle.device_tree.specs.declared.fault.TreeReason.TheVariants as trees
+use Rattle.device_tree.specs.declared.reservations.Reservation.{Reservation}
+use Rattle.device_tree.specs.Pieces.{Part, begins, has, ends}
+use Rattle.device_tree.specs.Nodes.{Nodes, Tree, parts_of_nodes, parts_of_tree}
+use Rattle.device_tree.specs.Trees.{ReadsAs}
+use Rattle.board_ranges.specs.declared.cells.Cells.{Cells}
+use Rattle.board_ranges.specs.declared.kinds.Place.{Place}
+use Rattle.board_ranges.specs.declared.rows.Extent.{Extent}
+use Rattle.board_ranges.specs.Windows.{Path}
+use Rattle.board_ranges.specs.Meaning.{AreCells}
+use Rattle.board_ranges.specs.Refusals.{HasNoRanges, IsNodeFault, SayNone}
+use Rattle.host_tree.specs.declared.fault.HostTreeFault.{HostTreeFault}
+use Rattle.host_tree.specs.declared.fault.HostTreeFault.TheVariants.{NotRead, NotMade}
+use Rattle.host_tree.specs.declared.fault.MakeFault.{MakeFault}
+use Rattle.host_tree.specs.declared.fault.MakeFault.TheVariants.{NotUnderstood, BadCells}
+use Rattle.host_tree.specs.declared.fault.MakeFault.TheVariants.{NotWritten}
+use Rattle.host_tree.specs.declared.in_place.PlaceFault.{PlaceFault}
+use Rattle.host_tree.specs.declared.in_place.PlaceFault.TheVariants.{NoRoom, NoTree}
+use Rattle.host_tree.specs.declared.platform.PlatformWords.{PlatformWords}
+use Rattle.host_tree.specs.declared.reserved.Reserved.{Reserved}
+use Rattle.host_tree.specs.declared.write_fault.WriteFault.{WriteFault}
+use Rattle.host_tree.specs.declared.write_fault.WriteFault.TheVariants.{EmptyReservation}
+use Rattle.host_tree.specs.declared.write_fault.WriteFault.TheVariants.{Memory, TooLarge}
+use Rattle.host_tree.specs.declared.write_fault.WriteFault.TheVariants.{ZeroInName}
+use Rattle.host_tree.specs.HostTrees.{IsHosts}
+use Rattle.host_tree.specs.Platforms.{portion_in, reserved_in}
+use Rattle.host_tree.specs.Written.{IsText}
+
+-- the name of one of the parts has a zero byte
+abbrev pub HasZeroName : List Part → Type 0
+HasZeroName [] = ⊥
+HasZeroName (begins name ∷ later) = ¬ IsText name ⊎ HasZeroName later
+HasZeroName (has setting ∷ later) = ¬ IsText setting.name ⊎ HasZeroName later
+HasZeroName (ends ∷ later) = HasZeroName later
+
+-- one of the reservations has address 0 and size 0
+abbrev pub HasEmpty : List Reservation → Type 0
+HasEmpty [] = ⊥
+HasEmpty (first ∷ later) = ((first.address ≡ 0) × (first.size ≡ 0)) ⊎ HasEmpty later
+
+-- why these parts and reservations are not written
+abbrev pub IsWriteFault : List Part → List Reservation → WriteFault → Type 0
+IsWriteFault parts reservations ZeroInName = HasZeroName parts
+IsWriteFault parts reservations EmptyReservation = HasEmpty reservations
+IsWriteFault parts reservations TooLarge = ⊤
+IsWriteFault parts reservations Memory = ⊤
+
+-- why these parts are not written, of a tree that was read
+abbrev pub IsPutFault : List Part → MakeFault → Type 0
+IsPutFault parts (NotUnderstood reason) = ⊥
+IsPutFault parts BadCells = ⊥
+IsPutFault parts (NotWritten fault) = IsWriteFault parts [] fault
+
+-- a number is not written in so many cells: they are not one or two, or it has more bits
+abbrev pub IsUnfit : ℕ → ℕ → Type 0
+IsUnfit cells number = ((cells ≢ 1) × (cells ≢ 2)) ⊎ (256 ^ (4 * cells) ≤ number)
+
+-- the address or the size of a range is not
+abbrev pub IsUnfitRange : Cells → Extent → Type 0
+IsUnfitRange cells extent = IsUnfit cells.address extent.base ⊎ IsUnfit cells.size extent.size
+
+-- that of one of the ranges
+abbrev pub HasUnfitRange : Cells → List Reserved → Type 0
+HasUnfitRange cells [] = ⊥
+HasUnfitRange cells (first ∷ later) = IsUnfitRange cells first.extent
+    ⊎ HasUnfitRange cells later
+
+-- why ranges are not written
+abbrev pub IsRangeFault : Cells → List Reserved → MakeFault → Type 0
+IsRangeFault cells ranges (NotUnderstood reason) = ⊥
+IsRangeFault cells ranges BadCells = HasUnfitRange cells ranges
+IsRangeFault cells ranges (NotWritten fault) = IsWriteFault [] [] fault
+
+-- why the beginning of a node with these properties is not written, on a bus with these cells
+abbrev pub IsHeadFault : Place → Cells → List Part → List Part → MakeFault → Type 0
+IsHeadFault place cells properties parts (NotUnderstood reason) =
+    IsNodeFault place cells properties reason
+IsHeadFault place cells properties parts BadCells = ⊥
+IsHeadFault place cells properties parts (NotWritten fault) = IsWriteFault parts [] fault
+
+-- why nodes on a bus with these cells, whose addresses the root has in this way, are not written
+-- as a host has them, with ranges that are reserved
+abbrev pub AreRefused : Place → Cells → Path → List Reserved → Nodes → MakeFault → Type 0
+AreRefused place cells way ranges nodes (NotUnderstood reason) = (from : List Part)
+    × SayNone place cells way nodes from reason
+AreRefused place cells way ranges nodes BadCells = HasUnfitRange cells ranges
+AreRefused place cells way ranges nodes (NotWritten fault) =
+    IsWriteFault (parts_of_nodes nodes) [] fault
+
+-- why of a tree nothing is made, with ranges and reservations: one of its nodes says no ranges, or
+-- one of those that are reserved does not fit into the cells of its root
+abbrev pub IsMakeFault : Tree → List Reserved → List Reservation → MakeFault → Type 0
+IsMakeFault tree ranges reservations (NotUnderstood reason) = HasNoRanges tree reason
+IsMakeFault tree ranges reservations BadCells = (cells : Cells)
+    × AreCells (map has tree.properties) cells × HasUnfitRange cells ranges
+IsMakeFault tree ranges reservations (NotWritten fault) =
+    IsWriteFault (parts_of_tree tree) reservations fault
+
+-- the bytes begin with no tree that is read
+abbrev pub IsNotRead : List ℕ → TreeFault → Type 0
+IsNotRead bytes fault = fault.reason ≢ trees.Memory → (tree : Tree)
+    (reservations : List Reservation) → ReadsAs bytes tree reservations → ⊥
+
+-- the bytes begin with a tree of which this is so
+abbrev pub BeginsWithTree : List ℕ → (Tree → Type 0) → Type 0
+BeginsWithTree bytes IsSo = (tree : Tree) × (reservations : List Reservation)
+    × ReadsAs bytes tree reservations × IsSo tree
+
+-- why harts and memory of a board are not known: no tree is read, or one of its nodes says no
+-- ranges. Nothing is written
+abbrev pub IsBoardOfFault : List ℕ → HostTreeFault → Type 0
+IsBoardOfFault bytes (NotRead fault) = IsNotRead bytes fault
+IsBoardOfFault bytes (NotMade (NotUnderstood reason)) =
+    BeginsWithTree bytes (λ tree. HasNoRanges tree reason)
+IsBoardOfFault bytes (NotMade BadCells) = ⊥
+IsBoardOfFault bytes (NotMade (NotWritten fault)) = fault ≡ Memory
+
+-- why a host gets no tree with these ranges: no tree is read, one of its nodes says no ranges, or
+-- one of those that are reserved does not fit into the cells of its root
+abbrev pub IsHostTreeFault : List Reserved → List ℕ → HostTreeFault → Type 0
+IsHostTreeFault ranges bytes (NotRead fault) = IsNotRead bytes fault
+IsHostTreeFault ranges bytes (NotMade (NotUnderstood reason)) =
+    BeginsWithTree bytes (λ tree. HasNoRanges tree reason)
+IsHostTreeFault ranges bytes (NotMade BadCells) = BeginsWithTree bytes (λ tree. (cells : Cells)
+    × AreCells (map has tree.properties) cells × HasUnfitRange cells ranges)
+IsHostTreeFault ranges bytes (NotMade (NotWritten fault)) = IsWriteFault [] [] fault
+
+-- why a board's tree is left as it is: there is no tree of the host, or it is longer than its place
+abbrev pub IsPlaceFault : PlatformWords → Extent → List ℕ → PlaceFault → Type 0
+IsPlaceFault platform pool place (NoTree fault) =
+    IsHostTreeFault (reserved_in platform pool) place fault
+IsPlaceFault platform pool place NoRoom = (out : List ℕ)
+    × IsHosts (portion_in platform) (reserved_in platform pool) place out
+    × (length place < length out)
