@@ -20,6 +20,10 @@ static void fence(struct action *action, uint32_t kind)
 void act(struct world *world, struct action *action)
 {
     switch (action->kind) {
+    case GO_ON:
+        take_requests();
+        load_changes();
+        return;
     case TICK:
         host_timer_came();
         return;

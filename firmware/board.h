@@ -19,7 +19,7 @@ _Static_assert(sizeof(struct world) == 36 * 8, "trap.S counts on it");
    this hart does then. `instructions` counts since the hart was reset. */
 void run_world(struct world *world);
 uint64_t instructions(void);
-/* Whether a hart waits for the monitor's lock, has it, or is parked. take_lock waits for it. */
+/* Whether a hart waits for the monitor's lock, has it, is parked or stopped. take_lock waits for the lock. */
 extern volatile uint32_t halted[MOST_HARTS];
 void take_lock(void);
 
@@ -44,9 +44,9 @@ int differ(const uint64_t *a, const uint64_t *b, unsigned words);
 /* Makes pages of memory that are not the monitor's zero. */
 void make_zero(uint64_t first, uint64_t count);
 
-/* reset.c: pages were asked for, which a creation that is answered makes private; pages were made zero. */
-void private_asked(uint64_t first, uint64_t count);
-void private_answered(uint64_t status, uint64_t zero_first, uint64_t zero_count);
+/* reset.c: pages are private, until they were made zero. */
+void private_begin(uint64_t first, uint64_t count);
+void private_end(uint64_t first, uint64_t count);
 /* Makes all private pages zero. */
 void forget_private(void);
 /* The board ends, or begins anew, and nothing private is left. */
@@ -89,10 +89,9 @@ static inline unsigned this_hart(void)
     __asm__ volatile("csrr %0, mhartid" : "=r"(hart)::"memory");
     return (unsigned)hart;
 }
-/* Stops the other harts: none of them runs a world before this hart does. It has the monitor's lock. */
-void stop_harts(void);
-/* Whether they stopped in ten seconds. */
-int are_stopped(void);
+/* From here on other harts of a set, hart h in bit h, run no world and look at nothing that this one writes of them, which has the
+   monitor's lock; those of no later set go on. Whether they stopped in ten seconds. */
+int stop_harts(uint64_t harts);
 /* A started hart of the host will find its software interrupt. */
 void interrupt_supervisor(unsigned hart);
 /* The harts of a set, hart h in bit h, execute sfence.vma or fence.i, or both, before they run their worlds on: whether each has
@@ -107,9 +106,9 @@ static inline void fence_here(uint32_t kinds)
     if (kinds & FENCE_I)
         __asm__ volatile("fence.i" ::: "memory");
 }
-/* Does what other harts asked this one for. Whether one of them wants it to stop: then it has to come for the lock. */
-int take_requests(void);
-/* Before this hart runs its world: what is stale, and what was asked for. It has the monitor's lock. */
+/* Does what other harts asked this one for. */
+void take_requests(void);
+/* Before this hart runs its world: it stands still while it is stopped, does what was asked for, and loads what is stale. */
 void load_changes(void);
 void start_others(void);
 

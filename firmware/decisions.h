@@ -33,7 +33,6 @@ enum {
     FAIL,
     REBOOT,
     MONITOR,
-    MONITOR_ALONE,
     ENCLAVE_CALL,
     ENCLAVE_STOP,
     ENCLAVE_TICK

@@ -1,7 +1,7 @@
 /*
- * The harts of the board, and what they ask of one another, by software interrupts. While the host's view changes no other
- * hart runs a world. A hart that waits for the monitor's lock, has it, or is parked, is halted: it runs no world, and looks for
- * requests before it does (load_changes). Others take the interrupt.
+ * The harts of the board, and what they ask of one another, by software interrupts. A hart that waits for the monitor's lock, has it,
+ * is parked or is stopped, is halted: it runs no world, and before it does it looks for requests and whether it is to stop
+ * (load_changes). Others take the interrupt.
  */
 #include "board.h"
 
@@ -20,9 +20,10 @@ struct harts harts = {.started = 1};
 
 /* What is asked of a hart. */
 #define FENCES 3u /* a bit for each kind */
-#define STOP 4u
-#define INTERRUPT_OF_HOST 8u
+#define INTERRUPT_OF_HOST 4u
 static uint32_t requests[MOST_HARTS];
+/* Which harts are to stand still, hart h in bit h. The hart with the lock writes it. */
+static uint64_t stopping;
 /* How often a hart was asked for fences, and how often before it last made them. */
 static uint32_t fences_asked[MOST_HARTS], fences_made[MOST_HARTS];
 
@@ -33,12 +34,6 @@ static void interrupt(unsigned hart)
         software_interrupt[hart] = 1;
 }
 
-static void request(unsigned hart, uint32_t what)
-{
-    __atomic_fetch_or(&requests[hart], what, __ATOMIC_SEQ_CST);
-    interrupt(hart);
-}
-
 /* They are counted before they are made, so that no request is counted that comes later. */
 static void make_fences(unsigned self)
 {
@@ -47,27 +42,42 @@ static void make_fences(unsigned self)
     __atomic_store_n(&fences_made[self], asked, __ATOMIC_RELEASE);
 }
 
-int take_requests(void)
+void take_requests(void)
 {
     unsigned self = this_hart();
-    uint32_t what;
     software_interrupt[self] = 0;
     __asm__ volatile("fence" ::: "memory"); /* a later wish of another hart comes after this */
     make_fences(self);
-    what = __atomic_fetch_and(&requests[self], FENCES, __ATOMIC_SEQ_CST);
-    if (what & INTERRUPT_OF_HOST && harts.started >> self & 1)
+    if (__atomic_fetch_and(&requests[self], FENCES, __ATOMIC_SEQ_CST) & INTERRUPT_OF_HOST && harts.started >> self & 1)
         SET(mip, SOFTWARE_OF_SUPERVISOR);
-    return (what & STOP) != 0;
 }
 
-/* From here on who asks this hart for a fence waits for it. Who came before finds it here. */
+static int is_to_stop(unsigned hart)
+{
+    return __atomic_load_n(&stopping, __ATOMIC_ACQUIRE) >> hart & 1;
+}
+
+/* Who stops this hart or asks it for a fence waits for it from here on, or has said so before and is heard here. Once the hart is let
+   go it looks again: another stop may have begun, which took it as halted. */
+static void go_out(unsigned self)
+{
+    for (;;) {
+        halted[self] = 0;
+        __asm__ volatile("fence rw, rw" ::: "memory");
+        if (__atomic_load_n(&requests[self], __ATOMIC_ACQUIRE) || fences_asked[self] != fences_made[self])
+            take_requests();
+        if (!is_to_stop(self))
+            return;
+        halted[self] = 1;
+        while (is_to_stop(self))
+            ;
+    }
+}
+
 void load_changes(void)
 {
     unsigned self = this_hart();
-    halted[self] = 0;
-    __asm__ volatile("fence rw, rw" ::: "memory");
-    if (__atomic_load_n(&requests[self], __ATOMIC_ACQUIRE) || fences_asked[self] != fences_made[self])
-        take_requests();
+    go_out(self);
     if (!is_stale[self])
         return;
     is_stale[self] = 0;
@@ -109,37 +119,33 @@ int fence_harts(uint64_t harts, uint32_t kinds)
     return is_made;
 }
 
-int are_stopped(void)
+int stop_harts(uint64_t harts)
 {
     uint64_t last = timer_now() + TEN_SECONDS;
 #ifdef NO_STOP
     return 1; /* so that a test sees what comes of it */
 #endif
-    if (!harts_run)
-        return 1;
+    __atomic_store_n(&stopping, harts, __ATOMIC_RELEASE);
+    __asm__ volatile("fence rw, rw" ::: "memory");
     for (unsigned hart = 0; hart < hart_count(); hart++)
-        if (!halted[hart])
-            request(hart, STOP);
+        if (is_other(harts, hart) && !halted[hart])
+            interrupt(hart);
     for (unsigned hart = 0; hart < hart_count(); hart++)
-        while (!halted[hart])
+        while (is_other(harts, hart) && !halted[hart])
             if (timer_now() > last)
                 return 0;
     __asm__ volatile("fence rw, rw" ::: "memory");
     return 1;
 }
 
-void stop_harts(void)
-{
-    if (!are_stopped())
-        end_because("a hart does not stop, asked by hart ", this_hart());
-}
-
 void interrupt_supervisor(unsigned hart)
 {
-    if (hart == this_hart())
+    if (hart == this_hart()) {
         SET(mip, SOFTWARE_OF_SUPERVISOR);
-    else
-        request(hart, INTERRUPT_OF_HOST);
+        return;
+    }
+    __atomic_fetch_or(&requests[hart], INTERRUPT_OF_HOST, __ATOMIC_SEQ_CST);
+    interrupt(hart);
 }
 
 /* trap.S waits for it. */

@@ -9,11 +9,8 @@
 struct private_range {
     uint64_t first, count, check;
 };
-/* The enclaves that there can be, and the one that is being made. */
-#define MOST_PRIVATE (MOST_ENCLAVES + 1)
 #define CHECK(range) ((range).first ^ (range).count << 32 ^ 0x70726976617465ul)
-extern volatile struct private_range private_ranges[MOST_PRIVATE]; /* firmware.ld */
-static volatile struct private_range *asked;
+extern volatile struct private_range private_ranges[MOST_ENCLAVES]; /* firmware.ld */
 
 static int is_private(const volatile struct private_range *range)
 {
@@ -25,32 +22,29 @@ static void fence(void)
     __asm__ volatile("fence rw, rw" ::: "memory");
 }
 
-void private_asked(uint64_t first, uint64_t count)
+void private_begin(uint64_t first, uint64_t count)
 {
-    asked = private_ranges;
-    while (is_private(asked) && asked < private_ranges + MOST_PRIVATE - 1)
-        asked++;
-    asked->first = first;
-    asked->count = count;
+    volatile struct private_range *range = private_ranges;
+    while (is_private(range) && range < private_ranges + MOST_ENCLAVES - 1)
+        range++;
+    range->first = first;
+    range->count = count;
     fence();
-    asked->check = CHECK(*asked);
+    range->check = CHECK(*range);
     fence();
 }
 
-void private_answered(uint64_t status, uint64_t zero_first, uint64_t zero_count)
+void private_end(uint64_t first, uint64_t count)
 {
     fence();
-    if (asked && status)
-        asked->check = 0;
-    asked = 0;
-    for (unsigned i = 0; zero_count && i < MOST_PRIVATE; i++)
-        if (is_private(&private_ranges[i]) && private_ranges[i].first - zero_first < zero_count)
+    for (unsigned i = 0; i < MOST_ENCLAVES; i++)
+        if (is_private(&private_ranges[i]) && private_ranges[i].first - first < count)
             private_ranges[i].check = 0;
 }
 
 void forget_private(void)
 {
-    for (unsigned i = 0; i < MOST_PRIVATE; i++) {
+    for (unsigned i = 0; i < MOST_ENCLAVES; i++) {
         if (is_private(&private_ranges[i]))
             make_zero(private_ranges[i].first, private_ranges[i].count);
         fence();
@@ -69,7 +63,7 @@ static void forget(void)
     if (is_ending)
         return;
     is_ending = 1;
-    are_stopped();
+    stop_harts(~(1ul << this_hart()));
     forget_private();
 }
 

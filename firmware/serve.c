@@ -12,8 +12,6 @@ _Static_assert(MOST_HARTS == 4, "a hart begins with entries and fences");
 
 static enum { PLATFORM, TRAP, PAGES } next = PLATFORM;
 static uint64_t next_page, pages_left;
-/* Whether the pages of a creation were asked for: where it is not refused, its answer's value is the enclave. */
-static uint8_t is_creation;
 
 static int is_ram(uint64_t page)
 {
@@ -92,47 +90,48 @@ int differ(const uint64_t *a, const uint64_t *b, unsigned words)
     return 0;
 }
 
-/* The entries of a hart are those of an answer, and are loaded before it goes on where they were others. */
+/* A hart goes on with the entries of an answer. It loads them where they were others, and fences where pages were made zero: these
+   may have been code. */
 static void keep_bank(unsigned hart, const struct answer_frame *answer)
 {
     struct bank *bank = &banks[hart];
-    if (!differ(bank->cfg, answer->cfg, ENTRIES / 8) && !differ(bank->addr, answer->addr, ENTRIES))
+    if (!answer->zero_count && !differ(bank->cfg, answer->cfg, ENTRIES / 8) && !differ(bank->addr, answer->addr, ENTRIES))
         return;
     copy_words(bank->cfg, answer->cfg, ENTRIES / 8);
     copy_words(bank->addr, answer->addr, ENTRIES);
     is_stale[hart] = 1;
 }
 
-/* Pages that are made zero may have been code: each hart fences before it goes on. */
 void make_zero(uint64_t first, uint64_t count)
 {
     for (uint64_t page = first; page < first + count; page++)
         if (is_worlds(page))
             memset((void *)(page * PAGE), 0, PAGE);
-    if (count)
-        memset(is_stale, 1, sizeof is_stale);
 }
 
-/* Pages were asked for, or some are to be zero. */
-static void change_pages(const struct answer_frame *answer)
+/* Other harts stand still while their entries change, and no longer. */
+static void change_others(uint64_t harts, const struct answer_frame *answer)
 {
-    make_zero(answer->zero_first, answer->zero_count);
-    private_answered(answer->status, answer->zero_first, answer->zero_count);
-    if (is_creation && !answer->status)
-        floats_begin(answer->value);
-    is_creation = 0;
+    if (!stop_harts(harts))
+        end_because("a hart does not stop, asked by hart ", this_hart());
+    for (unsigned hart = 0; harts; hart++, harts >>= 1)
+        if (harts & 1)
+            keep_bank(hart, answer);
+    stop_harts(0); /* they go on */
 }
 
+/* No world reaches the pages that are made zero: they were an enclave's, and are closed to the host until its entries change. */
 static int64_t written_answer(const struct answer_frame *answer)
 {
-    uint64_t hart = answer->hart;
+    uint64_t hart = answer->hart, others = answer->wake & ~(1ul << hart);
     struct world *world = &worlds[hart];
-    if (is_creation || answer->zero_count)
-        change_pages(answer);
+    if (answer->zero_count) {
+        make_zero(answer->zero_first, answer->zero_count);
+        private_end(answer->zero_first, answer->zero_count);
+    }
     keep_bank((unsigned)hart, answer);
-    for (uint64_t woken = answer->wake, other = 0; woken; woken >>= 1, other++)
-        if (woken & 1)
-            keep_bank((unsigned)other, answer);
+    if (others)
+        change_others(others, answer);
     if (world_number[hart] != answer->world) {
         floats_change((unsigned)hart, answer->world);
         is_stale[hart] = 1;
@@ -145,13 +144,14 @@ static int64_t written_answer(const struct answer_frame *answer)
     return sizeof *answer;
 }
 
+/* An answer has made an enclave, whose number its hart finds in a1. Its pages are asked for while other harts run. */
 static int64_t written_measure(const struct measure_frame *asked)
 {
     next = PAGES;
     next_page = asked->first;
     pages_left = asked->count;
-    is_creation = 1;
-    private_asked(asked->first, asked->count);
+    floats_begin(worlds[this_hart()].x[11]);
+    private_begin(asked->first, asked->count);
     return sizeof *asked;
 }
 

@@ -210,7 +210,7 @@ tickets:
     .word   1, 0, 0, 0, 0, 0
     .globl  halted
 halted:
-    .word   1, 0, 0, 0
+    .word   1, 1, 1, 1
     .section .sbss, "aw", @nobits
     .balign 16
 monitor_sp:

@@ -41,27 +41,27 @@ static void leave_monitor(void)
         take_requests(); /* no interrupt is left from before it starts */
 }
 
-static struct world *decide(struct harts *states, struct action *action)
+/* The last decision on each hart. */
+static struct action decisions[MOST_HARTS];
+
+static void decide(unsigned hart, struct harts *states)
 {
-    unsigned hart = this_hart();
     struct world *world = &worlds[hart];
-    pmpmon_decide(world_number[hart], world->cause, world->x + 10, &callers[hart], &banks[hart], states, action);
-    return world;
+    pmpmon_decide(world_number[hart], world->cause, world->x + 10, &callers[hart], &banks[hart], states, &decisions[hart]);
 }
 
 /* Another hart may start or stop one meanwhile, so the states are a copy, and what changes them is decided anew with the lock. */
 int serve_alone(void)
 {
+    unsigned hart = this_hart();
     struct harts seen = harts;
-    struct action action;
-    struct world *world = decide(&seen, &action);
-    if (action.kind == GO_ON)
-        return !take_requests();
-    if (action.kind == ENCLAVE_TICK)
+    struct action *action = &decisions[hart];
+    decide(hart, &seen);
+    if (action->kind == ENCLAVE_TICK)
         host_timer_came();
-    if (action.kind >= START_HART)
+    if (action->kind >= START_HART)
         return 0;
-    act(world, &action);
+    act(&worlds[hart], action);
     return 1;
 }
 
@@ -73,27 +73,26 @@ static void check_stack(void)
         end_because("the stack is full on hart ", this_hart());
 }
 
-/* Runs the hart's world until a hart traps, and does what the monitor has not to know of: then it says 0. It is no part of the loop
-   below, so that it keeps few registers. */
+/* Runs the hart's world until a hart traps, and does what the monitor has not to know of: then it says 0. What it has is decided
+   already, whatever the states of harts are; a hart that was parked came without a decision, and its last one was to stop. It is no
+   part of the loop below, so that it keeps few registers. */
 static __attribute__((noinline)) uint64_t one_trap(void)
 {
-    struct action action;
-    struct world *world;
-    struct caller *caller;
+    unsigned hart;
+    struct action *action;
     leave_monitor();
-    world = decide(&harts, &action);
-    if (action.kind < MONITOR) {
-        act_with_lock(world, &action);
+    hart = this_hart();
+    action = &decisions[hart];
+    if (action->kind < MONITOR) {
+        decide(hart, &harts);
+        act_with_lock(&worlds[hart], action);
         return 0;
     }
-    if (action.kind == MONITOR_ALONE)
-        stop_harts();
-    if (action.kind < ENCLAVE_CALL)
+    if (action->kind == MONITOR)
         return TAG_CALL;
-    caller = &callers[this_hart()];
-    caller->stop_cause = world->cause;
-    caller->stop_value = world->value;
-    return action.kind == ENCLAVE_CALL ? TAG_CALL : TAG_STOP;
+    callers[hart].stop_cause = worlds[hart].cause;
+    callers[hart].stop_value = worlds[hart].value;
+    return action->kind == ENCLAVE_CALL ? TAG_CALL : TAG_STOP;
 }
 
 uint64_t next_trap(void)

@@ -1,12 +1,12 @@
 """Every order in which two harts can go through the monitor's lock, the stop of a hart, its fences, and its wait to be started.
 
-What firmware/trap.S and firmware/harts.c do with the lock, `halted`, `is_wanted`, what harts ask of one another and the CLINT's
-software interrupts is written here once more, a step for each access. A store waits in a buffer of its hart: one for memory, in
+What firmware/trap.S, harts.c and serve.c do with the lock, `halted`, `stopping`, `is_stale`, `is_wanted`, what harts ask of one another
+and the CLINT's software interrupts is written here once more, a step for each access. A store waits in a buffer of its hart: one for memory, in
 which stores to two words may be done in either order, and one for the CLINT, which is no memory. A fence waits for both,
 `fence rw, rw` and a release for that of memory alone, as an atomic access does. Loads are done in their order. All states that there
 are get looked at; where a hart's world calls is left open, and also whether it ever does. The search says:
 
-  runs     a world runs on a hart that was stopped
+  runs     a hart runs a world, or loads its entries, while they are changed, or runs one with those of before
   old      a world runs with translations for which a fence was asked, and the hart that asked went on
   lost     a hart waits for another that will never come, whatever the buffers do
   passed   the most often that a hart which waits for the lock sees another go in before it (2: 2 or more)
@@ -18,7 +18,7 @@ TOP = Path(__file__).resolve().parents[2]
 HARTS = 2
 MOST = 2
 ROOM = 2  # stores that wait in a buffer
-STOP, FENCE = 2, 1  # what is asked of a hart
+FENCE = 1  # what is asked of a hart
 TURN = 3  # tickets and fences are counted up to here, and then from 0
 # The lines that the steps are of: the model has them, so the sources have to.
 LINES = {
@@ -31,16 +31,24 @@ LINES = {
     ),
     "firmware/harts.c": (
         r"\"fence\" .*\n +if \(!LEAVE_RUNNING\)\n +software_interrupt\[hart\] = 1;\n",
-        r"fetch_or\(&requests\[hart\], what, __ATOMIC_SEQ_CST\);\n +interrupt\(hart\);\n",
         r"load_n\(&fences_asked\[self\], __ATOMIC_ACQUIRE\);\n +fence_here\(__atomic_fetch_and\(&requests\[self\], ~FENCES, __ATOMIC_SEQ_CST\)\);\n"
         r" +__atomic_store_n\(&fences_made\[self\], asked, __ATOMIC_RELEASE\);\n",
-        r"software_interrupt\[self\] = 0;\n.*\"fence\" .*\n +make_fences\(self\);\n +what = __atomic_fetch_and\(&requests\[self\], FENCES, __ATOMIC_SEQ_CST\);\n",
-        r"halted\[self\] = 0;\n.*\"fence rw, rw\" .*\n +if \(__atomic_load_n\(&requests\[self\], __ATOMIC_ACQUIRE\) \|\| fences_asked\[self\] != fences_made\[self\]\)\n +take_requests\(\);\n",
+        r"software_interrupt\[self\] = 0;\n.*\"fence\" .*\n +make_fences\(self\);\n +if \(__atomic_fetch_and\(&requests\[self\], FENCES, __ATOMIC_SEQ_CST\) ",
+        r"halted\[self\] = 0;\n.*\"fence rw, rw\" .*\n +if \(__atomic_load_n\(&requests\[self\], __ATOMIC_ACQUIRE\) \|\| fences_asked\[self\] != fences_made\[self\]\)\n +take_requests\(\);\n"
+        r" +if \(!is_to_stop\(self\)\)\n +return;\n +halted\[self\] = 1;\n +while \(is_to_stop\(self\)\)\n +;\n +}\n",
+        r"return __atomic_load_n\(&stopping, __ATOMIC_ACQUIRE\) >> hart & 1;\n",
+        r"go_out\(self\);\n +if \(!is_stale\[self\]\)\n +return;\n +is_stale\[self\] = 0;\n +load_bank\(&banks\[self\]\);\n",
         r"while \(!halted\[hart\] && .*&fences_made\[hart\], __ATOMIC_ACQUIRE\) - number\) < 0\) {\n +make_fences\(this_hart\(\)\);\n",
         r"fetch_or\(&requests\[hart\], kinds, __ATOMIC_SEQ_CST\);\n.*add_fetch\(&fences_asked\[hart\], 1, __ATOMIC_SEQ_CST\);\n +interrupt\(hart\);\n",
-        r"request\(hart, STOP\);\n.*\n +while \(!halted\[hart\]\)\n",
+        r"store_n\(&stopping, harts, __ATOMIC_RELEASE\);\n.*\"fence rw, rw\" .*\n.*\n +if \(is_other\(harts, hart\) && !halted\[hart\]\)\n +interrupt\(hart\);\n"
+        r".*\n +while \(is_other\(harts, hart\) && !halted\[hart\]\)\n(?: +.*\n){2} +__asm__ volatile\(\"fence rw, rw\" ",
         r"is_wanted\[hart\] = 1;\n.*\"fence\" .*\n +software_interrupt\[hart\] = 1;\n",
     ),
+    "firmware/serve.c": (
+        r" +copy_words\(bank->addr, .*\n +is_stale\[hart\] = 1;\n",
+        r"if \(!stop_harts\(harts\)\)\n.*\n.*\n +if \(harts & 1\)\n +keep_bank\(hart, answer\);\n +stop_harts\(0\);",
+    ),
+    "firmware/actions.c": (r"case GO_ON:\n +take_requests\(\);\n +load_changes\(\);\n",),
 }
 
 
@@ -60,15 +68,26 @@ def programs(lacks):
         lock = {"lock": ("", "swap", "in")}
     gives_up = (full or "memory", "release") if "tickets" in lacks else (full, "next")
     wakes = ("" if "fence before it wakes" in lacks else "all", "wake")
+    after_halted = "" if "fence after halted" in lacks else "memory"
+    # The way out: its two looks, each with the step after it.
+    first, second = ("requests", "stop?") if "requests before the look" not in lacks else ("stop?", "requests")
+    after = {first: second, second: "load"}
     return {
         # (a world, until its interrupt comes or it calls)
         "world": ("", "world"),
-        # alone: take_requests, with which a hart also leaves the monitor
+        # take_requests: alone before the way out, and on it
         "clear": ("memory", "store", "clint", 0, "count"),
         "count": (full, "count", "fences"),
         "fences": ("memory", "fences", "made"),
-        "made": ("memory", "made", "stop?"),
-        "stop?": ("memory", "stop?"),
+        "made": ("memory", "made", "out", after["requests"]),
+        # the way out, alone or with the lock
+        "out": ("", "store", "halted", 0, first),
+        "requests": (after_halted if first == "requests" else "", "requests", after["requests"]),
+        "stop?": (after_halted if first == "stop?" else "", "stop?", "halt", after["stop?"]),
+        "halt": ("", "store", "halted", 1, "stands"),
+        "stands": ("", "stands", "goes" if "look after it stood" in lacks else "out"),
+        "goes": ("", "store", "halted", 0, "load"),
+        "load": ("", "load"),
         # alone: fences are asked for, and waited for
         "fence": ("memory", "ask", FENCE, "fence2"),
         "fence2": ("memory", "count up", "fence3"),
@@ -78,13 +97,15 @@ def programs(lacks):
         "trap": ("memory", "store", "halted", 1, "lock"),
         **lock,
         "in": ("", "what"),
-        "stop": ("memory", "ask", STOP, "stop2"),
-        "stop2": ("all", "raise", "wait"),
-        "wait": ("", "wait", "leave"),
+        "stop": ("memory", "tell", "stopping", 1, "look"),
+        "look": ("" if "fence after stopping" in lacks else "memory", "halted?", "change", "raise"),
+        "raise": ("all", "raise", "wait"),
+        "wait": ("", "wait", "change"),
+        "change": ("memory", "tell", "stale", 1, "let go"),
+        "let go": ("" if "fence before it lets go" in lacks else "memory", "tell", "stopping", 0, "leave"),
         "unpark": ("", "want", "unpark2"),
         "unpark2": ("all", "raise", "leave"),
-        "leave": ("", "store", "halted", 0, "requests"),
-        "requests": ("" if "fence after halted" in lacks else "memory", "requests"),
+        "leave": ("", "leave", "out"),
         "unlock": (*gives_up, "unlock2"),
         "unlock2": (*wakes, "world"),
         # parked: halted, and without the lock
@@ -99,10 +120,11 @@ def programs(lacks):
 
 # A state: for each hart its step, what it called for, its number (of its ticket, or of fences) and who went in before it; its buffers of
 # memory and of the CLINT; memory: the next ticket and the one that is called (or the lock), and for each hart halted, wanted, the
-# CLINT's word, what is asked of it, and how many fences were asked for and made; and whether a fence is to come, and was promised.
-START = ((("world", "", 0, 0),) * HARTS, ((),) * HARTS, ((),) * HARTS, (0, 0)) + ((0,) * HARTS,) * 9
-PLACES = {"lock": 3, "halted": 4, "wanted": 5, "clint": 6, "requests": 7, "asked": 8, "fenced": 9, "sleeps": 10}
-LACKS, OWES = 11, 12
+# CLINT's word, what is asked of it, how many fences were asked for and made, whether it sleeps, is to stop, and has other entries; and
+# whether a fence is to come, and was promised, and whether it has loaded the entries of before.
+START = ((("world", "", 0, 0),) * HARTS, ((),) * HARTS, ((),) * HARTS, (0, 0)) + ((0,) * HARTS,) * 12
+PLACES = {"lock": 3, "halted": 4, "wanted": 5, "clint": 6, "requests": 7, "asked": 8, "fenced": 9, "sleeps": 10, "stopping": 11, "stale": 12}
+LACKS, OWES, OLD = 13, 14, 15
 COMES = ("spin", "sleep", "sleep2", "sleep3", "sleep4")
 # The steps in which a hart has a number: of a ticket, of its own fences, of another's.
 NUMBERED = dict.fromkeys((("lock", False), ("lock", True)), COMES) | {("fenced", True): ("fences", "made"), ("fenced", False): ("fence3", "fenced")}
@@ -161,13 +183,17 @@ def went_in(state, hart):
     return put(state, 0, other, (step, call, number, min(passed + 1, MOST))) if step in COMES or (step == "lock" and number < 0) else state
 
 
+CHANGES = ("change", "let go")
 PARKED = ("park", "park1", "park2", "park3", "wfi")
 
 
-def calls(state, hart, has_park):
+def calls(state, hart, has):
     """What a world calls the monitor for: a stopped hart is started, and the last one that is not stopped does not stop."""
     step = state[0][1 - hart][0]
-    yield from ("leave", "stop")
+    yield "leave"
+    if "stop" in has:
+        yield "stop"
+    has_park = "park" in has
     if has_park and step in PARKED[2:] and not state[5][1 - hart] and not state[1][hart]:
         yield "unpark"
     elif has_park and step not in PARKED:
@@ -193,14 +219,19 @@ def steps(state, hart, program, has, lacks):
         return
     if kind == "world":
         if state[6][hart]:
-            yield False, to("clear")
+            yield False, to("clear", call="alone")
         yield True, to("trap")
         if "fences" in has and (state[8][other] - state[9][other]) % TURN < (1 if "one" in has else 2):
             yield True, to("fence")
     elif kind == "store":
         yield False, to(words[2], stored(state, hart, words[0], hart, words[1]))
     elif kind == "ask":
-        yield False, to(words[1], put(state if words[0] == STOP else put(state, LACKS, other, 1), 7, other, state[7][other] | words[0]))
+        yield False, to(words[1], put(put(state, LACKS, other, 1), 7, other, state[7][other] | words[0]))
+    elif kind == "tell":
+        # (the entries change where they are told to be others)
+        yield False, to(words[2], stored(put(state, OLD, other, 1) if words[0] == "stale" else state, hart, words[0], other, words[1]))
+    elif kind == "leave":
+        yield False, to(words[0], call="leave")
     elif kind == "count up":
         yield False, to(words[0], put(state, 8, other, (state[8][other] + 1) % TURN), number=(state[8][other] + 1) % TURN)
     elif kind == "fenced":
@@ -216,13 +247,18 @@ def steps(state, hart, program, has, lacks):
         done = state if not state[7][hart] & FENCE else put(fenced(state, hart, 0), 7, hart, state[7][hart] & ~FENCE)
         yield False, to(words[0], done)
     elif kind == "made":
-        yield False, to(words[0], stored(state, hart, "fenced", hart, number), number=0)
+        yield False, to(words[0] if call == "alone" else words[1], stored(state, hart, "fenced", hart, number), call="" if call == "alone" else call, number=0)
     elif kind == "stop?":
-        next_step = "unlock" if call == "leave" else "trap" if state[7][hart] & STOP else "world"
-        yield False, to(next_step, put(state, 7, hart, state[7][hart] & FENCE), call="")
+        yield False, to(words[0] if seen(state, hart, "stopping", hart) else words[1])
+    elif kind == "stands" and not seen(state, hart, "stopping", hart):
+        yield False, to(words[0])
+    elif kind == "load":
+        is_stale = seen(state, hart, "stale", hart)
+        done = stored(put(state, OLD, hart, 0), hart, "stale", hart, 0) if is_stale else state
+        yield False, to("unlock" if call == "leave" else "world", done, call="")
     elif kind == "requests":
         is_asked = state[7][hart] or "look at the count" not in lacks and state[8][hart] != seen(state, hart, "fenced", hart)
-        yield False, to("clear", call="leave") if is_asked else to("unlock", call="")
+        yield False, to("clear" if is_asked else words[0])
     elif kind == "ticket":
         yield False, to(words[0], put(state, 3, 0, (state[3][0] + 1) % TURN), number=state[3][0])
     elif kind == "called":
@@ -243,12 +279,14 @@ def steps(state, hart, program, has, lacks):
     elif kind == "next":
         yield False, to(words[0], stored(state, hart, "lock", 1, (seen(state, hart, "lock", 1) + 1) % TURN))
     elif kind == "what":
-        for it in calls(state, hart, "park" in has):
+        for it in calls(state, hart, has):
             yield False, to(it)
     elif kind == "raise":
         yield False, to(words[0], stored(state, hart, "clint", other, 1))
     elif kind == "want":
         yield False, to(words[0], stored(state, hart, "wanted", other, 1))
+    elif kind == "halted?":
+        yield False, to(words[0] if seen(state, hart, "halted", other) else words[1])
     elif kind == "wait":
         if seen(state, hart, "halted", other):
             yield False, to(words[0])
@@ -260,10 +298,10 @@ def steps(state, hart, program, has, lacks):
 
 def is_waiting(state):
     """Whether a hart waits for another, or is to be started."""
-    return any(it[0] in ("wait", "fenced", "lock", *COMES) or (it[0] == "wfi" and (state[5][h] or ("wanted", h, 1) in state[1][1 - h])) for h, it in enumerate(state[0]))
+    return any(it[0] in ("wait", "stands", "fenced", "lock", *COMES) or (it[0] == "wfi" and (state[5][h] or ("wanted", h, 1) in state[1][1 - h])) for h, it in enumerate(state[0]))
 
 
-def searched(*lacks, has=("park", "fences", "sleep")):
+def searched(*lacks, has=("stop", "park", "fences", "sleep")):
     """What the search finds: `runs`, `old` and `lost` with numbers of states, the most that a hart is passed, and all states.
 
     `has` says what there is beside the lock and the stop; with `one` a hart is asked for one fence at a time, and else for two.
@@ -274,7 +312,7 @@ def searched(*lacks, has=("park", "fences", "sleep")):
     while waits:
         state = waits.pop()
         worlds = [h for h in range(HARTS) if state[0][h][0] == "world"]
-        runs += any(state[0][1 - h][0] == "wait" and seen(state, 1 - h, "halted", h) for h in worlds)
+        runs += any(state[OLD][h] for h in worlds) or any(state[0][h][0] in CHANGES and state[0][1 - h][0] in ("world", "load") for h in range(HARTS))
         old += any(state[OWES][h] for h in worlds)
         most = max([most] + [it[3] for it in state[0]])
         nexts = [(False, it) for it in drained(state)] + [it for hart in range(HARTS) for it in steps(state, hart, program, has, lacks)]
@@ -300,21 +338,26 @@ def interleavings():
         text = re.sub(r" *#.*", "", (TOP / name).read_text()) if name.endswith(".S") else (TOP / name).read_text()
         lacking = [it for it in patterns if not re.search(it, text)]
         yield f"{name} has the steps of the model of its lock", not lacking, " ".join(lacking)[:300]
-    for has in (("park", "fences"), ("park", "sleep"), ("fences", "sleep")):
+    for has in (("stop", "park", "fences"), ("stop", "park", "sleep"), ("stop", "fences", "sleep")):
         *found, count = searched(has=has)
-        what = "none runs while it is stopped or without its fence, none waits for ever, one goes in before another at most once"
-        yield f"two harts with {' and '.join(has)}, {count} states: {what}", found == [0, 0, 0, 1], "" if found == [0, 0, 0, 1] else str(found)
-    for lack, has, what, index in (
-        ("fence after the CLINT", (), "an interrupt is lost", 2),
-        ("fence before it wakes", ("sleep",), "a hart that sleeps is not woken", 2),
-        ("fence after halted", ("fences", "one"), "a world goes on without its fence", 1),
-        ("fences while it waits", ("fences", "one"), "two harts wait for one another", 2),
-        ("look at the count", ("fences", "sleep", "one"), "a request whose interrupt the sleep has taken is lost", 2),
-        ("tickets", (), "a hart is passed twice and more", 3),
+        what = "none runs with other entries or without its fence, none waits for ever, one goes in before another at most once"
+        yield f"two harts with {', '.join(has[:-1])} and {has[-1]}, {count} states: {what}", found == [0, 0, 0, 1], "" if found == [0, 0, 0, 1] else str(found)
+    for lack, has, what, wrong in (
+        ("fence after the CLINT", ("stop",), "an interrupt is lost", [2]),
+        ("fence before it wakes", ("sleep",), "a hart that sleeps is not woken", [2]),
+        ("fence after stopping", ("stop",), "a world runs while its entries change", [0]),
+        ("fence before it lets go", ("stop",), "a world runs with its old entries", [0]),
+        ("look after it stood", ("stop",), "a world runs while it is stopped once more", [0]),
+        ("requests before the look", ("stop", "fences", "one"), "an interrupt that says stop is lost", [2]),
+        ("fence after halted", ("stop",), "a world runs while its entries change", [0]),
+        ("fence after halted", ("fences", "one"), "a world goes on without its fence", [1]),
+        ("fences while it waits", ("fences", "one"), "two harts wait for one another", [2]),
+        ("look at the count", ("fences", "sleep", "one"), "a request whose interrupt the sleep has taken is lost", [2]),
+        ("tickets", (), "a hart is passed twice and more", [3]),
     ):
         *found, count = searched(lack, has=has)
-        wrong = [i for i, it in enumerate(found) if it > (i == 3)]
-        yield f"without {lack} {what} ({found[index]} of {count} states)", wrong == [index], "" if wrong == [index] else str(found)
+        lacking = [i for i, it in enumerate(found) if it > (i == 3)]
+        yield f"without {lack} {what} ({found[wrong[0]]} of {count} states)", lacking == wrong, "" if lacking == wrong else str(found)
 
 
 def all_interleavings():

@@ -176,7 +176,7 @@ def most_taken(on_hart, folder, told):
         _, notes, _ = on_hart.report_of(platform, trace, has_notes=True)
         for it in notes.splitlines():
             most[it.split()[1]] = max(most.get(it.split()[1], 0), int(it.split()[2]))
-    numbers = f"stack {most['stack']}, heap {most['heap']} bytes; instructions {most['other']} of a switch, {most['owning']} of a creation"
+    numbers = f"stack {most['stack']}, heap {most['heap']} bytes; instructions {most['other']} of a switch, {most['owning']} until a creation is answered"
     told(f"the monitor's most: {numbers}", most["stack"] < 32768 and most["heap"] < 65536 and most["other"] < 1800)
     # (a hart of QEMU has sixteen entries, and loads the first sixteen of what a boot on 64 answers)
     trace.write_text("")
@@ -229,6 +229,7 @@ def worlds(folder, told):
     storm(folder, told)
     ends(folder, told)
     races(folder, told)
+    aside(folder, told)
     resets((FIRMWARE / "out/pmpmon-virt.elf", folder / "with/pmpmon-virt.elf"), payloads, told)
     hostile(folder, told)
 
@@ -399,6 +400,28 @@ def races(folder, told):
     taken = {name: int(n) for name, n in re.findall(r"(\w+) (\d+)\n", said)}
     right = taken.pop("error", 1) == 0 and taken.keys() == most.keys() and all(taken[it] < most[it] for it in most)
     told("instructions of a creation of 16 pages, its destruction, calls for SBI's base and a digest, and a resume and stop", right, said.replace("\n", " "))
+
+
+# The calls of a host by what they are answered, of which those that are done stop another hart; and the turn of a hart in instructions,
+# 100 ms of QEMU's time, where it counts them for all harts.
+ASIDE = {"no call": 0, "create": 0, "create once more": -106, "create without text": -102, "create off a page": -103, "create of a device": -105}
+ASIDE |= {"measure a word that there is not": -112, "destroy none": -110, "destroy": 0, "create without entries": -108}
+TURN = 97656
+
+
+def aside(folder, told):
+    """What another hart notices of the calls of a host, of which one makes an enclave of 1,024 pages."""
+    payload = host(folder / "aside.elf", "harts.S", "aside_enclave.S", "aside.c")
+    said = booted(folder / "four/pmpmon-virt.elf", payload, 4, *kind(1024), "-icount", "shift=10")
+    rows = re.findall(r"(.+): (-?\d+), (not )?stopped, still (\d+)\n", said)
+    stopped = {name for name, _, left_alone, _ in rows if not left_alone}
+    right = {name: int(error) for name, error, _, _ in rows} == ASIDE and stopped == {"create", "destroy"}
+    told("a creation and a destruction that are done stop another hart, and no other call does", right, "" if right else said)
+    # (its own turn, in which it is stopped, and two of the hart that stops it)
+    most = max((int(still) - TURN * (1 if left_alone else 3) for _, _, left_alone, still in rows), default=-1)
+    right = len(rows) == len(ASIDE) and most < 50000
+    told(f"beside turns of QEMU another hart stands still for at most {most} instructions", right, "" if right else said)
+    told("a hart in an enclave is not stopped", said.endswith("in an enclave: stopped 0\n"), "" if rows else said)
 
 
 def hostile(folder, told):

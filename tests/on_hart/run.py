@@ -19,7 +19,7 @@ the stop of the others and without it; two harts with other control registers ea
 other harts and memory; each function and error of the Supervisor Binary Interface; a host and enclaves that compute in floating
 point, and builds that leave out a part of it; the time in an enclave; a hostile host, one thing that is left behind, and then everything in fifty runs or HOSTILE_RUNS, and builds that
 leave out a cure; what is left of an enclave after each end of the board; devices, counters and the tree that a host gets; boards that
-do not fit; pages that other harts read or write while they become an enclave's, as a guest and through Sv39 too; four harts in a storm
+do not fit; pages that other harts read or write while they become an enclave's, as a guest and through Sv39 too; what another hart notices of each call; four harts in a storm
 (STORM_SECONDS, or 2); every order of two harts at the monitor's lock; and each allocation refused in turn. Device trees get the monitor's range on Linux, under a sanitizer (trees.py;
 it wants dtc).
 

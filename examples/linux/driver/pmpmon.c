@@ -211,7 +211,7 @@ static struct costs costs_of(size_t unit, size_t at, size_t pages)
 
 /*
  * An enclave goes, if it can. The monitor decides. Where it has refused a view that needs as many entries, and no enclave went since,
- * it is not asked: a question stops the other harts.
+ * it is not asked again.
  */
 static long end_enclave(struct block *b)
 {
