@@ -89,8 +89,8 @@ static inline unsigned this_hart(void)
     __asm__ volatile("csrr %0, mhartid" : "=r"(hart)::"memory");
     return (unsigned)hart;
 }
-/* From here on other harts of a set, hart h in bit h, run no world and look at nothing that this one writes of them, which has the
-   monitor's lock; those of no later set go on. Whether they stopped in ten seconds. */
+/* The harts of a set, hart h in bit h, run no world from here on, and read nothing that others write of them; those of an earlier set
+   that are not in this one go on. The hart that calls has the monitor's lock, and is in no set. Whether they stopped in ten seconds. */
 int stop_harts(uint64_t harts);
 /* A started hart of the host will find its software interrupt. */
 void interrupt_supervisor(unsigned hart);

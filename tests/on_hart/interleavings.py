@@ -1,8 +1,8 @@
 """Every order in which two harts can go through the monitor's lock, the stop of a hart, its fences, and its wait to be started.
 
 What firmware/trap.S, harts.c and serve.c do with the lock, `halted`, `stopping`, `is_stale`, `is_wanted`, what harts ask of one another
-and the CLINT's software interrupts is written here once more, a step for each access. A store waits in a buffer of its hart: one for memory, in
-which stores to two words may be done in either order, and one for the CLINT, which is no memory. A fence waits for both,
+and the CLINT's software interrupts is written here once more, a step for each access. A store waits in a buffer of its hart: one for
+memory, in which stores to two words may be done in either order, and one for the CLINT, which is no memory. A fence waits for both,
 `fence rw, rw` and a release for that of memory alone, as an atomic access does. Loads are done in their order. All states that there
 are get looked at; where a hart's world calls is left open, and also whether it ever does. The search says:
 
