@@ -69,15 +69,15 @@ is_bare byte = is_ascii_alphanumeric byte || (byte == 95 || byte == 45)
 abbrev pub front_len : List ℕ → ℕ
 front_len line = prefix_len (λ byte. is_blank byte || byte == 91) line
 
--- a bracket is among them: the line is the header of a table
+-- a bracket is among these: the line is the header of a table
 abbrev pub is_header : List ℕ → Bool
 is_header line = list_any (λ byte. byte == 91) (take (front_len line) line)
 
--- the name that follows them
+-- the name that follows these
 abbrev pub name_of : List ℕ → List ℕ
 name_of line = let rest = drop (front_len line) line in take (prefix_len is_bare rest) rest
 
--- before the first line
+-- the tables before the first line of a text
 abbrev pub opening_tables : Tables
 opening_tables = record { current = Some File; ram = 0; devices = 0 }
 
@@ -96,22 +96,25 @@ Begins name old new =
     ⊎ ((name ≢ codes "monitor") × (name ≢ codes "ram") × (name ≢ codes "device")
     × (new ≡ record old { current = None }))))
 
--- the tables of a text from a line on, by whether it is a header
+-- the tables of a text from a line on, where that is a header, and where it is none
 abbrev pub FollowsBy : Bool → List ℕ → Tables → Tables → Type 0
 FollowsBy true line old new = Begins (name_of line) old new
 FollowsBy false line old new = new ≡ old
 
+-- the tables of a text from a line on
 abbrev pub Follows : List ℕ → Tables → Tables → Type 0
 Follows line old new = FollowsBy (is_header line) line old new
 
--- a line is what is searched for: it has that name, and is the header of that table, or a key of
--- it. A table may be a key of the file, and a key of the file may be a table
+-- what is searched for may be in a line with its name, by whether that is a header: it is the
+-- header of that table, or a key of it. A table may be a key of the file, and a key of the file a
+-- table
 abbrev pub IsThere : Sought → Tables → Bool → Type 0
 IsThere (Header table) tables true = tables.current ≡ Some table
 IsThere (Header table) tables false = tables.current ≡ Some File
 IsThere (KeyOf table) tables true = table ≡ File
 IsThere (KeyOf table) tables false = tables.current ≡ Some table
 
+-- a line is what is searched for
 abbrev pub IsSought : Sought → List ℕ → Tables → List ℕ → Type 0
 IsSought sought word tables line = (name_of line ≡ word) × IsThere sought tables (is_header line)
 
