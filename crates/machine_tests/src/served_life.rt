@@ -113,11 +113,12 @@ fn after_answer<'a>(rt: &impl Abort, alloc: Global, written: &'a [u8], head: [u6
     &rest[ANSWER - 72..]
 }
 
-/// The answers in turn. The pages of the creation are asked for once, and those of the destruction named once.
+/// The answers in turn. The pages of the creation are asked for once, after its answer, and those of the destruction named
+/// once.
 fn answers_a_life(rt: &impl Abort, alloc: Global, written: &[u8]) {
     let rest = after_answer(rt, alloc, written, [0, 0, 0, 0, 3, 0, 0, 2]);
-    let rest = after(rt, alloc, rest, &[MEASURE_TAG, PAGE, 1]);
     let rest = after_answer(rt, alloc, rest, [0, 0, 0, 1, 4, 0, 0, 2]);
+    let rest = after(rt, alloc, rest, &[MEASURE_TAG, PAGE, 1]);
     let rest = after_answer(rt, alloc, rest, [0, 1, 0, 0, 1, 0, 0, 0]);
     let rest = after_answer(rt, alloc, rest, [0, 0, 0, 0, 4, 0, 0, 0]);
     let rest = after_answer(rt, alloc, rest, [1, 1, 0, 0, 1, 0, 0, 0]);
