@@ -3,6 +3,8 @@
 ghost use Rattle.std.specs.Prelude.{◌≡◌, ◌↔◌, ◌++◌, IsTrue, List, ℕ, pos};
 ghost use Rattle.host_tree.specs.HostTrees.{IsHosts};
 ghost use Rattle.host_tree.specs.Platforms.{IsFound, portion_in, reserved_in};
+ghost use Rattle.host_tree.specs.Refusals.{IsBoardOfFault, IsHostTreeFault, IsPlaceFault};
+ghost use Rattle.host_tree.specs.declared.fault.HostTreeFault.{HostTreeFault};
 ghost use Rattle.pmpmon_monitor.specs.Codes.{IsCode, IsMemory, range};
 
 use board_ranges::{BoardReason, Extent, RowFault};
@@ -57,6 +59,9 @@ pub extern "C" fn pmpmon_find_platform(
 ) -> i64
     ensures found { result ≡ pos 0 → IsFound tree.now platform.old platform.new }
     ensures refused { IsCode result → platform.new ≡ platform.old }
+    // Why the tree is not read.
+    ensures unread { result ≡ pos 1 → (fault : HostTreeFault) × (IsMemory fault → ⊥)
+        × IsBoardOfFault tree.now fault }
 {
     match find_platform(alloc, tree, platform) {
         Ok(()) => DONE,
@@ -79,6 +84,11 @@ pub extern "C" fn pmpmon_put_host_tree(
         × IsHosts (portion_in platform.now)
         (reserved_in platform.now (range pool_base pool_size)) tree.old out }
     ensures refused { IsCode result → tree.new ≡ tree.old }
+    // Why the tree is not read, and the host's tree that has no room.
+    ensures unread { result ≡ pos 1 → (fault : HostTreeFault) × (IsMemory fault → ⊥)
+        × IsHostTreeFault (reserved_in platform.now (range pool_base pool_size)) tree.old fault }
+    ensures room { result ≡ pos 2 → IsPlaceFault platform.now (range pool_base pool_size)
+        tree.old PlaceFault.NoRoom }
 {
     let pool = Extent {
         base: pool_base,
