@@ -27,7 +27,11 @@ impl MonitorParts {
         requires { hart < 4 }
         ensures { result ≡ world_in self.now.worlds hart }
     {
-        self.worlds[hart as usize]
+        // (a copy of the whole goes byte by byte on RV64)
+        match self.worlds[hart as usize] {
+            World::Host => World::Host,
+            World::Enclave(id) => World::Enclave(id),
+        }
     }
 
     /// Whether a hart is marked.

@@ -1,6 +1,7 @@
 -- A trap that was answered, and what comes after the answer.
-use Rattle.std.proofs.Common.{◌≡◌, ◌∙◌, ◌≤◌, inl, inr, ℕ, List, [], ◌++◌, take, Bool, Option, Result, Ok, Err, ap, sym, subst, refl, append-nil}
+use Rattle.std.proofs.Common.{◌≡◌, ◌∙◌, ◌≤◌, inl, inr, ℕ, List, [], ◌++◌, take, Bool, Option, Result, Ok, Err, ap, sym, subst, refl, append-nil, None, Some, false, is_some}
 use Rattle.std.specs.Io.KnownBytes.{Appends}
+use Rattle.std.proofs.lemmas.Bool.{true≢false}
 use Rattle.std.proofs.KnownBytes.{Appends-trans, Consumes-nil}
 use Rattle.pmp_encoding.specs.declared.pages.PageRange.{PageRange}
 use Rattle.measurement.specs.Digests.{layout_of}
@@ -137,6 +138,11 @@ pub call_unanswered :
     → Writes (Err fault) Are held holds → Serves (Err fault) trap old hosts now kept before before held holds
 call_unanswered fault Are trap answer old now hosts kept before held holds answers wrote =
     unanswered fault Are trap answer old now hosts kept before held holds (λ bytes are. as_trap old now hosts kept trap answer bytes (answers bytes are)) wrote
+
+-- who asks for no creation has made none
+pub none_asked : (asked : Option Create) (answer : Answer) → is_some asked ≡ false → (parts : Create) → IsMade asked answer parts → ⊥
+none_asked None answer is parts made = made
+none_asked (Some asked) answer is parts made = true≢false is
 
 -- it made no enclave
 pub nothing_made :

@@ -1,6 +1,6 @@
 //! How a trap is served, and its answer written.
 
-ghost use Rattle.std.specs.Prelude.{◌≡◌, ◌<◌, ℕ, List, Option, IfNone, IfSome};
+ghost use Rattle.std.specs.Prelude.{◌≡◌, ◌<◌, ℕ, List, Option, IfNone, IfSome, is_some};
 ghost use Rattle.sbi_decode.specs.Calls.{call_of};
 ghost use Rattle.measurement.specs.declared.request.Create.{Create as CreateParts};
 ghost use Rattle.enclave_table.specs.Enclaves.{Live};
@@ -19,6 +19,7 @@ use crate::{AnswerBytes, Head, HostWords, Trap, TrapEvent, digest_of, put_answer
 use byte_streams::{Sink, Source, write_whole};
 use monitor_core::{Answer, Create, Monitor, TakenDigest};
 use pmp_encoding::PageRange;
+use sbi_decode::{Call, Registers, decode};
 
 /// What serves as the answer where there was no call.
 pub(crate) const NOTHING: Answer = Answer {
@@ -132,6 +133,14 @@ fn keep_words(monitor: &Monitor, hosts: &mut HostWords, trap: &Trap)
     hosts.save(trap.hart, monitor.world(trap.hart), &trap.control);
 }
 
+/// Whether a call asks for a creation. No other has its parts put together to be looked at.
+#[inline(always)]
+fn is_creation(registers: &Registers) -> bool
+    ensures { result ≡ is_some (asked_in (call_of registers.now)) }
+{
+    matches!(decode(registers), Ok(Call::Create { .. }))
+}
+
 /// The parts of an enclave that a call made, if it made one. It is not inlined: so a trap is in memory, and its registers are
 /// copied from there at once.
 #[inline(never)]
@@ -212,6 +221,9 @@ fn serve_call<R: Source, W: Sink>(
     ) {
         Ok(()) => {}
         Err(fault) => return Err(fault),
+    }
+    if !is_creation(&trap.registers) {
+        return Ok(());
     }
     let Some(parts) = made_by(&served.answer, trap) else {
         return Ok(());

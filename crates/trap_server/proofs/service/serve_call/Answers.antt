@@ -6,7 +6,7 @@ use Rattle.monitor_core.specs.States.{MonitorState}
 use Rattle.monitor_core.proofs.Running.{call_there}
 use Rattle.trap_server.specs.Answered.{IsAnswer, given_on}
 use Rattle.trap_server.specs.Given.{host_words}
-use Rattle.trap_server.proofs.Answering.{call_answered, call_unanswered, made_measured, made_to_measure, nothing_made}
+use Rattle.trap_server.proofs.Answering.{call_answered, call_unanswered, made_measured, made_to_measure, none_asked, nothing_made}
 use Rattle.trap_server.proofs.Served.{may_wake, writes_then}
 use Rattle.trap_server.proofs.Waking.{marks_in_host}
 use Rattle.trap_server.proofs.service.serve_call.Goals as goal
@@ -49,6 +49,17 @@ returns-in-Err-clause-served g c =
     said.answer said.zero c.wake_all-woken.result c.harts-most.result bytes c.requires.call c.put_registers.ensures.state c.serve-served.ensures.step
     c.serve-served.ensures.platform c.cite_invariant.ensures.table c.harts-most.ensures.value c.harts-most.ensures.most c.wake_all-woken.ensures.state
     c.wake_all-woken.ensures.marks c.keep_words.ensures is) c.in-Err.ensures.bytes
+
+pub returns-then-not-is_creation-clause-served : goal.returns-then-not-is_creation-clause-served
+returns-then-not-is_creation-clause-served g c =
+    let wrote = c.in-Ok.ensures.bytes in
+    nothing_made (state_by c.args.monitor.now) (state_by c.wake_all-woken.new.monitor) (host_words c.args.hosts.now) (host_words c.keep_words.new.hosts)
+    c.args.trap.now c.serve-served.result.answer wrote.0 _ _ _
+    (call_answered (state_by c.args.monitor.now) (state_by c.put_registers.new.self) (state_by c.serve-served.new.self) (state_by c.wake_all-woken.new.monitor)
+    (host_words c.args.hosts.now) (host_words c.keep_words.new.hosts) c.args.trap.now _ c.serve-served.result.answer c.serve-served.result.zero
+    c.wake_all-woken.result c.harts-most.result wrote.0 c.requires.call c.put_registers.ensures.state c.serve-served.ensures.step
+    c.serve-served.ensures.platform c.cite_invariant.ensures.table c.harts-most.ensures.value c.harts-most.ensures.most c.wake_all-woken.ensures.state
+    c.wake_all-woken.ensures.marks c.keep_words.ensures wrote.1) (none_asked _ _ (sym c.is_creation.ensures ∙ c.if-not-is_creation.true)) wrote.2
 
 pub returns-in_default-clause-served : goal.returns-in_default-clause-served
 returns-in_default-clause-served g c =
