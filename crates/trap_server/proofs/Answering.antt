@@ -1,5 +1,6 @@
 -- A trap that was answered, and what comes after the answer.
-use Rattle.std.proofs.Common.{◌≡◌, ◌∙◌, ◌≤◌, inl, inr, ℕ, List, [], ◌++◌, take, Bool, Option, Result, Ok, Err, ap, sym, subst, refl, append-nil, None, Some, false, is_some}
+use Rattle.std.proofs.Common.{◌≡◌, ◌∙◌, ◌≤◌, inl, inr, ℕ, List, [], ◌++◌, take, Bool, Option, Result, Ok, Err, ap, sym, subst, refl, append-nil}
+use Rattle.std.proofs.Common.{None, Some, false, is_some}
 use Rattle.std.specs.Io.KnownBytes.{Appends}
 use Rattle.std.proofs.lemmas.Bool.{true≢false}
 use Rattle.std.proofs.KnownBytes.{Appends-trans, Consumes-nil}
