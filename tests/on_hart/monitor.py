@@ -177,7 +177,7 @@ def most_taken(on_hart, folder, told):
         for it in notes.splitlines():
             most[it.split()[1]] = max(most.get(it.split()[1], 0), int(it.split()[2]))
     numbers = f"stack {most['stack']}, heap {most['heap']} bytes; instructions {most['other']} of a switch, {most['owning']} until a creation is answered"
-    told(f"the monitor's most: {numbers}", most["stack"] < 32768 and most["heap"] < 65536 and most["other"] < 1800)
+    told(f"the monitor's most: {numbers}", most["stack"] < 32768 and most["heap"] < 65536 and most["other"] < 1650)
     # (a hart of QEMU has sixteen entries, and loads the first sixteen of what a boot on 64 answers)
     trace.write_text("")
     on_hart.platform_of = lambda path: ({"harts": 4}, 128)
@@ -396,7 +396,7 @@ def races(folder, told):
     right = len(counts) == 4 and "odd" not in said and min(counts.values()) > counts[255] // 4
     told("an enclave that calls for ever takes no other hart's time", right, " ".join(f"{it}: {n}" for it, n in counts.items()) if right else said)
     said = booted(FIRMWARE / "out/pmpmon-virt.elf", host(folder / "pause.elf", "harts.S", "two_hosts.S", "pause.c"), 1, *kind(16), "-icount", "shift=0")
-    most = {"create": 16 * 280000, "destroy": 80000, "base": 300, "measure": 2200, "resume": 4500}
+    most = {"create": 16 * 280000, "destroy": 80000, "base": 300, "measure": 2000, "resume": 4000}
     taken = {name: int(n) for name, n in re.findall(r"(\w+) (\d+)\n", said)}
     right = taken.pop("error", 1) == 0 and taken.keys() == most.keys() and all(taken[it] < most[it] for it in most)
     told("instructions of a creation of 16 pages, its destruction, calls for SBI's base and a digest, and a resume and stop", right, said.replace("\n", " "))
