@@ -18,5 +18,6 @@ pub mod OneNode
 pub mod OneList
 pub mod OneFault
 pub mod Windows
+pub mod WholeInputs
 pub mod Grown
 pub mod Listing

@@ -27,6 +27,8 @@ mod walk;
 mod whole;
 mod write_fault;
 mod writer;
+#[cfg(test)]
+mod writer_tests;
 
 pub use board::{Board, board_of};
 pub use fault::{HostTreeFault, MakeFault};

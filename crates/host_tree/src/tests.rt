@@ -102,6 +102,7 @@ fn expect_host(rt: &impl Abort, alloc: Global) {
 fn expect_board(rt: &impl Abort, alloc: Global) {
     let found = board_of(alloc, BOARD.as_slice()).expect(rt, "a board");
     assert!(rt; found.harts.len() == 2);
+    assert!(rt; found.harts[1].base == 1);
     assert!(rt; found.memory.len() == 1);
 }
 

@@ -128,7 +128,7 @@ impl<P: Pages> Digests for MeasuresPages<'_, P> {
     }
 }
 
-/// A digest that was taken before it is asked for.
+/// A digest that was taken before it is asked for; or zeros, which stand in where the enclave is given its own after it was made.
 #[derive(Drop)]
 pub struct TakenDigest {
     /// Its bytes.

@@ -7,8 +7,8 @@
 //! - A [`Measure`] that is begun with a layout and given pages one by one ends in the digest of exactly that layout and
 //!   those pages.
 //! - [`Digests`] is who knows the digest when an enclave is created: [`MeasuresPages`] measures the pages that [`Pages`]
-//!   copies, and a [`TakenDigest`] was taken before. Where all pages are zero, the digest may be the last one of such
-//!   pages, which a [`BlankDigest`] keeps.
+//!   copies, and a [`TakenDigest`] was taken before or stands in. Where all pages are zero, the digest may be the last one
+//!   of such pages, which a [`BlankDigest`] keeps.
 //!
 //! ```
 //! let mut measure = Measure::begin(&layout);

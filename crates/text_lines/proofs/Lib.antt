@@ -4,6 +4,7 @@ pub mod LinesRead
 pub mod InputLines
 pub mod WordsOfText
 pub mod Looped
+pub mod LoopStops
 pub mod Mapped
 mod FirstByte
 mod FirstLine

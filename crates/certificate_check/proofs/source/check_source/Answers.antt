@@ -4,8 +4,9 @@ use Rattle.permission_map.specs.Runs.{view_of_runs}
 use Rattle.byte_streams.specs.declared.fault.SourceFault.TheVariants as faults
 use Rattle.certificate_check.specs.Certificates.{IsRightWith, RefusalStands}
 use Rattle.certificate_check.specs.Windows.{fault_of, stopped_by, StandsIn}
-use Rattle.certificate_check.proofs.Windows.{failed_from, fresh_at, judged_from, large_from, memory_from, reads_then, stopped_failed, stopped_large}
-use Rattle.certificate_check.proofs.Windows.{stopped_well, unheld_from, well_from, whole_from}
+use Rattle.certificate_check.proofs.Windows.{reads_then}
+use Rattle.certificate_check.proofs.WholeInputs.{failed_from, fresh_at, judged_from, large_from, memory_from, stopped_failed, stopped_large, stopped_well}
+use Rattle.certificate_check.proofs.WholeInputs.{unheld_from, well_from, whole_from}
 use Rattle.certificate_check.proofs.source.check_source.Goals as goal
 
 pub returns-in_default-clause-large : goal.returns-in_default-clause-large

@@ -4,8 +4,9 @@ use Rattle.text_lines.specs.declared.fault.RunFault.TheVariants.{Line, TooLong, 
 use Rattle.text_lines.specs.declared.line_loop.LineRefusal.TheVariants as refusals
 use Rattle.text_lines.specs.Faults.{run_fault}
 use Rattle.text_lines.specs.LineLoop.{text_of}
-use Rattle.text_lines.proofs.Looped.{begins, ends, fault_is_long, fault_is_many, fault_is_device, few_by, few_more, finishes, goes_on, hands, is_refused}
-use Rattle.text_lines.proofs.Looped.{part_of, stops_at, stops_long, stops_past, stops_reading, stops_writing, stops_for_memory, still}
+use Rattle.text_lines.proofs.Looped.{begins, ends, few_by, few_more, finishes, goes_on, hands, still}
+use Rattle.text_lines.proofs.LoopStops.{fault_is_long, fault_is_many, fault_is_device, is_refused, part_of, stops_at, stops_long, stops_past}
+use Rattle.text_lines.proofs.LoopStops.{stops_reading, stops_writing, stops_for_memory}
 use Rattle.text_lines.proofs.line_loop.interpret_lines.Goals as goal
 
 pub lines-init : goal.lines-init
