@@ -263,6 +263,12 @@ def files_named():
         yield f"{document} is there", path.is_file()
 
 
+def merged():
+    """Whether no document has a mark that a merge left."""
+    for path in (*TOP.glob("*.md"), *TOP.glob("docs/**/*.md")):
+        yield f"{path.relative_to(TOP)}: a merge left a mark", not re.search(r"(?m)^(?:<{7}|={7}|>{7})(?: |$)", path.read_text())
+
+
 def decisions():
     """The numbers of the choices in docs/DECISIONS.md and bench/CHOICES.md, and whether each stands once."""
     numbers = re.findall(r"(?m)^(\d+)\. ", "\n".join((TOP / it).read_text() for it in ("docs/DECISIONS.md", "bench/CHOICES.md")))
@@ -318,6 +324,7 @@ def main():
         "widths of proofs": list(proof_widths()),
         "sentences": list(sentences()),
         "the files that documents name": list(files_named()),
+        "marks of merges": list(merged()),
         "the numbers of choices": list(decisions()),
         "wrong bodies that stay": list(wrong_bodies()),
         "the lines of the firmware": [("firmware/README.md: lines (tests/documents/run.py --write)", firmware_is_counted())],

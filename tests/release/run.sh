@@ -45,6 +45,20 @@ names_its_commit() {
     grep -q "^commit $(git -C "$here" rev-parse HEAD)" "$work/there/share/doc/pmpmon/BUILD" && grep -q '^kit rattle-kit' "$work/there/share/doc/pmpmon/BUILD"
 }
 
+# Each link of its documents, but those to the web and within a document, leads to a file of the tar file.
+links_lead() {
+    local file target wrong=0
+    while IFS= read -r file; do
+        while IFS= read -r target; do
+            [ -e "$(dirname "$file")/$target" ] || {
+                echo "$file: $target"
+                wrong=1
+            }
+        done < <(grep -o ']([^)#]*' "$file" | cut -c 3- | grep -v '^$\|^http')
+    done < <(find "$work/there/share/doc/pmpmon" -name '*.md')
+    [ "$wrong" = 0 ]
+}
+
 try 'a release' "$here/release" "$work/one"
 try 'a second one' "$here/release" "$work/two"
 try 'both are the same bytes' diff -r "$work/one" "$work/two"
@@ -52,6 +66,7 @@ try 'the sums are right' sh -c "cd '$work/one' && sha256sum -c SHA256SUMS"
 try 'the tar file can be unpacked' unpacked
 try 'its program plans its example' plans
 try 'BUILD names commit and kit' names_its_commit
+try 'the links of its documents lead somewhere' links_lead
 if command -v dpkg-deb >/dev/null; then
     try 'the package has the program' sh -c "dpkg-deb -c '$work'/one/pmpmon_*.deb | grep -q ' ./usr/bin/pmpmon$'"
 else

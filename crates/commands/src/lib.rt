@@ -1,4 +1,7 @@
-//! `lint`: what is wrong with a map, a platform, a listing of registers or a trace, line by line.
+//! The commands that need no machine: maps, certificates, registers and device trees are planned, checked, judged, shown and
+//! linted, and enclaves are measured.
+//!
+//! `lint` says what is wrong with a map, a platform, a listing of registers or a trace, line by line.
 //!
 //! For the layer above: [`do_lint`], [`do_lint_listing`] and [`do_lint_trace`] each do one form of the command on the devices that
 //! are lent for it, and [`lint_map`], [`lint_as_platform`], [`lint_listing`] and [`lint_as_trace`] say what is wrong with bytes that

@@ -17,9 +17,9 @@ pub fn words_law()
 /// that is Running runs on just one hart.
 /// The registers in the bytes of the answer whose entries a hart loaded last mean what its world may do, and no list of
 /// entries that does is shorter; the hart has that many. Each creation and destruction was refused for want of entries exactly
-/// where a view after it needs more. Pages that were asked for are memory and not the monitor's, and were read once; pages
-/// that were to be made zero are those of the enclave that was destroyed. Registers and control words are given to the world
-/// that they are of, and an enclave runs in user mode.
+/// where a view after it needs more, want of memory aside. Pages that were asked for are memory and not the monitor's, and were
+/// read once; pages that were to be made zero are those of the enclave that was destroyed. Registers and control words are
+/// given to the world that they are of, and an enclave runs in user mode.
 pub fn firmware_law()
     ensures { (layout : PlatformLayout) (opened read written : List ℕ) (s : MonitorState)
         (kept : ℕ → ControlWords)
