@@ -27,8 +27,8 @@
 //! refused; no word of one world is given to another. Nothing here takes memory.
 //!
 //! ```
-//! host_words.keep(hart, before, &came);
-//! let words = host_words.given(hart, after);
+//! host_words.save(hart, before, &came);
+//! let words = host_words.words_for(hart, after);
 //! ```
 //!
 //! # Frames between the harts of a board and the monitor
