@@ -3,10 +3,10 @@
 
 #define SBI_ERR_FAILED (~0ul)
 
-static void interrupt_harts(uint64_t harts)
+static void interrupt_harts(uint64_t set)
 {
-    for (unsigned hart = 0; harts; hart++, harts >>= 1)
-        if (harts & 1)
+    for (unsigned hart = 0; set; hart++, set >>= 1)
+        if (set & 1)
             interrupt_supervisor(hart);
 }
 

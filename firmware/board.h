@@ -22,6 +22,10 @@ uint64_t instructions(void);
 /* Whether a hart waits for the monitor's lock, has it, is parked or stopped. take_lock waits for the lock. */
 extern volatile uint32_t halted[MOST_HARTS];
 void take_lock(void);
+/* The numbers of the lock: the one that is called is that of the hart which has it. From the last place on is each hart's last. */
+#define CALLED 1
+#define LAST_OF_HART 6
+extern volatile uint32_t tickets[LAST_OF_HART + MOST_HARTS];
 
 /* pmp.S: the words of configuration and the addresses are loaded, then sfence.vma. */
 struct bank {
@@ -40,7 +44,7 @@ extern uint64_t world_number[MOST_HARTS];
 /* Whether a hart's world, its entries or pages are others than when it last ran one. Then it loads its entries, and executes
    sfence.vma and fence.i, before it goes on. */
 extern uint8_t is_stale[MOST_HARTS];
-int differ(const uint64_t *a, const uint64_t *b, unsigned words);
+int differ(const uint64_t *a, const uint64_t *b, unsigned count);
 /* Makes pages of memory that are not the monitor's zero. */
 void make_zero(uint64_t first, uint64_t count);
 
@@ -49,7 +53,9 @@ void private_begin(uint64_t first, uint64_t count);
 void private_end(uint64_t first, uint64_t count);
 /* Makes all private pages zero. */
 void forget_private(void);
-/* The board ends, or begins anew, and nothing private is left. */
+/* The other harts stand still for good, and all private pages are made zero. */
+void forget(void);
+/* The board ends, or begins anew, and no private page is left as it was. */
 _Noreturn void end_board(uint64_t status);
 /* The same, with the words that say why, and a number. */
 _Noreturn void end_because(const char *why, int64_t number);
@@ -91,14 +97,14 @@ static inline unsigned this_hart(void)
 }
 /* The harts of a set, hart h in bit h, run no world from here on, and read nothing that others write of them; those of an earlier set
    that are not in this one go on. The hart that calls has the monitor's lock, and is in no set. Whether they stopped in ten seconds. */
-int stop_harts(uint64_t harts);
+int stop_harts(uint64_t set);
 /* A started hart of the host will find its software interrupt. */
 void interrupt_supervisor(unsigned hart);
 /* The harts of a set, hart h in bit h, execute sfence.vma or fence.i, or both, before they run their worlds on: whether each has
    said so in ten seconds. */
 #define FENCE_VMA 1u
 #define FENCE_I 2u
-int fence_harts(uint64_t harts, uint32_t kinds);
+int fence_harts(uint64_t set, uint32_t kinds);
 static inline void fence_here(uint32_t kinds)
 {
     if (kinds & FENCE_VMA)

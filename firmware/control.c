@@ -1,7 +1,7 @@
 /*
  * The registers of machine and supervisor mode that decide what a world can do beside the entries. Each is read once after a
  * trap, into the frame that the proved monitor reads, and written once from the frame that it answers with: which world has
- * which words is decided there (crates/trap_server), and nothing here. A reader compares the table with the first one of
+ * which words is decided there (crates/trap_server); with which words a hart begins, here alone (at_start). A reader compares the table with the first one of
  * "Control registers" in firmware/README.md.
  */
 #include "board.h"
@@ -124,13 +124,18 @@ void control_write(const struct control_words *words)
 #define CBCFE (1ul << 6)
 #define CBIE_FLUSH (1ul << 4)
 
+/* Of the registers that a hart closes or opens to modes below (Smstateen): senvcfg and henvcfg, and fcsr where floats are in integer
+   registers. All else that they open stays closed. */
+#define ENVCFG (1ul << 62)
+#define FCSR (1ul << 1)
+
 #define SIE (1ul << 1)
 #define SPIE (1ul << 5)
 #define SPP (1ul << 8)
 #define MPV (1ul << 39)
 #define SPV (1ul << 7) /* of hstatus */
 
-/* A trap of the host that was not delegated goes on at its handler, with the registers as delegation leaves them. */
+/* A trap of the host that was not delegated goes on at its handler, with the registers as delegation leaves them, but for those that say more of a guest. */
 void control_to_handler(struct world *world)
 {
     uint64_t status = READ(mstatus), handler = READ(stvec);
@@ -156,6 +161,10 @@ void control_at_start(void)
     WRITE(mcounteren, COUNTERS);
     if (IS_THERE(0x30a)) /* menvcfg */
         WRITE(0x30a, STCE | PBMTE | CBZE | CBCFE | CBIE_FLUSH);
+    if (IS_THERE(0x30c)) { /* mstateen0, sstateen0 */
+        WRITE(0x30c, ENVCFG | FCSR);
+        WRITE(0x10c, FCSR);
+    }
     CLEAR(mip, SOFTWARE_OF_SUPERVISOR | TIMER_OF_SUPERVISOR);
     host_timer_begin(IS_THERE(0x14d)); /* stimecmp */
 }

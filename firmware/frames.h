@@ -7,7 +7,6 @@
 #define TAG(a, b, c, d, e, f, g, h)                                                                                    \
     ((uint64_t)(a) | (uint64_t)(b) << 8 | (uint64_t)(c) << 16 | (uint64_t)(d) << 24 | (uint64_t)(e) << 32 |            \
      (uint64_t)(f) << 40 | (uint64_t)(g) << 48 | (uint64_t)(h) << 56)
-#define TAG_PLATFORM TAG('p', 'l', 'a', 't', 'f', 'o', 'r', 'm')
 #define TAG_CALL TAG('c', 'a', 'l', 'l', 0, 0, 0, 0)
 #define TAG_STOP TAG('s', 't', 'o', 'p', 0, 0, 0, 0)
 #define TAG_PAGE TAG('p', 'a', 'g', 'e', 0, 0, 0, 0)
@@ -35,7 +34,7 @@ struct control_words {
     uint64_t status, satp, mie, scounteren, senvcfg, hstatus, medeleg, mideleg, mode;
 };
 
-/* Read for each trap: a call, or an interrupt that stops an enclave. */
+/* Read for each trap: a call, or what stops an enclave, an interrupt or a thing that it may not do. */
 struct trap_frame {
     uint64_t tag, hart, pc, x[31], control_tag;
     struct control_words control;
@@ -62,10 +61,6 @@ struct measure_frame {
 struct end_frame {
     uint64_t tag, reason, detail;
 };
-#define END_NOT_UNDERSTOOD 1
-#define END_PLATFORM 2
-#define END_NEEDS 3
-#define END_MEMORY 4
 
 _Static_assert(sizeof(struct platform_frame) == 1336, "167 words");
 _Static_assert(sizeof(struct trap_frame) == 352, "44 words");

@@ -85,9 +85,9 @@ void load_changes(void)
     fence_here(FENCE_I); /* pages may have other bytes than when this hart last ran a world */
 }
 
-static int is_other(uint64_t harts, unsigned hart)
+static int is_other(uint64_t set, unsigned hart)
 {
-    return hart != this_hart() && (harts >> hart & 1);
+    return hart != this_hart() && (set >> hart & 1);
 }
 
 /* It makes its own fences meanwhile: the other may wait for them. */
@@ -101,37 +101,37 @@ static int has_fenced(unsigned hart, uint32_t number, uint64_t last)
     return 1;
 }
 
-int fence_harts(uint64_t harts, uint32_t kinds)
+int fence_harts(uint64_t set, uint32_t kinds)
 {
     uint64_t last = timer_now() + TEN_SECONDS;
     uint32_t number[MOST_HARTS];
     int is_made = 1;
     for (unsigned hart = 0; hart < hart_count(); hart++)
-        if (is_other(harts, hart)) {
+        if (is_other(set, hart)) {
             __atomic_fetch_or(&requests[hart], kinds, __ATOMIC_SEQ_CST);
             number[hart] = __atomic_add_fetch(&fences_asked[hart], 1, __ATOMIC_SEQ_CST);
             interrupt(hart);
         }
-    if (harts >> this_hart() & 1)
+    if (set >> this_hart() & 1)
         fence_here(kinds);
     for (unsigned hart = 0; hart < hart_count(); hart++)
-        is_made &= !is_other(harts, hart) || has_fenced(hart, number[hart], last);
+        is_made &= !is_other(set, hart) || has_fenced(hart, number[hart], last);
     return is_made;
 }
 
-int stop_harts(uint64_t harts)
+int stop_harts(uint64_t set)
 {
     uint64_t last = timer_now() + TEN_SECONDS;
 #ifdef NO_STOP
     return 1; /* so that a test sees what comes of it */
 #endif
-    __atomic_store_n(&stopping, harts, __ATOMIC_RELEASE);
+    __atomic_store_n(&stopping, set, __ATOMIC_RELEASE);
     __asm__ volatile("fence rw, rw" ::: "memory");
     for (unsigned hart = 0; hart < hart_count(); hart++)
-        if (is_other(harts, hart) && !halted[hart])
+        if (is_other(set, hart) && !halted[hart])
             interrupt(hart);
     for (unsigned hart = 0; hart < hart_count(); hart++)
-        while (is_other(harts, hart) && !halted[hart])
+        while (is_other(set, hart) && !halted[hart])
             if (timer_now() > last)
                 return 0;
     __asm__ volatile("fence rw, rw" ::: "memory");

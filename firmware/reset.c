@@ -1,5 +1,5 @@
 /*
- * What an enclave wrote is not left to the next boot. Whatever ends the board, or begins it anew, makes the private pages of all
+ * What an enclave wrote into its pages is not left to the next boot. Whatever ends the board, or begins it anew, makes the private pages of all
  * enclaves zero first. A watchdog or a button asks nobody: then the next boot does it, by a list of these pages that lies after
  * the image, where no start clears it.
  */
@@ -17,7 +17,7 @@ static int is_private(const volatile struct private_range *range)
     return range->check == CHECK(*range);
 }
 
-static void fence(void)
+static void settle(void)
 {
     __asm__ volatile("fence rw, rw" ::: "memory");
 }
@@ -29,14 +29,14 @@ void private_begin(uint64_t first, uint64_t count)
         range++;
     range->first = first;
     range->count = count;
-    fence();
+    settle();
     range->check = CHECK(*range);
-    fence();
+    settle();
 }
 
 void private_end(uint64_t first, uint64_t count)
 {
-    fence();
+    settle();
     for (unsigned i = 0; i < MOST_ENCLAVES; i++)
         if (is_private(&private_ranges[i]) && private_ranges[i].first - first < count)
             private_ranges[i].check = 0;
@@ -47,19 +47,24 @@ void forget_private(void)
     for (unsigned i = 0; i < MOST_ENCLAVES; i++) {
         if (is_private(&private_ranges[i]))
             make_zero(private_ranges[i].first, private_ranges[i].count);
-        fence();
+        settle();
         private_ranges[i].check = 0;
     }
 }
 
+/* A hart that the monitor traps on may have the lock or not. */
+static int has_lock(void)
+{
+    return tickets[CALLED] == tickets[LAST_OF_HART + this_hart()];
+}
+
 /* No enclave writes meanwhile, and no other hart has the monitor. A trap of the monitor in here ends the board at once. */
-static void forget(void)
+void forget(void)
 {
     static uint8_t is_ending;
-    if (!halted[this_hart()]) {
-        halted[this_hart()] = 1;
+    halted[this_hart()] = 1;
+    if (!has_lock())
         take_lock();
-    }
     if (is_ending)
         return;
     is_ending = 1;
@@ -75,6 +80,7 @@ _Noreturn void end_board(uint64_t status)
 
 _Noreturn void end_because(const char *why, int64_t number)
 {
+    forget(); /* the serial line may take its time */
     put("monitor: ");
     put(why);
     put_number(number);

@@ -82,9 +82,9 @@ int64_t read(uint64_t descriptor, void *to, uint64_t n)
     return -1;
 }
 
-int differ(const uint64_t *a, const uint64_t *b, unsigned words)
+int differ(const uint64_t *a, const uint64_t *b, unsigned count)
 {
-    for (unsigned i = 0; i < words; i++)
+    for (unsigned i = 0; i < count; i++)
         if (a[i] != b[i])
             return 1;
     return 0;
@@ -110,12 +110,12 @@ void make_zero(uint64_t first, uint64_t count)
 }
 
 /* Other harts stand still while their entries change, and no longer. */
-static void change_others(uint64_t harts, const struct answer_frame *answer)
+static void change_others(uint64_t set, const struct answer_frame *answer)
 {
-    if (!stop_harts(harts))
+    if (!stop_harts(set))
         end_because("a hart does not stop, asked by hart ", this_hart());
-    for (unsigned hart = 0; harts; hart++, harts >>= 1)
-        if (harts & 1)
+    for (unsigned hart = 0; set; hart++, set >>= 1)
+        if (set & 1)
             keep_bank(hart, answer);
     stop_harts(0); /* they go on */
 }
@@ -181,6 +181,7 @@ int rattle_errno(void)
 /* Where the monitor itself traps, nothing is left to go on with. */
 _Noreturn void trapped(uint64_t cause, uint64_t pc, uint64_t value)
 {
+    forget();
     put("monitor: trapped ");
     put_hex(cause);
     put(" ");

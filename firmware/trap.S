@@ -130,7 +130,12 @@ trap:
     li      t1, MODE_BITS
     and     t0, t0, t1
     sd      t0, 33 * 8(x31)
-    csrr    t0, mcause
+    srli    t0, t0, 11          # of machine mode (MPP 3) no world is: the monitor itself trapped as it entered one
+    andi    t0, t0, 3
+    addi    t0, t0, -3
+    bnez    t0, 1f
+    j       died
+1:  csrr    t0, mcause
     sd      t0, 34 * 8(x31)
     csrr    t0, mtval
     sd      t0, 35 * 8(x31)
@@ -191,6 +196,10 @@ take_lock:
 3:  sw      zero, 8(t2)
     csrw    mie, t6
 4:  fence   r, rw
+    csrr    t3, mhartid
+    slli    t3, t3, 2
+    add     t3, t3, t0
+    sw      t1, 24(t3)          # a hart has the lock while its last number is the one that is called
     ret
 
 /* The stack is that of this hart alone. */
@@ -205,9 +214,11 @@ own_stack:
 
     .section .sdata, "aw"
     .balign 8
-/* Hart 0 has the monitor first: the next number, the one that is called, and of four numbers the harts that sleep, plus 1. */
+/* Hart 0 has the monitor first: the next number, the one that is called, of four numbers the harts that sleep, plus 1, and the last
+   number of each hart. */
+    .globl  tickets
 tickets:
-    .word   1, 0, 0, 0, 0, 0
+    .word   1, 0, 0, 0, 0, 0, 0, -1, -1, -1
     .globl  halted
 halted:
     .word   1, 1, 1, 1

@@ -120,6 +120,7 @@ void answered(const struct answer_frame *answer)
 
 _Noreturn void ended(const struct end_frame *end)
 {
+    forget();
     put("monitor: ended, reason ");
     put_number((int64_t)end->reason);
     put(", ");

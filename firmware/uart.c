@@ -4,10 +4,20 @@
 static volatile uint8_t *const serial = (volatile uint8_t *)0x10000000;
 static volatile uint32_t *const finisher = (volatile uint32_t *)0x100000;
 
+#define SECOND 10000000ul
+
+/* A byte that the line does not take in a second is dropped, and so are those after it until it takes one at once: nobody waits for
+   a line without an end. */
 void put_char(char c)
 {
+    static uint8_t is_stuck;
+    uint64_t last = READ(time) + SECOND;
     while (!(serial[5] & 0x20))
-        ;
+        if (is_stuck || READ(time) > last) {
+            is_stuck = 1;
+            return;
+        }
+    is_stuck = 0;
     serial[0] = (uint8_t)c;
 }
 

@@ -28,7 +28,7 @@ load_at:
     sd      t0, (a1)
     ret
 
-/* An interrupt is the timer's: it is turned off and counted. Any other trap is the fault of a load. */
+/* An interrupt is the timer's: it is turned off and noted. Any other trap is the fault of a load. */
     .balign 4
 handler:
     csrrw   t2, sscratch, t2

@@ -11,7 +11,7 @@ host_entry:
     call    host_main
     j       .
 
-/* An exception goes on after its instruction, and is counted; an interrupt is taken back. */
+/* An exception goes on after its instruction, and is noted; an interrupt is taken back. */
     .balign 4
     .globl  handler
 handler:

@@ -390,7 +390,7 @@ def races(folder, told):
         told(f"a page that is read {name} while it is made an enclave's faults, and is zero after it", right, "" if right else said)
     said = booted(image, host(folder / "moments.elf", "harts.S", "moments_enclave.S", "moments.c"), 2, seconds=60)
     match = re.fullmatch(r"differ 1\nzeros (\d+)\nones (\d+)\nwrong 0\n", said)
-    told("a page that is written while it is measured: the digest is that of the enclave's bytes", match and int(match.group(1)) + int(match.group(2)) == 40, said.replace("\n", " "))
+    told("a page that is written while it is measured: the digest is that of the enclave's bytes", match and all(int(it) for it in match.groups()) and int(match.group(1)) + int(match.group(2)) == 40, said.replace("\n", " "))
     said = booted(image, host(folder / "share.elf", "harts.S", "share_enclave.S", "share.c"), 2, seconds=60)
     counts = {int(it): int(n) for it, n in re.findall(r"call (\d+): counted (\d+)\n", said)}
     right = len(counts) == 4 and "odd" not in said and min(counts.values()) > counts[255] // 4
@@ -455,7 +455,8 @@ def host(path, *sources, flags=()):
 
 def sbi(image, folder, told):
     """Each function and each error of the Supervisor Binary Interface, on two harts; sbi_host.txt has what its version 1.0 says."""
-    said = booted(image, host(folder / "sbi.elf", "sbi_host.S", "sbi_host.c"), 2).splitlines()
+    words = "-cpu", "rv64,mvendorid=1,marchid=2,mimpid=3"
+    said = booted(image, host(folder / "sbi.elf", "sbi_host.S", "sbi_host.c"), 2, *words).splitlines()
     want = (HERE / "sbi_host.txt").read_text().splitlines()
     wrong = [f"{got} in place of {line}" for got, line in zip(said, want) if got != line] + said[len(want) :] + want[len(said) :]
     told(f"{len(want)} answers of the Supervisor Binary Interface", not wrong, "; ".join(wrong[:5]))

@@ -10,11 +10,13 @@ enum { COLD = 1, WARM, SHUTDOWN, FINISHER, WAITS };
 #define WAS_HERE 0x1234567890abcdeful
 
 static struct pmpmon_answer made;
+static volatile uint64_t has_run;
 
 static void run(uint64_t hart)
 {
     (void)hart;
     pmpmon_run(made.value);
+    has_run = 1;
     for (;;)
         pmpmon_resume(made.value);
 }
@@ -55,6 +57,8 @@ void host_main(void)
         say("run", (uint64_t)pmpmon_run(made.value).error);
     else
         start(HARTS - 1, run);
+    while (HARTS > 1 && !has_run)
+        ;
     for (uint64_t until = time() + 200000; time() < until;) /* 20 ms */
         ;
     say("before it: fault", (uint64_t)load_at((uint64_t *)(BASE + PAGE), &value));

@@ -232,8 +232,10 @@ static void interrupted_enclave(void)
 /* Chapter 4: the hart's mvendorid, marchid and mimpid, which are the board's. */
 static void the_harts_words(void)
 {
-    for (uint64_t function = 4; function <= 6; function++)
-        say("base: a word of the hart", call(BASE, function, 0, 0, 0).error, 0);
+    for (uint64_t function = 4; function <= 6; function++) {
+        struct pmpmon_answer answer = call(BASE, function, 0, 0, 0);
+        say("base: a word of the hart", answer.error, (int64_t)answer.value);
+    }
 }
 
 void host_main(void)

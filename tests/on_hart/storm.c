@@ -79,11 +79,29 @@ static void wait(uint64_t ticks)
     __asm__ volatile("wfi");
 }
 
+static void interrupts(uint64_t kind, uint64_t chance)
+{
+    switch (kind) {
+    case 10:
+        pmpmon_call(TIME, 0, time() + (chance >> 48 & 1023), 0, 0, 0, 0, 0);
+        SET(sie, chance & 0x22);
+        break;
+    case 11:
+        CLEAR(sie, chance & 0x22);
+        SET(sstatus, 2);
+        CLEAR(sstatus, 2);
+        break;
+    default:
+        if (chance >> 50 & 1)
+            wait(20000);
+    }
+}
+
 static void one(uint64_t hart, uint64_t *seed)
 {
-    uint64_t chance = next(seed);
+    uint64_t chance = next(seed), kind = chance >> 8 & 15;
     turns[hart]++;
-    switch (chance >> 8 & 15) {
+    switch (kind) {
     case 0 ... 1:
         if (!is_alive[hart])
             create(hart);
@@ -102,22 +120,13 @@ static void one(uint64_t hart, uint64_t *seed)
     case 8 ... 9:
         odd += pmpmon_call(RFENCE, chance >> 40 & 1, chance >> 32 & ((1 << HARTS) - 1), chance >> 41 & 1 ? ~0ul : 0, 0, 0x1000, 0, 0).error != 0;
         break;
-    case 10:
-        pmpmon_call(TIME, 0, time() + (chance >> 48 & 1023), 0, 0, 0, 0, 0);
-        SET(sie, chance & 0x22);
-        break;
-    case 11:
-        CLEAR(sie, chance & 0x22);
-        SET(sstatus, 2);
-        CLEAR(sstatus, 2);
+    case 10 ... 11:
+    case 13:
+        interrupts(kind, chance);
         break;
     case 12:
         for (uint64_t other = 0; other < HARTS; other++)
             wrong += other != hart && pmpmon_call(HSM, 0, other, 0x80000000ul, 0, 0, 0, 0).error == 0;
-        break;
-    case 13:
-        if (chance >> 50 & 1)
-            wait(20000);
         break;
     case 14:
         look(hart);

@@ -38,7 +38,7 @@ pub struct Harts {
     pub count: u64,
     /// Those that are started.
     pub started: u64,
-    /// Those that were started, and have not begun.
+    /// Those that were started by a call since they stopped last. Of one that is in both words the other holds: it has begun.
     pub pending: u64,
 }
 
