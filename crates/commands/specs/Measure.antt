@@ -1,6 +1,6 @@
 -- What `measure` comes to on the file and the stream that are lent for it: a rule for each way in
 -- which it ends.
-use Rattle.std.specs.Prelude.{ℕ, ◌+◌, ◌*◌, ◌<◌, ◌++◌, List, take, drop, codes, decimal}
+use Rattle.std.specs.Prelude.{ℕ, ◌+◌, ◌*◌, ◌<◌, ◌≤◌, ◌++◌, List, take, drop, codes, decimal}
 use Rattle.std.specs.Prelude.{Result, Ok, Err}
 use Rattle.std.specs.Borrow.{Bor}
 use Rattle.byteorder.specs.Endian.{little_number}
@@ -39,18 +39,22 @@ digest_text digest = codes "digest " ++ encode_lower digest ++ codes "\n" ++ wor
     ++ word_text digest 1 ++ word_text digest 2 ++ word_text digest 3
 
 -- `measure`: the file is read, and its digest is printed. A layout with more pages of text and data
--- than an enclave has is refused before that
+-- than an enclave has is always refused, and before that
 pub data Measures {R W : Type 0} (file : Bor (List ℕ)) (layout : Layout) (first : Reading R)
     (out : Writing W) : Result ℕ Trouble → Type 0 where
-  told : (bytes : List ℕ) → HasBytes (enclave_bytes layout) first bytes
+  told : (bytes : List ℕ) → layout.text_pages + layout.data_pages ≤ 1024
+      → HasBytes (enclave_bytes layout) first bytes
       → TakesAll (digest_text (enclave_digest layout bytes)) out
       → Measures file layout first out (Ok 0)
   too_many : 1024 < layout.text_pages + layout.data_pages → IsUnread first → IsUnwritten out
       → Measures file layout first out (Err (TooLarge file))
-  no_bytes : (trouble : Trouble) → HasNoBytes (enclave_bytes layout) file first trouble
-      → IsUnwritten out → Measures file layout first out (Err trouble)
-  no_memory : (bytes : List ℕ) → HasBytes (enclave_bytes layout) first bytes → IsUnwritten out
+  no_bytes : (trouble : Trouble) → layout.text_pages + layout.data_pages ≤ 1024
+      → HasNoBytes (enclave_bytes layout) file first trouble → IsUnwritten out
+      → Measures file layout first out (Err trouble)
+  no_memory : (bytes : List ℕ) → layout.text_pages + layout.data_pages ≤ 1024
+      → HasBytes (enclave_bytes layout) first bytes → IsUnwritten out
       → Measures file layout first out (Err Memory)
-  no_output : (bytes : List ℕ) → HasBytes (enclave_bytes layout) first bytes
+  no_output : (bytes : List ℕ) → layout.text_pages + layout.data_pages ≤ 1024
+      → HasBytes (enclave_bytes layout) first bytes
       → Breaks (digest_text (enclave_digest layout bytes)) out
       → Measures file layout first out (Err Output)

@@ -17,10 +17,10 @@ returns-then-has_too_many g c = measures.Measures.too_many (c.has_too_many.ensur
 pub returns-in_err-bytes : goal.returns-in_err-bytes
 returns-in_err-bytes g c =
     let p = err_from_is_err_and c.from_residual.result c.from_residual.ensures.1 in
-    rw (p.1, p.2) (measures.Measures.no_bytes _ c.in_err-bytes.ensures.refused refl)
+    rw (p.1, p.2) (measures.Measures.no_bytes _ (c.has_too_many.ensures.few c.if-has_too_many.false) c.in_err-bytes.ensures.refused refl)
 
 pub returns-in_default : goal.returns-in_default
-returns-in_default g c = measures.Measures.no_memory _ c.in_ok-bytes.ensures.whole refl
+returns-in_default g c = measures.Measures.no_memory _ (c.has_too_many.ensures.few c.if-has_too_many.false) c.in_ok-bytes.ensures.whole refl
 
 pub returns-in_err-write_whole : goal.returns-in_err-write_whole
 returns-in_err-write_whole g c =
@@ -28,10 +28,12 @@ returns-in_err-write_whole g c =
     let text : c.in-Ok.text.items ≡ digest_text (enclave_digest c.args.layout c.in_ok-bytes.bytes.items) =
     c.in-Ok.ensures ∙ ap (λ b. digest_text (enclave_digest c.args.layout b)) c.as_slice.ensures.value in
     rw (p.1, p.2)
-    (measures.Measures.no_output _ c.in_ok-bytes.ensures.whole (breaks_same _ _ _ (c.as_slice-2.ensures.value ∙ text) c.in_err-write_whole.ensures))
+    (measures.Measures.no_output _ (c.has_too_many.ensures.few c.if-has_too_many.false) c.in_ok-bytes.ensures.whole
+    (breaks_same _ _ _ (c.as_slice-2.ensures.value ∙ text) c.in_err-write_whole.ensures))
 
 pub returns : goal.returns
 returns g c =
     let text : c.in-Ok.text.items ≡ digest_text (enclave_digest c.args.layout c.in_ok-bytes.bytes.items) =
     c.in-Ok.ensures ∙ ap (λ b. digest_text (enclave_digest c.args.layout b)) c.as_slice.ensures.value in
-    measures.Measures.told _ c.in_ok-bytes.ensures.whole (takes_same _ _ _ (c.as_slice-2.ensures.value ∙ text) c.in_ok-write_whole.ensures)
+    measures.Measures.told _ (c.has_too_many.ensures.few c.if-has_too_many.false) c.in_ok-bytes.ensures.whole
+    (takes_same _ _ _ (c.as_slice-2.ensures.value ∙ text) c.in_ok-write_whole.ensures)
