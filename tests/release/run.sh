@@ -59,6 +59,11 @@ links_lead() {
     [ "$wrong" = 0 ]
 }
 
+within() {
+    "$here/release" "$here/tried-release" 2>&1 | grep -q 'within the clone' && [ ! -e "$here/tried-release" ]
+}
+
+try 'a folder within the clone is refused' within
 try 'a release' "$here/release" "$work/one"
 try 'a second one' "$here/release" "$work/two"
 try 'both are the same bytes' diff -r "$work/one" "$work/two"
