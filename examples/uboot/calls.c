@@ -1,11 +1,12 @@
 /*
- * The monitor's calls from U-Boot's prompt, a stand-alone program for its `go`: words first, then numbers in hexadecimal.
+ * The monitor's calls from U-Boot's prompt, a stand-alone program for its `go`: words first, then numbers in hexadecimal, with or
+ * without 0x.
  *
  *   go 84000000 create BASE TEXT_PAGES [DATA_PAGES [SHARED_BASE SHARED_PAGES [ENTRY_OFFSET]]]
  *   go 84000000 run ID | resume ID | destroy ID | measure ID
  *   go 84000000 peek ADDRESS        loads a word of 64 bits, or tells the fault
  *
- * It ends with 0, and with 1 where it was refused.
+ * It ends with 0, and with 1 where it was refused, or a word is no number.
  */
 #include "board.h"
 #include "pmpmon_calls.h"
@@ -66,12 +67,21 @@ static int is_same(const char *a, const char *b)
     return *a == *b;
 }
 
-static uint64_t number_of(const char *text)
+static int digit_of(char it)
 {
-    uint64_t number = 0;
-    for (; *text; text++)
-        number = number * 16 + (uint64_t)(*text <= '9' ? *text - '0' : (*text | 32) - 'a' + 10);
-    return number;
+    int letter = it | 32;
+    return it >= '0' && it <= '9' ? it - '0' : letter >= 'a' && letter <= 'f' ? letter - 'a' + 10 : -1;
+}
+
+/* Up to 16 digits, with or without 0x before them. */
+static int is_number(const char *text, uint64_t *number)
+{
+    if (text[0] == '0' && (text[1] | 32) == 'x')
+        text += 2;
+    int digits = 0;
+    for (*number = 0; digit_of(text[digits]) >= 0; digits++)
+        *number = *number << 4 | (uint64_t)digit_of(text[digits]);
+    return digits >= 1 && digits <= 16 && !text[digits];
 }
 
 static int refused(int64_t error)
@@ -161,7 +171,12 @@ int entry(int argc, char **argv)
 {
     uint64_t words[MOST_NUMBERS] = {0};
     for (int i = 2; i < argc && i < 2 + MOST_NUMBERS; i++)
-        words[i - 2] = number_of(argv[i]);
+        if (!is_number(argv[i], &words[i - 2])) {
+            put("no number of 64 bits: ");
+            put(argv[i]);
+            put("\r\n");
+            return 1;
+        }
     const char *word = argc > 2 ? argv[1] : "";
     if (is_same(word, "create"))
         return create(words);

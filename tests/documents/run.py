@@ -30,7 +30,8 @@ import re
 import sys
 from pathlib import Path
 
-from firmware_lines import table as firmware_lines
+sys.dont_write_bytecode = True
+from firmware_lines import table as firmware_lines  # noqa: E402
 
 TOP = Path(__file__).resolve().parents[2]
 PAGE = TOP / "docs" / "ARCHITECTURE.md"

@@ -52,6 +52,7 @@ case "$1 $2" in
 'run --')
     echo "$@" >>"$ASKED"
     mkdir -p out
+    [ -z "$SAVED" ] || touch "$SAVED"
     if [ "$(basename "$PWD")" = map_planner ]; then
         printf '#!/usr/bin/env bash\\n[ -s "$1" ] || exit 1\\ngrep -q full "$1" && exit 3\\necho "planned:$*"\\n' >out/map_planner
         chmod +x out/map_planner
@@ -166,6 +167,13 @@ def first_start(house):
     yield "after a change: no unproved answer", b"nobody has proved" not in changed.stderr and changed.returncode == 5
 
 
+def saved_meanwhile(house):
+    house.start("show", "m.map", SAVED=str(house.folder / "crates" / "pmpmon" / "src" / "main.rt"))
+    calls = len(house.calls())
+    again = house.start("show", "m.map")
+    yield "a source that is saved while the program is built: the next start builds it again", len(house.calls()) > calls and again.returncode == 5
+
+
 def library(house):
     (house.folder / "bin" / "rtlib.py").write_text(LIBRARY)
     ran = house.start("show", "m.map")
@@ -248,6 +256,12 @@ def unproved(house):
     yield "--unproved: a plan is that of the planner alone", (ran.stdout, ran.returncode) == (b"planned without proof:m.map\n", 0)
     ran = house.start("--unproved", "plan", f"{house.folder}/m.map")
     yield "--unproved: the planner too gets a file under another name, which is said", ran.stdout == b"planned without proof:" + name + b"\n" and b" is called " + name in ran.stderr
+    one, two = house.folder / "m.map", house.folder / str(house.folder)[1:] / "m.map"
+    two.parent.mkdir(parents=True)
+    two.write_text("\n")
+    ran = house.start("--unproved", "judge", str(one), str(two.relative_to(house.folder)))
+    names = ran.stdout.decode().split("\n")[0].split()[1:]
+    yield "--unproved: two files that would have one name have two", names[0] != names[1] and names[2:] == [f"{names[0]}={one}", f"{names[1]}={two}"]
     ran = house.start("--unproved", "plan", "empty.map")
     yield "--unproved: where the planner has no answer, the program has", (ran.stdout.startswith(b"unproved:plan empty.map "), ran.returncode) == (True, 3)
     ran = house.start("--unproved", "plan", "m.map", "--format", "c")
@@ -285,7 +299,7 @@ def failing_planner(house):
 
 def main():
     count = Count()
-    for kind in (first_start, library, failing_library, pipe, no_answer, failing_proof, stopped, unproved, planner, no_plan, failing_planner):
+    for kind in (first_start, saved_meanwhile, library, failing_library, pipe, no_answer, failing_proof, stopped, unproved, planner, no_plan, failing_planner):
         with tempfile.TemporaryDirectory() as made:
             for what, good in kind(House(Path(made).resolve())):
                 count.note(good, what)

@@ -128,6 +128,19 @@ def examples(on_hart, program, told):
         told(f"examples/{name}.trace: {count} lines on the hart", not why, why)
 
 
+def early_ends(folder, told):
+    """A trace whose store ends the board, or begins it anew, has a report of what was before, and a status that says so."""
+    platform = folder / "finisher.toml"
+    platform.write_text(platform_with(folder, 1).read_text() + '[[device]]\nbase = 0x100000\nsize = 0x1000\nperm = "rw"\n')
+    trace = folder / "finisher.trace"
+    for name, word in (("ends the board", 0x5555), ("begins it anew", 0x7777)):
+        trace.write_text(f"load s 8 0x80200000\nstore s 4 0x100000 {word:#x}\nload s 8 0x80200000\n")
+        done = subprocess.run([TOP / "pmpmon-on-hart", platform, trace], capture_output=True, text=True)
+        want = (1, "1 ok 0x0000000000000000\n", "pmpmon-on-hart: the board ended after 1 of 3 events\n")
+        got = (done.returncode, done.stdout, done.stderr)
+        told(f"a store that {name}: the report ends, and says so", got == want, "" if got == want else str(got))
+
+
 def after_refusal(line):
     """Whether a line is that of a creation or destruction for which memory was refused."""
     return " call -109 0x0000000000000000 " in line
@@ -474,6 +487,7 @@ def monitor(program, told):
         worlds(folder, told)
         own_tree(program, folder, told)
         lives(on_hart, program, folder, told)
+        early_ends(folder, told)
         refused_memory(on_hart, folder, told)
         most_taken(on_hart, folder, told)
         for it in orders.result():

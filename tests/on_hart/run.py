@@ -42,7 +42,9 @@ import tempfile
 from concurrent.futures import ThreadPoolExecutor
 from pathlib import Path
 
-sys.path.insert(0, str(Path(__file__).resolve().parent))
+sys.dont_write_bytecode = True
+sys.path[:0] = [str(Path(__file__).resolve().parent), str(Path(__file__).resolve().parents[1])]
+from counting import Count  # noqa: E402
 from monitor import monitor  # noqa: E402
 
 TOP = Path(__file__).resolve().parents[2]
@@ -57,12 +59,12 @@ WRONG = {
     "an instruction of x86-64 is left": 'define void @pmpmon_wrong() {\n  call void asm sideeffect "mfence", ""()\n  ret void\n}\n',
 }
 RIGHT = "define i64 @pmpmon_right(i64 %a, ptr %b) {\n  ret i64 %a\n}\n"
-passed = failed = 0
+counted = Count()
+told = counted.told
 
 
 def on_qemu_module():
     """tests/on_qemu/run.py, whose maps and accesses are used here."""
-    sys.dont_write_bytecode = True
     loader = importlib.machinery.SourceFileLoader("on_qemu", str(TOP / "tests/on_qemu/run.py"))
     module = importlib.util.module_from_spec(importlib.util.spec_from_loader("on_qemu", loader))
     loader.exec_module(module)
@@ -70,13 +72,6 @@ def on_qemu_module():
 
 
 on_qemu = on_qemu_module()
-
-
-def told(what, right, why=""):
-    """Counts a test and says how it went."""
-    global passed, failed
-    passed, failed = passed + bool(right), failed + (not right)
-    print(f"{'ok' if right else 'FAILED'}: {what}{f': {why}' if why else ''}", flush=True)
 
 
 def said(*words, **more):
@@ -336,8 +331,7 @@ def main():
         library(program, lacking)
     if "monitor" in parts and not lacking:
         monitor(program, told)
-    print(f"{passed} passed, {failed} failed")
-    return 1 if failed else 0
+    return counted.end()
 
 
 if __name__ == "__main__":

@@ -32,8 +32,9 @@ import sys
 import tempfile
 from pathlib import Path
 
+sys.dont_write_bytecode = True
 sys.path.insert(0, str(Path(__file__).resolve().parent))
-import smepmp
+import smepmp  # noqa: E402
 
 TOP = Path(__file__).resolve().parents[2]
 HERE = Path(__file__).resolve().parent

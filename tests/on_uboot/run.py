@@ -28,20 +28,18 @@ import tempfile
 import time
 from pathlib import Path
 
+sys.dont_write_bytecode = True
+sys.path.insert(0, str(Path(__file__).resolve().parents[1]))
+from counting import Count, matches  # noqa: E402
+
 TOP = Path(__file__).resolve().parents[2]
 UBOOT = Path("/usr/lib/u-boot/qemu-riscv64_smode/u-boot.bin")
 QEMU, GCC = "qemu-system-riscv64", "riscv64-unknown-elf-gcc"
 SECTION = "## An enclave from a prompt in ten minutes\n"
 AROUND = re.compile(r"## (Starting application at|Application terminated)")
-MOST_SECONDS = 15
-passed = failed = 0
-
-
-def told(what, right, why=""):
-    """Counts a test and says how it went."""
-    global passed, failed
-    passed, failed = passed + bool(right), failed + (not right)
-    print(f"{'ok' if right else 'FAILED'}: {what}{f': {why}' if why else ''}", flush=True)
+MOST_SECONDS = 90
+counted = Count()
+told = counted.told
 
 
 class Prompt:
@@ -98,12 +96,6 @@ def session():
     return rows
 
 
-def matches(want, got):
-    """Whether lines are those wanted, where `...` stands for any."""
-    pattern = "".join("(?:.*\n)*" if it == "..." else re.escape(it) + "\n" for it in want)
-    return re.fullmatch(pattern, "".join(f"{it}\n" for it in got))
-
-
 def digest_of(code):
     """The digest of an enclave of one page of text (docs/FORMATS.md, "Calls of the monitor")."""
     return hashlib.sha256(struct.pack("<4Q", 1, 0, 0, 0) + code.ljust(4096, b"\0")).hexdigest()
@@ -120,13 +112,22 @@ def guide(programs):
     with Prompt(programs / "pmpmon-virt.elf", programs, "-kernel", str(UBOOT)) as prompt:
         prompt.until_prompt()
         told("the same with -kernel", prompt.answer("go 84000000 peek 80000000") == ["load access fault"])
+        numbers(prompt)
     digest = digest_of((programs / "enclave.bin").read_bytes())
     told("the digest is that of the enclave's bytes", any(want == [digest] for _, want in rows), digest)
 
 
+def numbers(prompt):
+    """Numbers with 0x before them, and words that are none."""
+    word = prompt.answer("go 84000000 peek 80200000")
+    wrong = ["8020000g", "0x", "12345678123456789"]
+    got = [prompt.answer(f"go 84000000 peek {it}") for it in ("0x80200000", "0X80200000", *wrong)]
+    want = [word, word, *([f"no number of 64 bits: {it}"] for it in wrong)]
+    told("numbers with 0x, and words that are none", word[0].startswith("0x") and got == want, "" if got == want else repr((word, got)))
+
+
 def parts_of(file):
     """Pages of text, data and shared ones of an enclave's file, and its digest by examples/linux/digest.py."""
-    sys.dont_write_bytecode = True
     spec = importlib.util.spec_from_file_location("digest", TOP / "examples/linux/digest.py")
     module = importlib.util.module_from_spec(spec)
     spec.loader.exec_module(module)
@@ -188,8 +189,7 @@ def main():
             image = shutil.copy(Path(place) / "pmpmon-virt.elf", Path(place) / "one.elf")
             two_harts(Path(place))
             in_c(Path(place), image)
-    print(f"{passed} passed, {failed} failed")
-    return 1 if failed else 0
+    return counted.end()
 
 
 if __name__ == "__main__":

@@ -59,8 +59,14 @@ links_lead() {
     [ "$wrong" = 0 ]
 }
 
+within() {
+    "$here/release" "$here/tried-release" 2>&1 | grep -q 'within the clone' && [ ! -e "$here/tried-release" ]
+}
+
+try 'a folder within the clone is refused' within
 try 'a release' "$here/release" "$work/one"
 try 'a second one' "$here/release" "$work/two"
+try 'its name has the version alone' sh -c "ls '$work/one' | grep -qx 'pmpmon-[0-9.]*.tar.gz'"
 try 'both are the same bytes' diff -r "$work/one" "$work/two"
 try 'the sums are right' sh -c "cd '$work/one' && sha256sum -c SHA256SUMS"
 try 'the tar file can be unpacked' unpacked

@@ -9,6 +9,12 @@ set -u
 cd "$(dirname "$(realpath "$0")")/../.." || exit 1
 passed=0
 failed=0
+# (an export of the sources, or a clone of another user's)
+git ls-files >/dev/null 2>&1 || {
+    echo 'left out: the scripts, since git tells no files here'
+    echo '0 passed, 0 failed'
+    exit 0
+}
 shell=()
 python=()
 while read -r file; do
@@ -23,7 +29,7 @@ done < <(git ls-files | grep -v '\.\(svg\|bin\|dtb\)$')
 
 # Runs a tool over files, and counts each.
 over() {
-    local tool=$1 file
+    local tool=$1 file before=$failed
     shift
     for file in "$@"; do
         if $tool "$file"; then
@@ -33,7 +39,7 @@ over() {
             echo "FAILED: $tool $file"
         fi
     done
-    echo "ok: $tool, of $# files"
+    [ "$failed" != "$before" ] || echo "ok: $tool, of $# files"
 }
 
 if command -v shellcheck >/dev/null; then
