@@ -1,5 +1,5 @@
 -- What the nodes of a tree say of memory and devices.
-use Rattle.std.specs.Prelude.{◌≡◌, ◌⊎◌, ℕ, ◌<◌, Bool, true, false, cond, ◌&&◌, bytes_eq}
+use Rattle.std.specs.Prelude.{◌≡◌, ◌⊎◌, ℕ, ◌<◌, ◌≤◌, Bool, true, false, cond, ◌&&◌, bytes_eq}
 use Rattle.std.specs.Prelude.{List, [], ◌∷◌, ◌++◌}
 use Rattle.std.specs.Prelude.{Option, None, Some, option_map, codes, map}
 use Rattle.std.specs.List.{filter_map}
@@ -86,7 +86,8 @@ IsInnerWay None inner outer way found = found ≡ None
 IsInnerWay (Some []) inner outer way found = found ≡ Some way
 IsInnerWay (Some (byte ∷ bytes)) inner outer way found =
     ((2 < inner.address) × (found ≡ None))
-    ⊎ ((windows : List Window) × AreWindows inner outer (byte ∷ bytes) windows
+    ⊎ ((inner.address ≤ 2) × (windows : List Window)
+    × AreWindows inner outer (byte ∷ bytes) windows
     × (found ≡ Some (by (behind_way way windows))))
 
 -- what is said by what the program found
