@@ -1,5 +1,6 @@
 -- Where a hart may begin. (SBI, chapter 9, "Hart start": its address is not prohibited by PMP)
-use Rattle.std.specs.Prelude.{◌≡◌, ℕ, Bool, true, List, ◌&&◌, if◌then◌else◌, is_ok, slice_index}
+use Rattle.std.specs.Prelude.{◌≡◌, ◌↔◌, ℕ, Bool, true, List, take, ◌&&◌, if◌then◌else◌, is_ok}
+use Rattle.std.specs.Prelude.{slice_index}
 use Rattle.pmp_encoding.specs.declared.region.Entry.{Entry}
 use Rattle.pmp_encoding.specs.Lists.{MeansList}
 use Rattle.pmp_encoding.specs.Registers.{cfg_byte, pairs_from}
@@ -37,8 +38,22 @@ abbrev pub ListsAnswer : List (ℕ × ℕ) → ℕ → Bool → Type 0
 ListsAnswer pairs address answer = (entries : List Entry)
     → MeansList pairs entries → answer ≡ allows entries (fetch_at address)
 
--- whether the fetch is let through by the entries that the registers mean
-abbrev pub IsExecutable : BankWords → ℕ → Bool → Type 0
-IsExecutable bank address answer = (entries : List Entry)
-    × MeansList (pairs_from bank.cfg bank.addr 0 64) entries
-    × (answer ≡ is_ok (judgement entries (fetch_at address)))
+-- the first pairs, up to some place, mean a list that lets the fetch through
+abbrev pub FirstPermit : List (ℕ × ℕ) → ℕ → Type 0
+FirstPermit pairs address = (count : ℕ) × (entries : List Entry)
+    × MeansList (take count pairs) entries
+    × (is_ok (judgement entries (fetch_at address)) ≡ true)
+
+-- the same, where the list is asked alone: not whether the address is even, and in the space
+abbrev pub FirstAllow : List (ℕ × ℕ) → ℕ → Type 0
+FirstAllow pairs address = (count : ℕ) × (entries : List Entry)
+    × MeansList (take count pairs) entries × (allows entries (fetch_at address) ≡ true)
+
+-- whether the fetch is let through by the entries of a hart: just one of the two answers holds
+pub record IsExecutable (bank : BankWords) (address : ℕ) (answer : Bool) : Type 0 where
+  -- by the list that its registers mean
+  pub list : (entries : List Entry) → MeansList (pairs_from bank.cfg bank.addr 0 64) entries
+      → answer ≡ is_ok (judgement entries (fetch_at address))
+  -- and by those before the first that means nothing, if there is such a pair: what comes from
+  -- there on lets nothing through
+  pub first : (answer ≡ true) ↔ FirstPermit (pairs_from bank.cfg bank.addr 0 64) address

@@ -48,8 +48,10 @@ fn cfg_of(bank: &BankWords, place: usize) -> u8
 fn answer_from(bank: &BankWords, place: usize, address: u64, below: bool) -> bool
     requires place { place < 64 }
     requires address { address < 2 ^ 56 }
-    ensures { (pairs : List (ℕ × ℕ)) → ListsAnswer pairs address below
+    ensures list { (pairs : List (ℕ × ℕ)) → ListsAnswer pairs address below
         → ListsAnswer (pair_at bank.now place ∷ pairs) address result }
+    ensures first { (pairs : List (ℕ × ℕ)) → (below ≡ true) ↔ FirstAllow pairs address
+        → (result ≡ true) ↔ FirstAllow (pair_at bank.now place ∷ pairs) address }
 {
     match decode(cfg_of(bank, place), bank.addr[place]) {
         Ok(Some(entry)) => answer_of(&entry, &fetch_at(address), below),
@@ -59,10 +61,11 @@ fn answer_from(bank: &BankWords, place: usize, address: u64, below: bool) -> boo
 }
 
 /// Whether supervisor mode may execute at an address under the entries of a hart: the first of them that has it decides, and
-/// there is no other. An odd address is none of an instruction. (SBI, chapter 9, "Hart start": SBI_ERR_INVALID_ADDRESS)
+/// there is no other. A pair that means nothing lets nothing through, nor does one behind it. An odd address is none of
+/// an instruction. (SBI, chapter 9, "Hart start": SBI_ERR_INVALID_ADDRESS)
 #[inline(never)]
 pub fn is_executable(bank: &BankWords, address: u64) -> bool
-    ensures { (answer : Bool) → IsExecutable bank.now address answer → result ≡ answer }
+    ensures { IsExecutable bank.now address result }
 {
     if address % 2 != 0 || address >= SPACE {
         return false;
@@ -74,6 +77,6 @@ pub fn is_executable(bank: &BankWords, address: u64) -> bool
     answer
 }
 
-ghost use Rattle.std.specs.Prelude.{ℕ, List, ◌∷◌};
+ghost use Rattle.std.specs.Prelude.{ℕ, List, ◌∷◌, ◌↔◌, true};
 ghost use Rattle.pmp_encoding.specs.Registers.{cfg_byte};
-ghost use Rattle.sbi_calls.specs.StartAddresses.{ListsAnswer, pair_at};
+ghost use Rattle.sbi_calls.specs.StartAddresses.{FirstAllow, ListsAnswer, pair_at};
