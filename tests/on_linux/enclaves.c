@@ -7,7 +7,7 @@
  *   enclaves user            a user that is not root makes and runs one, where the driver's parameter `mode` lets it
  *   enclaves killed          the process of an enclave that never stops is killed
  *   enclaves fit PAGES N     64 enclaves of so many pages in the pool, and all go, in N random orders
- *   enclaves stuck           enclaves of which none can go but by filled gaps
+ *   enclaves stuck GAP       enclaves of which none can go but by filled gaps of so many pages, beside a file whose enclave is over
  *   enclaves limit N         a process has N enclaves at most (the driver's parameter)
  *   enclaves lives WORKERS N SECONDS LOADS
  *                            so many processes make, run and end N enclaves each, or fewer in that time, beside others that load the machine
@@ -285,6 +285,8 @@ static int times(void)
     sigaction(SIGALRM, &act, 0);
     setitimer(ITIMER_REAL, &once, 0);
     want(run_for(made.file, &r, 0) && errno == EINTR, "a signal comes");
+    setitimer(ITIMER_REAL, &once, 0);
+    want(run_for(made.file, &r, ~0ul) && errno == EINTR, "a signal comes before the end of a time that has none");
     want(!ioctl(made.file, PMPMON_DESTROY_ENCLAVE), "it ends where it is stopped");
     end(&made);
     want(tried(&it, &made, STOPS, 0, 0), "an enclave that stops");
@@ -368,28 +370,56 @@ static int fit(unsigned pages, unsigned orders)
 }
 
 /*
- * Twelve blocks of four pages, each of four enclaves, with an enclave of four pages between two. Then those between go, so that
- * the host's view needs all entries: of a block none can go, since three pages take one entry more than four.
+ * Twelve blocks of four pages, each of four enclaves, with an enclave of `gap` pages between two. Then those between go, so that
+ * the host's view needs all entries: of a block none can go, since three pages take one entry more than four. Of those that went
+ * each has its file.
  */
-static int stuck(void)
+static void make_stuck(unsigned gap, int *of_blocks, int *between)
 {
     struct pmpmon_create_args a;
-    int of_blocks[48], between[11], refused = 0, files[MOST_LIVE];
+    int refused = 0;
     for (int i = 0; i < 59; i++) {
         bool is_between = i % 5 == 4;
-        int file = zeros(is_between ? 4 : 1, &a);
+        int file = zeros(is_between ? gap : 1, &a);
         want(file >= 0, "59 enclaves");
         *(is_between ? &between[i / 5] : &of_blocks[i - i / 5]) = file;
     }
     for (int i = 0; i < 11; i++)
-        want(!ioctl(between[i], PMPMON_DESTROY_ENCLAVE) && !close(between[i]), "those between go");
+        want(!ioctl(between[i], PMPMON_DESTROY_ENCLAVE), "those between go");
     for (int i = 0; i < 48; i++)
         refused += ioctl(of_blocks[i], PMPMON_DESTROY_ENCLAVE) && errno == EAGAIN;
     printf("stuck: of 48 enclaves %d cannot be destroyed\n", refused);
     want(refused == 48, "none of a block can be destroyed");
-    for (int i = 0; i < 48; i++)
-        close(of_blocks[i]);
-    want(fill(files, 16) == MOST_LIVE, "64 enclaves fit after all are closed");
+}
+
+/* How many files and kept enclaves hold the driver. */
+static int holders(void)
+{
+    int n = -1;
+    FILE *file = fopen("/sys/module/pmpmon/refcnt", "r");
+    if (file && fscanf(file, "%d", &n) != 1)
+        n = -1;
+    if (file)
+        fclose(file);
+    return n;
+}
+
+static int stuck(unsigned gap)
+{
+    struct pmpmon_create_args a;
+    int of_blocks[48], between[11], files[MOST_LIVE];
+    make_stuck(gap, of_blocks, between);
+    for (int i = 1; i < 11; i++)
+        close(between[i]);
+    close_all(of_blocks + 1, 47, 1);
+    want(holders() == 47 + 2, "47 that are kept hold the driver, and two files");
+    close(of_blocks[0]);
+    files[0] = zeros(1, &a);
+    want(files[0] >= 0 && a.id == 1, "all go beside a file whose enclave is over");
+    close(files[0]);
+    close(between[0]);
+    want(holders() == 0, "nothing holds the driver then");
+    want(fill(files, 4) == MOST_LIVE, "64 enclaves fit after all are closed");
     close_all(files, MOST_LIVE, 1);
     return wrong;
 }
@@ -736,7 +766,7 @@ int main(int count, char **words)
     if (!strcmp(what, "fit"))
         return fit(first, second);
     if (!strcmp(what, "stuck"))
-        return stuck();
+        return stuck(first);
     if (!strcmp(what, "limit"))
         return limit(first);
     if (!strcmp(what, "lives"))

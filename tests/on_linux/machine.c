@@ -535,12 +535,14 @@ static int monitors_(void)
     catch();
     int file = open("/dev/mem", O_RDONLY), n;
     uint64_t word = 0;
+    if (file < 0)
+        return 2;
     long got = pread(file, &word, 8, 0x80000000);
     printf("    read of /dev/mem at the monitor: %s\n", got == 8 ? "a word" : strerror(errno));
     volatile uint64_t *at = mmap(0, 4096, PROT_READ, MAP_SHARED, file, 0x80000000);
     if (at == MAP_FAILED) {
         printf("    mmap of /dev/mem at the monitor: %s\n", strerror(errno));
-        return got == 8;
+        return 3;
     }
     n = sigsetjmp(back, 1);
     if (!n) {
@@ -694,7 +696,7 @@ static void sbi(void)
 /* A line of the kernel's log that complains. What the test of more memory than there is brings is none: it wants the killer to come. */
 static int is_complaint(const char *text)
 {
-    static const char *const wrong[] = {"WARNING", "BUG", "Oops", "stall", "lockup", "blocked for more", "Call Trace", "scheduling while", "Bad page", "nable to handle", "stays"};
+    static const char *const wrong[] = {"WARNING", "BUG", "Oops", "stall", "lockup", "blocked for more", "Call Trace", "scheduling while", "Bad page", "nable to handle"};
     static int is_of_killer;
     if (strstr(text, "invoked oom-killer"))
         is_of_killer = 1;

@@ -33,6 +33,9 @@ uint64_t enclave_main(uint64_t id, volatile struct pmpmon_page *page)
     case STOPS:
         for (;;)
             pmpmon_stop();
+    case SAYS:
+        for (;;)
+            pmpmon_say("x");
     case WORK:
         value = work(words, at, more);
         return secret == SECRET ? value : 0;

@@ -13,6 +13,7 @@ enum tried {
     FOREVER, /* never stops by itself */
     STOPS,   /* does nothing but stop */
     WORK,    /* `work` below of so many rounds and a seed, and exits with what comes of it */
+    SAYS,    /* says something, without end */
 };
 
 /* Mixes a state through 512 words, which are zero before. */

@@ -54,12 +54,18 @@ MODULE_PARM_DESC(most, "enclaves that one process may have");
 
 enum state { EMPTY, MADE, BEGUN, DONE, GONE };
 
+/*
+ * What pages of the pool are: a file's, with no enclave yet, with one, and after its end; those of an enclave that waits until it can
+ * go, since its file is closed; and what only fills. The last two hold the module, since nothing else would end them.
+ */
+enum use { TAKEN, LIVE, OVER, KEPT, FILLER };
+
 /* Pages of the pool, and the enclave that they are. */
 struct block {
 	struct list_head link;             /* in `blocks`, by address */
 	u64 id;
 	size_t unit, at, private, shared;  /* in pages */
-	bool is_kept, is_filler;
+	enum use use;
 	pid_t owner;
 };
 
@@ -158,7 +164,7 @@ static struct block *take_block(size_t private, size_t shared)
 	b->owner = current->tgid;
 	mutex_lock(&pool_lock);
 	list_for_each_entry(it, &blocks, link)
-		has += !it->is_kept && it->owner == b->owner;
+		has += it->use <= OVER && it->owner == b->owner;
 	if (has >= most) {
 		mutex_unlock(&pool_lock);
 		kfree(b);
@@ -173,13 +179,6 @@ static struct block *take_block(size_t private, size_t shared)
 	mutex_unlock(&pool_lock);
 	kfree(b);
 	return ERR_PTR(-ENOMEM);
-}
-
-static void give_block_back(struct block *b)
-{
-	mutex_lock(&pool_lock);
-	leave(b);
-	mutex_unlock(&pool_lock);
 }
 
 /* Enclaves that are to go, under the pool's lock. */
@@ -233,14 +232,22 @@ static long end_enclave(struct block *b)
 	return gone.error == NO_ENTRIES || gone.error == NO_MEMORY ? -EAGAIN : -EPROTO;
 }
 
-/* The first by address of those that can go, of enclaves or of what fills: whether one went. */
-static bool settle_one(bool filler)
+/* The block stays without a file, for this, until it can go. A caller has a file open, which holds the module too. */
+static void keep(struct block *b, enum use use)
+{
+	b->use = use;
+	__module_get(THIS_MODULE);
+}
+
+/* The first by address of those that can go, of kept enclaves or of what fills: whether one went. */
+static bool settle_one(enum use use)
 {
 	struct block *b, *next;
 
 	list_for_each_entry_safe(b, next, &blocks, link)
-		if (b->is_kept && b->is_filler == filler && !end_enclave(b)) {
+		if (b->use == use && !end_enclave(b)) {
 			leave(b);
+			module_put(THIS_MODULE);
 			return true;
 		}
 	return false;
@@ -248,7 +255,7 @@ static bool settle_one(bool filler)
 
 static void settle_fillers(void)
 {
-	while (settle_one(true))
+	while (settle_one(FILLER))
 		;
 }
 
@@ -263,7 +270,6 @@ static bool fill(size_t unit, size_t at, size_t pages)
 	b->unit = unit;
 	b->at = at;
 	b->private = pages;
-	b->is_kept = b->is_filler = true;
 	made = sbi_ecall(EXTENSION, CREATE, base_of(b), pages, 0, 0, 0, 0);
 	if (made.error) {
 		kfree(b);
@@ -271,59 +277,82 @@ static bool fill(size_t unit, size_t at, size_t pages)
 	}
 	b->id = made.value;
 	enter(b);
+	keep(b, FILLER);
 	mark_closed(b, true);
 	return true;
 }
 
-static bool is_free(size_t unit, size_t at, size_t pages)
+/* Whether each page of a block is closed or free. */
+static bool is_mixed_or_free(size_t unit, size_t at, size_t pages)
 {
-	return find_next_bit(private_used[unit], at + pages, at) >= at + pages;
+	for (size_t i = at; i < at + pages; i++)
+		if (test_bit(i, private_used[unit]) && !test_bit(i, closed[unit]))
+			return false;
+	return true;
 }
 
 /*
- * An aligned block of which one half is closed to the host and the other is free: the free one is filled, small blocks first. Then
+ * In such an aligned block: what is free of the largest aligned one in it that has its free pages side by side, and closed ones. Then
  * the host's view needs no more entries than before, whatever is around it: what is closed as a whole takes one at most, and what
  * is mixed one at least.
  */
-static bool fill_one(void)
+static bool fill_in(size_t unit, size_t at, size_t pages)
 {
-	for (size_t half = 1; half < HALF; half *= 2)
-		for (size_t i = 0; i < units * HALF; i += 2 * half) {
-			size_t unit = i / HALF, at = i % HALF;
+	for (size_t part = pages; part > 1; part /= 2)
+		for (size_t i = at; i < at + pages; i += part) {
+			size_t first = find_next_zero_bit(closed[unit], i + part, i), end = find_next_bit(closed[unit], i + part, first);
 
-			if (is_closed(unit, at, half) && is_free(unit, at + half, half) && fill(unit, at + half, half))
-				return true;
-			if (is_closed(unit, at + half, half) && is_free(unit, at, half) && fill(unit, at, half))
-				return true;
+			if (first < end && end - first < part && is_closed(unit, end, i + part - end))
+				return fill(unit, first, end - first);
 		}
 	return false;
 }
 
-static bool has(bool is_kept)
+/* The smallest aligned block that needs two entries or more, and can be closed as a whole, which needs one: a step on that way. */
+static bool fill_one(void)
+{
+	for (size_t pages = 2; pages <= HALF; pages *= 2)
+		for (size_t i = 0; i < units * HALF; i += pages)
+			if (costs_of(i / HALF, i % HALF, pages).open > 1 && is_mixed_or_free(i / HALF, i % HALF, pages))
+				return fill_in(i / HALF, i % HALF, pages);
+	return false;
+}
+
+static bool has(enum use use)
 {
 	const struct block *b;
 
 	list_for_each_entry(b, &blocks, link)
-		if (b->is_kept == is_kept && !b->is_filler)
+		if (b->use == use)
 			return true;
 	return false;
 }
 
 /*
- * Each kept enclave goes that can, from the lowest address on. Where none can and no other enclave is there, free pages are filled,
- * one block after another, until one can; what fills goes as soon as it can. So all go: once all of a half is closed, the host's view
- * needs one entry for it, and any enclave can go. For what fills the monitor has to have an id left: there are 64.
+ * Each kept enclave goes that can, from the lowest address on. Where none can and no other enclave is live, free pages are filled,
+ * one run after another, until one can; what fills goes as soon as it can. So all go: once all of a half is closed, the host's view
+ * needs one entry for it, and any enclave can go. For what fills the monitor has to have ids left: there are 64, and two runs between
+ * neighbours make an entry free.
  */
 static void settle_all(void)
 {
-	while (has(true)) {
-		if (settle_one(false))
+	while (has(KEPT)) {
+		if (settle_one(KEPT))
 			settle_fillers();
-		else if (has(false) || !fill_one())
+		else if (has(LIVE) || !fill_one())
 			break;
 		cond_resched();
 	}
 	settle_fillers();
+}
+
+static void give_block_back(struct block *b)
+{
+	mutex_lock(&pool_lock);
+	leave(b);
+	/* Its pages may have been in the way. */
+	settle_all();
+	mutex_unlock(&pool_lock);
 }
 
 /* What a file is asked. */
@@ -375,12 +404,17 @@ static int make(struct block *b, struct pmpmon_create_args *a, const void *image
 	if (failed)
 		return failed;
 	a->base = base_of(b);
+	/* Under the lock, as `refused_at` is learnt from the pages that are closed. */
+	mutex_lock(&pool_lock);
 	made = sbi_ecall(EXTENSION, CREATE, a->base, a->text_pages, a->data_pages, shared_base_of(b), a->shared_pages, a->entry_offset);
+	if (!made.error) {
+		b->id = a->id = made.value;
+		b->use = LIVE;
+		mark_closed(b, true);
+	}
+	mutex_unlock(&pool_lock);
 	a->refused = made.error;
-	if (made.error)
-		return -EPROTO;
-	b->id = a->id = made.value;
-	return 0;
+	return made.error ? -EPROTO : 0;
 }
 
 static long create(struct enclave *e, struct pmpmon_create_args *a, const void *image)
@@ -399,9 +433,6 @@ static long create(struct enclave *e, struct pmpmon_create_args *a, const void *
 		give_block_back(b);
 		return failed;
 	}
-	mutex_lock(&pool_lock);
-	mark_closed(b, true);
-	mutex_unlock(&pool_lock);
 	e->state = MADE;
 	/* map_shared reads it without the lock. */
 	smp_store_release(&e->block, b);
@@ -419,6 +450,7 @@ static long destroy(struct enclave *e)
 	failed = end_enclave(e->block);
 	if (!failed) {
 		e->state = GONE;
+		e->block->use = OVER;
 		settle_all();
 	}
 	mutex_unlock(&pool_lock);
@@ -440,7 +472,8 @@ static struct sbiret enter_enclave(struct enclave *e, struct pmpmon_run_args *r)
 /* Until it exits, stops itself, does what it may not, a signal comes, or the time is over. */
 static long run(struct enclave *e, struct pmpmon_run_args *r)
 {
-	u64 end = r->most_ns ? ktime_get_ns() + r->most_ns : 0;
+	/* (a limit beyond the clock's end is none) */
+	u64 end = r->most_ns ? ktime_get_ns() + min_t(u64, r->most_ns, S64_MAX) : 0;
 
 	*r = (struct pmpmon_run_args){ .most_ns = r->most_ns };
 	if (e->state != MADE && e->state != BEGUN)
@@ -587,7 +620,7 @@ static int release(struct inode *inode, struct file *file)
 		if (e->state == GONE)
 			leave(e->block);
 		else
-			e->block->is_kept = true;
+			keep(e->block, KEPT);
 		settle_all();
 		mutex_unlock(&pool_lock);
 	}
@@ -640,13 +673,8 @@ static int __init begin(void)
 
 static void __exit end(void)
 {
-	struct block *b, *next;
-
+	/* No block is left: each is a file's, or holds the module. */
 	misc_deregister(&device);
-	list_for_each_entry_safe(b, next, &blocks, link) {
-		pr_warn("pmpmon: enclave %llu stays\n", b->id);
-		kfree(b);
-	}
 }
 
 module_init(begin);

@@ -3,8 +3,8 @@
  *
  *   pmpmon-run [-i FILE] [-t SECONDS] ENCLAVE.elf [WORD...]
  *
- * -i puts a file's bytes into the shared pages. -t stops the enclave after that time. The words are in its first shared page, and
- * what it says there at a stop is printed. It ends with the lowest byte of the enclave's exit value; with 125 where the enclave
+ * -i puts a file's bytes into the shared pages. -t ends it after that time, however often it stops by itself. The words are in its
+ * first shared page, and what it says there at a stop is printed. It ends with the lowest byte of the enclave's exit value; with 125 where the enclave
  * was not made or did not exit; with 124 where the time was over.
  */
 #include "enclave_file.h"
@@ -14,6 +14,7 @@
 #include <stdlib.h>
 #include <string.h>
 #include <sys/ioctl.h>
+#include <time.h>
 #include <unistd.h>
 
 enum { TIME_OVER = 124, NOT_RUN = 125 };
@@ -95,16 +96,35 @@ static void print_said(volatile struct pmpmon_page *page)
     fflush(stdout);
 }
 
-/* Runs it to its end. */
+static uint64_t now_ns(void)
+{
+    struct timespec t;
+    clock_gettime(CLOCK_MONOTONIC, &t);
+    return (uint64_t)t.tv_sec * 1000000000u + (uint64_t)t.tv_nsec;
+}
+
+static int time_is_over(void)
+{
+    complain("the time is over");
+    return TIME_OVER;
+}
+
+/* Runs it to its end. A run begins anew after each stop, with what is left of the time. */
 static int run(struct loaded *it, uint64_t most_ns)
 {
+    uint64_t end = most_ns ? now_ns() + most_ns : 0;
     for (;;) {
-        struct pmpmon_run_args back = {.most_ns = most_ns};
+        uint64_t now = now_ns();
+        if (end && now >= end)
+            return time_is_over();
+        struct pmpmon_run_args back = {.most_ns = end ? end - now : 0};
         if (ioctl(it->file, PMPMON_RUN_ENCLAVE, &back)) {
             if (errno == EINTR)
                 continue;
-            complain(errno == ETIME ? "the time is over" : "run: %s", strerror(errno));
-            return errno == ETIME ? TIME_OVER : NOT_RUN;
+            if (errno == ETIME)
+                return time_is_over();
+            complain("run: %s", strerror(errno));
+            return NOT_RUN;
         }
         print_said(it->page);
         if (back.error == 0) {
