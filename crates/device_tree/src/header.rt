@@ -1,8 +1,9 @@
 //! The header, and the blocks that it names.
 
-ghost use Rattle.std.specs.Prelude.{◌≡◌, ℕ, ◌+◌, ◌<◌, ◌≤◌, ◌^◌, ◌↔◌, IfOk, IsTrue, MatchOption, OnErr, OnOk, drop, length};
+ghost use Rattle.std.specs.Prelude.{◌≡◌, ℕ, ◌+◌, ◌<◌, ◌≤◌, ◌^◌, ◌↔◌, IfErr, IfOk, IsTrue, MatchOption, OnErr, OnOk, drop, length};
 ghost use Rattle.device_tree.specs.Words.{word_at};
 ghost use Rattle.device_tree.specs.Trees.{AreBlocks, IsBlock, IsHeader, front_of, reservations_of, strings_of, structure_of};
+ghost use Rattle.device_tree.specs.Refusals.{IsHeaderFault, field_of};
 
 use crate::fault::{TreeFault, TreeReason};
 use crate::words::after;
@@ -56,6 +57,8 @@ fn check_blocks(bytes: &[u8]) -> Result<(), TreeFault>
     requires { 40 ≤ length bytes.now }
     ensures ok { OnOk result (AreBlocks bytes.now) }
     ensures refused { OnErr result (AreBlocks bytes.now → ⊥) }
+    ensures reason { IfErr result (λ fault. IsHeaderFault bytes.now fault.reason) }
+    ensures field { IfErr result (λ fault. fault.offset ≡ field_of fault.reason) }
 {
     let structure = word_at(bytes, 8);
     if structure % 4 != 0 || !is_block(bytes, structure, word_at(bytes, 36)) {
@@ -84,6 +87,8 @@ fn check_blocks(bytes: &[u8]) -> Result<(), TreeFault>
 pub(crate) fn check_header(bytes: &[u8]) -> Result<(), TreeFault>
     ensures ok { OnOk result (IsHeader bytes.now) }
     ensures refused { OnErr result (IsHeader bytes.now → ⊥) }
+    ensures reason { IfErr result (λ fault. IsHeaderFault bytes.now fault.reason) }
+    ensures field { IfErr result (λ fault. fault.offset ≡ field_of fault.reason) }
 {
     let (reason, offset) = if bytes.len() < HEADER {
         (TreeReason::ShortHeader, 0)

@@ -1,8 +1,9 @@
 //! How nodes are inside one another: the pieces are a tree.
 
-ghost use Rattle.std.specs.Prelude.{◌≡◌, ℕ, List, [], ◌∷◌, ◌++◌, IfOk, IfSome, OnErr, OnOk, MatchOption, ◌≤◌, drop, length, map};
+ghost use Rattle.std.specs.Prelude.{◌≡◌, ℕ, List, [], ◌∷◌, ◌++◌, IfErr, IfOk, IfSome, OnErr, OnOk, MatchOption, ◌≤◌, drop, length, map};
 ghost use Rattle.device_tree.specs.Pieces.{Part, Setting, begins, ends, has, part_of, parts_of};
 ghost use Rattle.device_tree.specs.Nodes.{AreNodesBefore, BeginsNoNode, HasNoProperty, IsTreeOf, Nodes, Tree};
+ghost use Rattle.device_tree.specs.Refusals.{IsNestingFault, IsShapeFault, IsWrongAt, offset_of, open_reason};
 
 use crate::fault::{TreeFault, TreeReason};
 use crate::pieces::{Piece, PlacedPiece};
@@ -12,8 +13,9 @@ const LEVELS: usize = 63;
 
 /// The first piece, and those behind it.
 fn first_of<'a>(pieces: &'a [PlacedPiece<'a>]) -> Option<(Piece<'a>, &'a [PlacedPiece<'a>])>
-    ensures { MatchOption result (parts_of pieces.now ≡ []) (λ x.
+    ensures parts { MatchOption result (parts_of pieces.now ≡ []) (λ x.
         parts_of pieces.now ≡ part_of x.0 ∷ parts_of x.1.now) }
+    ensures rest { IfSome result (λ x. x.1.now ≡ drop 1 pieces.now) }
 {
     let (first, later) = pieces.split_first()?;
     Some((first.piece, later))
@@ -21,8 +23,10 @@ fn first_of<'a>(pieces: &'a [PlacedPiece<'a>]) -> Option<(Piece<'a>, &'a [Placed
 
 /// What is behind the beginning of a node.
 fn after_begin<'a>(pieces: &'a [PlacedPiece<'a>]) -> Option<&'a [PlacedPiece<'a>]>
-    ensures { MatchOption result (BeginsNoNode (parts_of pieces.now)) (λ later. (name : List ℕ)
+    ensures parts { MatchOption result (BeginsNoNode (parts_of pieces.now))
+        (λ later. (name : List ℕ)
         × (parts_of pieces.now ≡ begins name ∷ parts_of later.now)) }
+    ensures rest { IfSome result (λ later. later.now ≡ drop 1 pieces.now) }
 {
     match first_of(pieces) {
         Some((Piece::Begins(_), later)) => Some(later),
@@ -32,9 +36,10 @@ fn after_begin<'a>(pieces: &'a [PlacedPiece<'a>]) -> Option<&'a [PlacedPiece<'a>
 
 /// What is behind the beginning of a root, which has no name.
 fn after_root<'a>(pieces: &'a [PlacedPiece<'a>]) -> Option<&'a [PlacedPiece<'a>]>
-    ensures { MatchOption result
+    ensures parts { MatchOption result
         ((later : List Part) → parts_of pieces.now ≡ begins [] ∷ later → ⊥)
         (λ later. parts_of pieces.now ≡ begins [] ∷ parts_of later.now) }
+    ensures rest { IfSome result (λ later. later.now ≡ drop 1 pieces.now) }
 {
     match first_of(pieces) {
         Some((Piece::Begins(name), later)) => {
@@ -49,9 +54,10 @@ fn after_root<'a>(pieces: &'a [PlacedPiece<'a>]) -> Option<&'a [PlacedPiece<'a>]
 
 /// What is behind the end of a node.
 fn after_end<'a>(pieces: &'a [PlacedPiece<'a>]) -> Option<&'a [PlacedPiece<'a>]>
-    ensures { MatchOption result
+    ensures parts { MatchOption result
         ((later : List Part) → parts_of pieces.now ≡ ends ∷ later → ⊥)
         (λ later. parts_of pieces.now ≡ ends ∷ parts_of later.now) }
+    ensures rest { IfSome result (λ later. later.now ≡ drop 1 pieces.now) }
 {
     match first_of(pieces) {
         Some((Piece::Ends, later)) => Some(later),
@@ -74,7 +80,8 @@ fn after_property<'a>(pieces: &'a [PlacedPiece<'a>]) -> Option<&'a [PlacedPiece<
 /// What is behind that many pieces, which are there.
 fn after<'a>(pieces: &'a [PlacedPiece<'a>], n: usize) -> &'a [PlacedPiece<'a>]
     requires { n ≤ length pieces.now }
-    ensures { parts_of result.now ≡ drop n (parts_of pieces.now) }
+    ensures parts { parts_of result.now ≡ drop n (parts_of pieces.now) }
+    ensures pieces { result.now ≡ drop n pieces.now }
 {
     &pieces[n..]
 }
@@ -97,7 +104,9 @@ fn properties_len<'a>(pieces: &'a [PlacedPiece<'a>]) -> usize
 }
 
 /// Where the first of the pieces is, or the end of them all.
-fn offset_of<'a>(pieces: &'a [PlacedPiece<'a>], end: usize) -> usize {
+fn offset_of<'a>(pieces: &'a [PlacedPiece<'a>], end: usize) -> usize
+    ensures { result ≡ offset_of pieces.now end }
+{
     match pieces.first() {
         Some(placed) => placed.offset,
         None => end,
@@ -105,7 +114,10 @@ fn offset_of<'a>(pieces: &'a [PlacedPiece<'a>], end: usize) -> usize {
 }
 
 /// One level of nodes too many: it begins with the first of these pieces.
-fn too_deep<'a>(pieces: &'a [PlacedPiece<'a>], end: usize) -> TreeFault {
+fn too_deep<'a>(pieces: &'a [PlacedPiece<'a>], end: usize) -> TreeFault
+    ensures reason { result.reason ≡ TreeReason.TooDeep }
+    ensures offset { result.offset ≡ offset_of pieces.now end }
+{
     TreeFault {
         reason: TreeReason::TooDeep,
         offset: offset_of(pieces, end),
@@ -113,7 +125,10 @@ fn too_deep<'a>(pieces: &'a [PlacedPiece<'a>], end: usize) -> TreeFault {
 }
 
 /// Why a node does not end at the piece in front.
-fn not_ended<'a>(pieces: &'a [PlacedPiece<'a>], end: usize) -> TreeFault {
+fn not_ended<'a>(pieces: &'a [PlacedPiece<'a>], end: usize) -> TreeFault
+    ensures reason { result.reason ≡ open_reason (parts_of pieces.now) }
+    ensures offset { result.offset ≡ offset_of pieces.now end }
+{
     let reason = if pieces.is_empty() {
         TreeReason::UnendedNode
     } else {
@@ -136,6 +151,7 @@ fn nodes_len<'a>(
         × AreNodesBefore levels (parts_of pieces.now) nodes (drop n (parts_of pieces.now))) }
     ensures refused { OnErr result ((nodes : Nodes) (later : List Part)
         → AreNodesBefore levels (parts_of pieces.now) nodes later → ⊥) }
+    ensures reason { IfErr result (IsWrongAt (IsNestingFault levels) pieces.now end) }
 {
     let mut at = 0;
     'nodes: loop {
@@ -164,6 +180,7 @@ fn nodes_len<'a>(
 pub(crate) fn check_tree<'a>(pieces: &'a [PlacedPiece<'a>], end: usize) -> Result<(), TreeFault>
     ensures ok { OnOk result ((tree : Tree) × IsTreeOf (parts_of pieces.now) tree) }
     ensures refused { OnErr result ((tree : Tree) → IsTreeOf (parts_of pieces.now) tree → ⊥) }
+    ensures reason { IfErr result (IsWrongAt IsShapeFault pieces.now end) }
 {
     let Some(inner) = after_root(pieces) else {
         return Err(TreeFault {

@@ -4,6 +4,8 @@ ghost use Rattle.std.specs.Prelude.{◌≡◌, ◌+◌, ◌<◌, ◌≤◌, ◌^
 ghost use Rattle.device_tree.specs.declared.pieces.Token.{Token};
 ghost use Rattle.device_tree.specs.Words.{BeginsWith, BeginsWithText, Leaves, padded};
 ghost use Rattle.device_tree.specs.Pieces.{IsStep, NoPart, Part, SpellsPart, SpellsParts, part_of, parts_of, token_number};
+ghost use Rattle.device_tree.specs.Places.{ArePlaced, block_at};
+ghost use Rattle.device_tree.specs.Refusals.{IsTokenFault, IsTokenFaultIn};
 
 use crate::fault::{TreeFault, TreeReason};
 use crate::words::{after, behind, padded, text_in};
@@ -33,8 +35,10 @@ pub enum Piece<'a> {
 
 /// The token in front.
 fn token_in(bytes: &[u8]) -> Result<Token, TreeReason>
-    ensures { MatchResult result (λ token. BeginsWith bytes.now (token_number token))
+    ensures token { MatchResult result (λ token. BeginsWith bytes.now (token_number token))
         (λ _. (token : Token) → BeginsWith bytes.now (token_number token) → ⊥) }
+    ensures reason { IfErr result (λ reason. (strings : List ℕ)
+        → IsTokenFault strings bytes.now reason) }
 {
     if bytes.len() < 4 {
         return Err(TreeReason::NoToken);
@@ -52,8 +56,10 @@ fn token_in(bytes: &[u8]) -> Result<Token, TreeReason>
 /// The node that begins here, and the rest.
 fn node_in<'a>(strings: &[u8], bytes: &'a [u8]) -> Result<(Piece<'a>, &'a [u8]), TreeReason>
     requires { BeginsWith bytes.now 1 }
-    ensures { MatchResult result (λ x. SpellsPart strings.now bytes.now (part_of x.0) x.1.now)
+    ensures part { MatchResult result (λ x.
+        SpellsPart strings.now bytes.now (part_of x.0) x.1.now)
         (λ _. NoPart strings.now bytes.now) }
+    ensures reason { IfErr result (IsTokenFault strings.now bytes.now) }
 {
     let Some(name) = text_in(after(bytes, 4)) else {
         return Err(TreeReason::UnendedName);
@@ -67,8 +73,10 @@ fn node_in<'a>(strings: &[u8], bytes: &'a [u8]) -> Result<(Piece<'a>, &'a [u8]),
 /// The property that is here, and the rest.
 fn property_in<'a>(strings: &'a [u8], bytes: &'a [u8]) -> Result<(Piece<'a>, &'a [u8]), TreeReason>
     requires { BeginsWith bytes.now 3 }
-    ensures { MatchResult result (λ x. SpellsPart strings.now bytes.now (part_of x.0) x.1.now)
+    ensures part { MatchResult result (λ x.
+        SpellsPart strings.now bytes.now (part_of x.0) x.1.now)
         (λ _. NoPart strings.now bytes.now) }
+    ensures reason { IfErr result (IsTokenFault strings.now bytes.now) }
 {
     if bytes.len() < 12 {
         return Err(TreeReason::PastBlock);
@@ -98,8 +106,9 @@ enum Step<'a> {
 /// The part that a token begins, and the rest.
 fn part_in<'a>(strings: &'a [u8], bytes: &'a [u8], token: Token) -> Result<Step<'a>, TreeReason>
     requires { BeginsWith bytes.now (token_number token) }
-    ensures { MatchResult result (IsStep strings.now bytes.now)
+    ensures step { MatchResult result (IsStep strings.now bytes.now)
         (λ _. (parts : List Part) → SpellsParts strings.now bytes.now parts → ⊥) }
+    ensures reason { IfErr result (IsTokenFault strings.now bytes.now) }
 {
     match token {
         Token::BeginNode => {
@@ -124,8 +133,9 @@ fn part_in<'a>(strings: &'a [u8], bytes: &'a [u8], token: Token) -> Result<Step<
 /// What comes next.
 #[tactic(auto, using(crate::proofs::Parts::no_token))]
 fn step_in<'a>(strings: &'a [u8], bytes: &'a [u8]) -> Result<Step<'a>, TreeReason>
-    ensures { MatchResult result (IsStep strings.now bytes.now)
+    ensures step { MatchResult result (IsStep strings.now bytes.now)
         (λ _. (parts : List Part) → SpellsParts strings.now bytes.now parts → ⊥) }
+    ensures reason { IfErr result (IsTokenFault strings.now bytes.now) }
 {
     match token_in(bytes) {
         Ok(token) => part_in(strings, bytes, token),
@@ -152,6 +162,10 @@ pub(crate) fn pieces_in<'a>(
         SpellsParts strings.now block.now (parts_of pieces.items)) }
     ensures refused { IfErr result (λ fault. fault.reason ≢ TreeReason.Memory
         → (parts : List Part) → SpellsParts strings.now block.now parts → ⊥) }
+    ensures places { IfOk result (λ pieces.
+        ArePlaced (block_at strings.now block.now start) pieces.items) }
+    ensures reason { IfErr result (λ fault. fault.reason ≢ TreeReason.Memory
+        → IsTokenFaultIn (block_at strings.now block.now start) fault) }
 {
     let mut pieces = Vec::new(alloc);
     let mut rest = block;

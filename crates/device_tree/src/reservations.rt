@@ -3,6 +3,7 @@
 ghost use Rattle.std.specs.Prelude.{◌≡◌, ◌≢◌, ◌≤◌, ◌+◌, ◌<◌, ◌^◌, ℕ, List, IfErr, IfOk, IsTrue, ◌↔◌, length};
 ghost use Rattle.device_tree.specs.Words.{double_word_at};
 ghost use Rattle.device_tree.specs.Trees.{BeginsWithReservations};
+ghost use Rattle.device_tree.specs.Refusals.{IsUnended};
 ghost use Rattle.device_tree.specs.declared.reservations.Reservation.{Reservation};
 
 use crate::fault::{TreeFault, TreeReason};
@@ -46,6 +47,9 @@ pub(crate) fn reservations_in(
     ensures ok { IfOk result (λ list. BeginsWithReservations bytes.now list.items) }
     ensures refused { IfErr result (λ fault. fault.reason ≢ TreeReason.Memory
         → (list : List Reservation) → BeginsWithReservations bytes.now list → ⊥) }
+    ensures reason { IfErr result (λ fault. fault.reason ≢ TreeReason.Memory
+        → (fault.reason ≡ TreeReason.UnendedReservations)
+        × (read : ℕ) × IsUnended bytes.now read × (fault.offset ≡ start + read)) }
 {
     let mut list = Vec::new(alloc);
     let mut at = 0;

@@ -4,7 +4,9 @@ ghost use Rattle.std.specs.Prelude.{◌≡◌, ◌≢◌, ℕ, List, IfErr, IfOk
 ghost use Rattle.device_tree.specs.declared.reservations.Reservation.{Reservation};
 ghost use Rattle.device_tree.specs.Pieces.{parts_of};
 ghost use Rattle.device_tree.specs.Nodes.{AreWithin, Tree, parts_of_tree};
-ghost use Rattle.device_tree.specs.Trees.{ReadsAs, SpellsTree};
+ghost use Rattle.device_tree.specs.Trees.{ReadsAs, SpellsTree, front_of};
+ghost use Rattle.device_tree.specs.Places.{ArePlaced, block_of};
+ghost use Rattle.device_tree.specs.Refusals.{IsTreeFault};
 
 use crate::fault::{TreeFault, TreeReason};
 use crate::header::{
@@ -32,6 +34,9 @@ fn read_whole<'a>(alloc: Global, bytes: &'a [u8]) -> Result<DeviceTree<'a>, Tree
     ensures refused { IfErr result (λ fault. fault.reason ≢ TreeReason.Memory
         → (tree : Tree) (reservations : List Reservation)
         → SpellsTree bytes.now tree reservations → AreWithin 63 tree.children → ⊥) }
+    ensures places { IfOk result (λ read. ArePlaced (block_of bytes.now) read.pieces.items) }
+    ensures reason { IfErr result (λ fault. fault.reason ≢ TreeReason.Memory
+        → IsTreeFault bytes.now fault) }
 {
     match check_header(bytes) {
         Ok(()) => {}
@@ -68,6 +73,10 @@ pub fn read_tree<'a>(alloc: Global, bytes: &'a [u8]) -> Result<DeviceTree<'a>, T
     ensures refused { IfErr result (λ fault. fault.reason ≢ TreeReason.Memory
         → (tree : Tree) (reservations : List Reservation)
         → ReadsAs bytes.now tree reservations → ⊥) }
+    ensures places { IfOk result (λ read.
+        ArePlaced (block_of (front_of bytes.now)) read.pieces.items) }
+    ensures reason { IfErr result (λ fault. fault.reason ≢ TreeReason.Memory
+        → IsTreeFault (front_of bytes.now) fault) }
 {
     match front_of(bytes) {
         Some(front) => match read_whole(alloc, front) {

@@ -8,5 +8,9 @@ use Rattle.device_tree.proofs.nesting.after.Goals as goal
 rest_from : {X : Type 0} (n : ℕ) (xs : List X) → take (length xs - n) (drop n xs) ≡ drop n xs
 rest_from n xs = grind (arith, common_steps)
 
-pub returns : goal.returns
-returns c = ap parts_of (rest_from c.args.n c.args.pieces.now) ∙ sym (drop-map (λ (x : PlacedPiece). part_of x.piece) c.args.n c.args.pieces.now)
+pub returns-clause-parts : goal.returns-clause-parts
+returns-clause-parts c =
+    ap parts_of (rest_from c.args.n c.args.pieces.now) ∙ sym (drop-map (λ (x : PlacedPiece). part_of x.piece) c.args.n c.args.pieces.now)
+
+pub returns-clause-pieces : goal.returns-clause-pieces
+returns-clause-pieces c = rest_from c.args.n c.args.pieces.now

@@ -19,7 +19,7 @@ properties-preserved c =
     let before = c.properties.invariant.before in
     let found = c.in-Some.ensures in
     let next = longer (parts_of c.args.pieces.now) (parts_of c.after.result.now) (parts_of c.in-Some.field-0.now) found.0 c.properties.at
-    before.0 before.1 c.after.ensures found.1 in
+    before.0 before.1 c.after.ensures.parts found.1 in
     record {
       within = omega (arith, next.1, length-map c.args.pieces.now (λ (x : PlacedPiece). part_of x.piece));
       before = (before.0 ++ found.0 ∷ [], next.0);

@@ -1,4 +1,4 @@
-use Rattle.std.proofs.Common.{◌≡◌, ◌-◌, ◌≤◌, ◌∙◌, ap, sym, subst, ℕ, List, [], ◌++◌, append-nil, drop, length, length-drop, arith}
+use Rattle.std.proofs.Common.{◌≡◌, ◌-◌, refl, ◌≤◌, ◌∙◌, ap, sym, subst, ℕ, List, [], ◌++◌, append-nil, drop, length, length-drop, arith}
 use Rattle.device_tree.specs.declared.reservations.Reservation.{Reservation}
 use Rattle.device_tree.specs.Words.{double_word_at}
 use Rattle.device_tree.specs.Trees.{BeginsWithReservations}
@@ -12,6 +12,23 @@ pub returns-then-bytes-at-lt16-clause-refused : goal.returns-then-bytes-at-lt16-
 returns-then-bytes-at-lt16-clause-refused c = λ _ all spelt.
     let was = c.pairs.invariant.left all spelt in
     too_short (drop c.pairs.at c.args.bytes.now) was.0 (omega (arith, c.if-bytes-at-lt16.true, length-drop c.pairs.at c.args.bytes.now)) was.2
+
+pub returns-then-bytes-at-lt16-clause-reason : goal.returns-then-bytes-at-lt16-clause-reason
+returns-then-bytes-at-lt16-clause-reason c = λ _.
+    let bytes = c.args.bytes.now in
+    let at = c.pairs.at in
+    let few = c.if-bytes-at-lt16.true in (
+      refl,
+      at,
+      record {
+        none = λ all spelt. let was = c.pairs.invariant.left all spelt in
+            too_short (drop at bytes) was.0 (omega (arith, few, length-drop at bytes)) was.2;
+        whole = c.pairs.invariant.whole_pairs;
+        inside = c.pairs.invariant.within;
+        few = omega (arith, few, c.pairs.invariant.within);
+      },
+      refl,
+    )
 
 pub pairs-preserved : goal.pairs-preserved
 pairs-preserved c =
@@ -27,6 +44,7 @@ pairs-preserved c =
     let now = c.in-Ok.ensures.items in
     record {
       within = omega (arith, is.long, length-drop at bytes);
+      whole_pairs = omega (arith, c.pairs.invariant.whole_pairs);
       whole = λ later spelt. subst (λ (x : List Reservation). BeginsWithReservations bytes (x ++ later)) (sym now)
           (and_pair bytes at c.pairs.list.items pair is c.pairs.invariant.whole later spelt);
       left = λ all spelt. let w = left_pair bytes at c.pairs.list.items pair is c.pairs.invariant.left all spelt in

@@ -1,5 +1,7 @@
-use Rattle.std.proofs.Common.{sym, subst, ℕ, List}
-use Rattle.device_tree.specs.Trees.{SpellsTree}
+use Rattle.std.proofs.Common.{sym, subst, refl, ℕ, List, arith, length-take}
+use Rattle.device_tree.specs.Trees.{SpellsTree, front_of}
+use Rattle.device_tree.specs.Places.{ArePlaced, block_of}
+use Rattle.device_tree.specs.Refusals.{IsTreeFault, of_header}
 use Rattle.device_tree.proofs.tree.read_tree.Goals as goal
 
 pub returns-in-Ok-clause-ok : goal.returns-in-Ok-clause-ok
@@ -18,3 +20,10 @@ returns-in-Ok-clause-ok c =
 pub returns-in-Err-clause-refused : goal.returns-in-Err-clause-refused
 returns-in-Err-clause-refused c = λ other tree reservations reads.
     c.in-Err.ensures.refused other tree reservations (subst (λ (x : List ℕ). SpellsTree x tree reservations) (sym c.in-Some.ensures.0) reads.spelt) reads.within
+
+pub returns-in-Ok-clause-places : goal.returns-in-Ok-clause-places
+returns-in-Ok-clause-places c = subst (λ (x : List ℕ). ArePlaced (block_of x) c.in-Ok.read.pieces.items) c.in-Some.ensures.0 c.in-Ok.ensures.places
+
+pub returns-in-Err-clause-reason : goal.returns-in-Err-clause-reason
+returns-in-Err-clause-reason c = λ memory.
+    subst (λ (x : List ℕ). IsTreeFault x c.in-Err.fault) c.in-Some.ensures.0 (c.in-Err.ensures.reason memory)
