@@ -38,27 +38,13 @@ static const struct named refusals[] = {
     {PMPMON_BAD_WORD, "a digest has the words 0 to 3"},
 };
 
-/* Privileged Architecture, table of mcause. */
-static const struct named causes[] = {
-    {0, "instruction address misaligned"},
-    {1, "instruction access fault"},
-    {2, "illegal instruction"},
-    {3, "breakpoint"},
-    {4, "load address misaligned"},
-    {5, "load access fault"},
-    {6, "store address misaligned"},
-    {7, "store access fault"},
-    {8, "its own call"},
-};
-
-static const char *name_of(int64_t number, const struct named *names, unsigned count)
+static const char *refusal_name(int64_t error)
 {
-    for (unsigned i = 0; i < count; i++)
-        if (names[i].number == number)
-            return names[i].name;
-    return "an interrupt";
+    for (unsigned i = 0; i < sizeof refusals / sizeof *refusals; i++)
+        if (refusals[i].number == error)
+            return refusals[i].name;
+    return "an answer that is not known";
 }
-#define NAME_OF(number, names) name_of((int64_t)(number), names, sizeof(names) / sizeof(names)[0])
 
 static int is_same(const char *a, const char *b)
 {
@@ -89,7 +75,7 @@ static int refused(int64_t error)
     put("refused, ");
     put_number(error);
     put(": ");
-    put(NAME_OF(error, refusals));
+    put(refusal_name(error));
     put("\r\n");
     return 1;
 }
@@ -116,7 +102,7 @@ static int came_back(struct pmpmon_answer back)
     } else {
         uint64_t cause = pmpmon_stop_cause().value;
         put("stopped by ");
-        put(NAME_OF(cause, causes));
+        put(pmpmon_cause_name(cause));
         if (cause < CAUSE_CALL_OF_USER) {
             put(", at ");
             put_hex(pmpmon_stop_value().value);
@@ -160,7 +146,7 @@ static int peek(uint64_t at)
 {
     uint64_t value = 0, cause = (uint64_t)load_at(at, &value);
     if (cause)
-        put(NAME_OF(cause, causes));
+        put(pmpmon_cause_name(cause));
     else
         put_hex(value);
     put("\r\n");

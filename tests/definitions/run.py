@@ -305,35 +305,39 @@ def others(specs, found):
     return "\n".join(lines)
 
 
+def write(specs, found, wanted, page):
+    """The page with each row behind the file that it is in now, and with those that were missing."""
+    lines, crate = [], None
+    for line in page.split(f"## {APART}")[0].rstrip("\n").split("\n"):
+        if line.startswith("## "):
+            crate = (re.match(r"#+ .*`crates/(\w+)/specs`", line) or [None, None])[1]
+        line = mended(line, crate, specs, found) if crate and line.startswith("|") and ROW.search(line) else line
+        lines += [] if line is None else [line]
+    named, sections = rows("\n".join(lines))
+    missing = [key for key in wanted if key not in set(named)]
+    for crate in sorted({c for c, _, _ in missing}, key=lambda c: -sections.get(c, -1)):
+        new = []
+        for _, file, name in [m for m in missing if m[0] == crate]:
+            new.append(f"| {name} | `{file}`: `{name}` | {words_of(specs.items[wanted[(crate, file, name)]])} |")
+        if crate in sections:
+            lines[sections[crate] + 1:sections[crate] + 1] = new
+        else:
+            lines += ["", f"## `crates/{crate}/specs`", "", "| Name | Definitions | Meaning |", "|---|---|---|", *new]
+    PAGE.write_text("\n".join(lines) + f"\n\n## {APART}\n\n{others(specs, found)}\n")
+    print(f"{len(missing)} rows written")
+
+
 def main():
     specs = Specs()
     found, _ = trusted(specs)
     page = PAGE.read_text()
-    named, sections = rows(page)
+    named, _ = rows(page)
     wanted = {(specs.items[i]["crate"], specs.items[i]["file"], specs.items[i]["name"]): i for i in specs.order if i in found}
     there = {(e["crate"], e["file"], e["name"]) for e in specs.items.values()}
-    missing = [key for key in wanted if key not in set(named)]
     if "--write" in sys.argv:
-        lines, crate = [], None
-        for line in page.split(f"## {APART}")[0].rstrip("\n").split("\n"):
-            if line.startswith("## "):
-                crate = (re.match(r"#+ .*`crates/(\w+)/specs`", line) or [None, None])[1]
-            line = mended(line, crate, specs, found) if crate and line.startswith("|") and ROW.search(line) else line
-            lines += [] if line is None else [line]
-        named, sections = rows("\n".join(lines))
-        missing = [key for key in wanted if key not in set(named)]
-        for crate in sorted({c for c, _, _ in missing}, key=lambda c: -sections.get(c, -1)):
-            new = []
-            for _, file, name in [m for m in missing if m[0] == crate]:
-                new.append(f"| {name} | `{file}`: `{name}` | {words_of(specs.items[wanted[(crate, file, name)]])} |")
-            if crate in sections:
-                lines[sections[crate] + 1:sections[crate] + 1] = new
-            else:
-                lines += ["", f"## `crates/{crate}/specs`", "", "| Name | Definitions | Meaning |", "|---|---|---|", *new]
-        text = "\n".join(lines) + f"\n\n## {APART}\n\n{others(specs, found)}\n"
-        PAGE.write_text(text)
-        print(f"{len(missing)} rows written")
+        write(specs, found, wanted, page)
         return
+    missing = [key for key in wanted if key not in set(named)]
     failures = [f"{c}/specs/{f}: {n} is missing" for c, f, n in missing]
     failures += [f"{c}/specs/{f}: {n} is not there" for c, f, n in named if (c, f, n) not in there]
     failures += [f"{c}/specs/{f}: {n} is used by no public clause" for c, f, n in named if (c, f, n) in there and (c, f, n) not in wanted]

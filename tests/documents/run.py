@@ -291,22 +291,23 @@ def firmware_is_counted():
     return text[slice(*between(text, "lines"))] == firmware_lines()
 
 
-def main():
-    graph = crates()
-    parts = {"crates": tables(), "graph": drawing(graph)}
-    if "--write" in sys.argv:
-        text = PAGE.read_text()
-        for name, wanted in parts.items():
-            start, end = between(text, name)
-            text = text[:start] + wanted + text[end:]
-        PAGE.write_text(text)
-        text = FIRMWARE.read_text()
-        start, end = between(text, "lines")
-        FIRMWARE.write_text(text[:start] + firmware_lines() + text[end:])
-        return 0
+def write(parts):
+    """The tables, the graph and the lines of the firmware, anew."""
+    text = PAGE.read_text()
+    for name, wanted in parts.items():
+        start, end = between(text, name)
+        text = text[:start] + wanted + text[end:]
+    PAGE.write_text(text)
+    text = FIRMWARE.read_text()
+    start, end = between(text, "lines")
+    FIRMWARE.write_text(text[:start] + firmware_lines() + text[end:])
+
+
+def checks_of(graph, parts):
+    """What is checked, by its name: each check's words, and whether it is so."""
     text = PAGE.read_text()
     places = {name: between(text, name) for name in parts}
-    kinds = {
+    return {
         "the tables and the graph of crates": [
             *((f"docs/ARCHITECTURE.md: {name} (tests/documents/run.py --write)", bool(places[name]) and text[slice(*places[name])] == wanted) for name, wanted in parts.items()),
             *((f"crates/{it}: its doc says what it is for", bool(purpose(it))) for it in graph),
@@ -330,7 +331,15 @@ def main():
         "wrong bodies that stay": list(wrong_bodies()),
         "the lines of the firmware": [("firmware/README.md: lines (tests/documents/run.py --write)", firmware_is_counted())],
     }
-    failed = 0
+
+
+def main():
+    graph = crates()
+    parts = {"crates": tables(), "graph": drawing(graph)}
+    if "--write" in sys.argv:
+        write(parts)
+        return 0
+    kinds, failed = checks_of(graph, parts), 0
     for name, checks in kinds.items():
         bad = [what for what, good in checks if not good]
         failed += len(bad)

@@ -52,10 +52,13 @@ LINES = {
 }
 
 
-def programs(lacks):
-    """What a hart does, by the name of each step: the fence before it, its kind, its words, and the step after it."""
+def lock(lacks):
+    """How a hart comes by the lock, how it gives it up, and how it wakes the other: steps as `programs` has them."""
     full = "" if "fence after the CLINT" in lacks else "all"
-    lock = {
+    wakes = ("" if "fence before it wakes" in lacks else "all", "wake")
+    if "tickets" in lacks:
+        return {"lock": ("", "swap", "in")}, (full or "memory", "release"), wakes
+    comes = {
         "lock": ("", "ticket", "spin"),
         "spin": ("", "called", "in", "sleep"),
         "sleep": ("", "store", "sleeps", 1, "sleep2"),
@@ -64,12 +67,13 @@ def programs(lacks):
         "sleep4": ("", "wfi", "sleep2"),
         "awake": ("", "store", "sleeps", 0, "in"),
     }
-    if "tickets" in lacks:
-        lock = {"lock": ("", "swap", "in")}
-    gives_up = (full or "memory", "release") if "tickets" in lacks else (full, "next")
-    wakes = ("" if "fence before it wakes" in lacks else "all", "wake")
+    return comes, (full, "next"), wakes
+
+
+def alone(lacks):
+    """A world, what is asked of its hart without the lock, and the way out: its two looks, each with the step after it."""
+    full = "" if "fence after the CLINT" in lacks else "all"
     after_halted = "" if "fence after halted" in lacks else "memory"
-    # The way out: its two looks, each with the step after it.
     first, second = ("requests", "stop?") if "requests before the look" not in lacks else ("stop?", "requests")
     after = {first: second, second: "load"}
     return {
@@ -93,9 +97,17 @@ def programs(lacks):
         "fence2": ("memory", "count up", "fence3"),
         "fence3": ("all", "raise", "fenced"),
         "fenced": ("", "fenced"),
+    }
+
+
+def programs(lacks):
+    """What a hart does, by the name of each step: the fence before it, its kind, its words, and the step after it."""
+    comes, gives_up, wakes = lock(lacks)
+    return {
+        **alone(lacks),
         # the monitor
         "trap": ("memory", "store", "halted", 1, "lock"),
-        **lock,
+        **comes,
         "in": ("", "what"),
         "stop": ("memory", "tell", "stopping", 1, "look"),
         "look": ("" if "fence after stopping" in lacks else "memory", "halted?", "change", "raise"),
@@ -206,38 +218,55 @@ def fenced(state, hart, number):
     return put(state, 7, hart, state[7][hart] & ~FENCE) if number is None else state
 
 
-def steps(state, hart, program, has, lacks):
-    """What a hart may do next: (whether it is free not to, the state)."""
-    step, call, number, passed = state[0][hart]
-    fence, kind, *words = program[step]
-    other, memory, clint = 1 - hart, state[1][hart], state[2][hart]
-
-    def to(name, state=state, call=call, number=number, passed=passed):
-        return put(state, 0, hart, (name, call, number, passed))
-
-    if fence and memory or fence == "all" and clint or max(len(memory), len(clint)) == ROOM:
-        return
+def world_steps(state, hart, kind, words, to, has, lacks):
+    """A world, and what it calls the monitor for."""
+    other, call = 1 - hart, state[0][hart][1]
     if kind == "world":
         if state[6][hart]:
             yield False, to("clear", call="alone")
         yield True, to("trap")
         if "fences" in has and (state[8][other] - state[9][other]) % TURN < (1 if "one" in has else 2):
             yield True, to("fence")
-    elif kind == "store":
+    elif kind == "what":
+        for it in calls(state, hart, has):
+            yield False, to(it)
+    elif kind == "leave":
+        yield False, to(words[0], call="leave")
+    elif kind == "load":
+        is_stale = seen(state, hart, "stale", hart)
+        done = stored(put(state, OLD, hart, 0), hart, "stale", hart, 0) if is_stale else state
+        yield False, to("unlock" if call == "leave" else "world", done, call="")
+
+
+def store_steps(state, hart, kind, words, to, has, lacks):
+    """Stores, and the sleep until one of them comes."""
+    other = 1 - hart
+    if kind == "store":
         yield False, to(words[2], stored(state, hart, words[0], hart, words[1]))
-    elif kind == "ask":
-        yield False, to(words[1], put(put(state, LACKS, other, 1), 7, other, state[7][other] | words[0]))
     elif kind == "tell":
         # (the entries change where they are told to be others)
         yield False, to(words[2], stored(put(state, OLD, other, 1) if words[0] == "stale" else state, hart, words[0], other, words[1]))
-    elif kind == "leave":
-        yield False, to(words[0], call="leave")
+    elif kind == "raise":
+        yield False, to(words[0], stored(state, hart, "clint", other, 1))
+    elif kind == "want":
+        yield False, to(words[0], stored(state, hart, "wanted", other, 1))
+    elif kind == "wake":
+        yield False, to(words[0], stored(state, hart, "clint", other, 1) if seen(state, hart, "sleeps", other) else state)
+    elif kind == "wfi" and state[6][hart]:
+        yield False, to(words[0])
+
+
+def fence_steps(state, hart, kind, words, to, has, lacks):
+    """Fences that are asked for, made and waited for."""
+    other, (step, call, number, _) = 1 - hart, state[0][hart]
+    if kind == "ask":
+        yield False, to(words[1], put(put(state, LACKS, other, 1), 7, other, state[7][other] | words[0]))
     elif kind == "count up":
         yield False, to(words[0], put(state, 8, other, (state[8][other] + 1) % TURN), number=(state[8][other] + 1) % TURN)
     elif kind == "fenced":
         if seen(state, hart, "halted", other) or seen(state, hart, "fenced", other) == number:
             yield False, to("world", put(state, OWES, other, state[LACKS][other]), number=0)
-        elif "fences while it waits" not in lacks and (state[7][hart] & FENCE or state[8][hart] != seen(state, hart, "fenced", hart)) and not memory:
+        elif "fences while it waits" not in lacks and (state[7][hart] & FENCE or state[8][hart] != seen(state, hart, "fenced", hart)) and not state[1][hart]:
             # (make_fences, of which nothing is seen apart but by the hart itself)
             done = state if not state[7][hart] & FENCE else put(fenced(state, hart, 0), 7, hart, state[7][hart] & ~FENCE)
             yield False, to(step, stored(done, hart, "fenced", hart, state[8][hart]))
@@ -248,26 +277,21 @@ def steps(state, hart, program, has, lacks):
         yield False, to(words[0], done)
     elif kind == "made":
         yield False, to(words[0] if call == "alone" else words[1], stored(state, hart, "fenced", hart, number), call="" if call == "alone" else call, number=0)
-    elif kind == "stop?":
-        yield False, to(words[0] if seen(state, hart, "stopping", hart) else words[1])
-    elif kind == "stands" and not seen(state, hart, "stopping", hart):
-        yield False, to(words[0])
-    elif kind == "load":
-        is_stale = seen(state, hart, "stale", hart)
-        done = stored(put(state, OLD, hart, 0), hart, "stale", hart, 0) if is_stale else state
-        yield False, to("unlock" if call == "leave" else "world", done, call="")
     elif kind == "requests":
         is_asked = state[7][hart] or "look at the count" not in lacks and state[8][hart] != seen(state, hart, "fenced", hart)
         yield False, to("clear" if is_asked else words[0])
-    elif kind == "ticket":
+
+
+def lock_steps(state, hart, kind, words, to, has, lacks):
+    """The lock, by tickets or by a swap."""
+    step, _, number, _ = state[0][hart]
+    if kind == "ticket":
         yield False, to(words[0], put(state, 3, 0, (state[3][0] + 1) % TURN), number=state[3][0])
     elif kind == "called":
         if seen(state, hart, "lock", 1) == number:
             yield False, to(words[0], went_in(state, hart), number=0, passed=0)
         if "sleep" in has and (step == "spin" or seen(state, hart, "lock", 1) != number):
             yield False, to(words[1])
-    elif kind == "wake":
-        yield False, to(words[0], stored(state, hart, "clint", other, 1) if seen(state, hart, "sleeps", other) else state)
     elif kind == "swap":
         # (a number below zero says that it has tried)
         if not state[3][0]:
@@ -278,22 +302,44 @@ def steps(state, hart, program, has, lacks):
         yield False, to(words[0], put(state, 3, 0, 0))
     elif kind == "next":
         yield False, to(words[0], stored(state, hart, "lock", 1, (seen(state, hart, "lock", 1) + 1) % TURN))
-    elif kind == "what":
-        for it in calls(state, hart, has):
-            yield False, to(it)
-    elif kind == "raise":
-        yield False, to(words[0], stored(state, hart, "clint", other, 1))
-    elif kind == "want":
-        yield False, to(words[0], stored(state, hart, "wanted", other, 1))
+
+
+def stop_steps(state, hart, kind, words, to, has, lacks):
+    """What a hart loads that is stopped, parked, or stops the other."""
+    if kind == "stop?":
+        yield False, to(words[0] if seen(state, hart, "stopping", hart) else words[1])
+    elif kind == "stands" and not seen(state, hart, "stopping", hart):
+        yield False, to(words[0])
     elif kind == "halted?":
-        yield False, to(words[0] if seen(state, hart, "halted", other) else words[1])
+        yield False, to(words[0] if seen(state, hart, "halted", 1 - hart) else words[1])
     elif kind == "wait":
-        if seen(state, hart, "halted", other):
+        if seen(state, hart, "halted", 1 - hart):
             yield False, to(words[0])
     elif kind == "wanted":
         yield False, to(words[0] if seen(state, hart, "wanted", hart) else words[1])
-    elif kind == "wfi" and state[6][hart]:
-        yield False, to(words[0])
+
+
+STEPS = {
+    **dict.fromkeys(("world", "what", "leave", "load"), world_steps),
+    **dict.fromkeys(("store", "tell", "raise", "want", "wake", "wfi"), store_steps),
+    **dict.fromkeys(("ask", "count up", "fenced", "count", "fences", "made", "requests"), fence_steps),
+    **dict.fromkeys(("ticket", "called", "swap", "release", "next"), lock_steps),
+    **dict.fromkeys(("stop?", "stands", "halted?", "wait", "wanted"), stop_steps),
+}
+
+
+def steps(state, hart, program, has, lacks):
+    """What a hart may do next: (whether it is free not to, the state)."""
+    step, call, number, passed = state[0][hart]
+    fence, kind, *words = program[step]
+    memory, clint = state[1][hart], state[2][hart]
+
+    def to(name, state=state, call=call, number=number, passed=passed):
+        return put(state, 0, hart, (name, call, number, passed))
+
+    if fence and memory or fence == "all" and clint or max(len(memory), len(clint)) == ROOM:
+        return ()
+    return STEPS[kind](state, hart, kind, words, to, has, lacks)
 
 
 def is_waiting(state):

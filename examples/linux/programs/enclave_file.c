@@ -40,37 +40,14 @@ static const struct named refusals[] = {
     {PMPMON_BAD_WORD, "a digest has the words 0 to 3"},
 };
 
-/* Privileged Architecture, table of mcause. */
-static const struct named causes[] = {
-    {0, "instruction address misaligned"},
-    {1, "instruction access fault"},
-    {2, "illegal instruction"},
-    {3, "breakpoint"},
-    {4, "load address misaligned"},
-    {5, "load access fault"},
-    {6, "store address misaligned"},
-    {7, "store access fault"},
-    {8, "its own call"},
-};
-
 const char *program_name = "pmpmon";
-
-static const char *name_of(int64_t number, const struct named *names, size_t count, const char *other)
-{
-    for (size_t i = 0; i < count; i++)
-        if (names[i].number == number)
-            return names[i].name;
-    return other;
-}
 
 const char *refusal_name(int64_t error)
 {
-    return name_of(error, refusals, sizeof refusals / sizeof *refusals, "an answer that is not known");
-}
-
-const char *cause_name(uint64_t cause)
-{
-    return name_of((int64_t)cause, causes, sizeof causes / sizeof *causes, "an interrupt");
+    for (size_t i = 0; i < sizeof refusals / sizeof *refusals; i++)
+        if (refusals[i].number == error)
+            return refusals[i].name;
+    return "an answer that is not known";
 }
 
 bool complain(const char *format, ...)

@@ -42,9 +42,8 @@ bool read_image(const char *path, struct image *it);
 /* Makes an enclave of an image, with its digest and its first shared page filled. */
 bool load_image(const struct image *it, struct loaded *made);
 
-/* What a call was refused with, and where an enclave is stopped, in words. */
+/* What a call was refused with, in words. */
 const char *refusal_name(int64_t error);
-const char *cause_name(uint64_t cause);
 
 /* The digest as sha256sum prints one, of 64 digits and a zero. */
 void digest_text(const uint8_t *digest, char text[2 * DIGEST_BYTES + 1]);

@@ -133,7 +133,7 @@ int main(int count, char **words)
         return 1;
     if (ioctl(it.file, PMPMON_RUN_ENCLAVE, &at_stop) && errno != ETIME)
         return complain("run: %s", strerror(errno)), 1;
-    printf("pages at 0x%llx, stopped by %s\n", it.made.base, cause_name(at_stop.cause));
+    printf("pages at 0x%llx, stopped by %s\n", it.made.base, pmpmon_cause_name(at_stop.cause));
     each_way(&it, "text", 0);
     each_way(&it, "data", image.text_pages * PAGE_BYTES);
     if (words_read)

@@ -136,7 +136,7 @@ static int run(struct loaded *it, uint64_t most_ns)
             return NOT_RUN;
         }
         if (back.cause != 8) {
-            printf("stopped by %s, at 0x%016llx\n", cause_name(back.cause), back.stop_value);
+            printf("stopped by %s, at 0x%016llx\n", pmpmon_cause_name(back.cause), back.stop_value);
             return NOT_RUN;
         }
     }
