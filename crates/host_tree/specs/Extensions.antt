@@ -3,13 +3,19 @@
 use Rattle.std.specs.Prelude.{ℕ, Bool, cond, ◌==◌, ◌||◌, bytes_eq}
 use Rattle.std.specs.Prelude.{List, [], ◌∷◌, ◌++◌, codes, drop}
 
--- the monitor closes the extension
+-- the monitor closes the extension: what `menvcfg`, `mseccfg` or `mstateen0` would open, counters
+-- beyond the time, and those that want calls which are not there
 abbrev pub is_closed_name : List ℕ → Bool
 is_closed_name name = bytes_eq name (codes "svadu") || (bytes_eq name (codes "zkr")
     || (bytes_eq name (codes "zicfilp") || (bytes_eq name (codes "zicfiss")
     || (bytes_eq name (codes "ssnpm") || (bytes_eq name (codes "sscofpmf")
     || (bytes_eq name (codes "smcdeleg") || (bytes_eq name (codes "ssccfg")
-    || (bytes_eq name (codes "ssctr") || bytes_eq name (codes "ssdbltrp")))))))))
+    || (bytes_eq name (codes "ssctr") || (bytes_eq name (codes "ssdbltrp")
+    || (bytes_eq name (codes "smstateen") || (bytes_eq name (codes "ssstateen")
+    || (bytes_eq name (codes "smaia") || (bytes_eq name (codes "ssaia")
+    || (bytes_eq name (codes "smcsrind") || (bytes_eq name (codes "sscsrind")
+    || (bytes_eq name (codes "zcmt") || (bytes_eq name (codes "zicntr")
+    || bytes_eq name (codes "zihpm"))))))))))))))))))
 
 -- what is left of a separator and the name after it
 abbrev pub kept_unit : List ℕ → List ℕ

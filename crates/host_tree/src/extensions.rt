@@ -7,8 +7,8 @@ use crate::fault::MakeFault;
 use crate::write_fault::WriteFault;
 use std::alloc::Global;
 
-/// Whether the monitor closes an extension of that name: its bits in `menvcfg`, `mseccfg` or `mstateen0` stay zero, or it wants
-/// calls that are not there.
+/// Whether the monitor closes an extension of that name: its bits in `menvcfg`, `mseccfg` or `mstateen0` stay zero, it is of counters
+/// of which `mcounteren` opens the time alone, or it wants calls that are not there.
 fn is_closed_name(name: &[u8]) -> bool
     ensures { result ≡ is_closed_name name.now }
 {
@@ -22,6 +22,15 @@ fn is_closed_name(name: &[u8]) -> bool
         || name == b"ssccfg".as_slice()
         || name == b"ssctr".as_slice()
         || name == b"ssdbltrp".as_slice()
+        || name == b"smstateen".as_slice()
+        || name == b"ssstateen".as_slice()
+        || name == b"smaia".as_slice()
+        || name == b"ssaia".as_slice()
+        || name == b"smcsrind".as_slice()
+        || name == b"sscsrind".as_slice()
+        || name == b"zcmt".as_slice()
+        || name == b"zicntr".as_slice()
+        || name == b"zihpm".as_slice()
 }
 
 /// Appends bytes.
