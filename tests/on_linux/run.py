@@ -292,7 +292,7 @@ def bad_input(place, out):
         report("an enclave that reads address 0", got[1:] == ["stopped by load access fault, at 0x0000000000000000"], repr(got))
         got = prompt.answer("pmpmon-run -t 0.2 -i /bad/forever.bin tried.elf")
         report("an enclave that never stops", got[1:] == ["pmpmon-run: the time is over"] and prompt.answer("status") == ["124"], repr(got))
-        got = prompt.answer("pmpmon-run -t 0.2 -i /bad/says.bin tried.elf")
+        got = prompt.answer("pmpmon-run -t 2 -i /bad/says.bin tried.elf")
         right = len(got) == 2 and re.fullmatch("x+pmpmon-run: the time is over", got[1]) and prompt.answer("status") == ["124"]
         report("an enclave that says things for ever", right, "" if right else repr(got)[-200:])
         report("a time of letters", prompt.answer("pmpmon-run -t soon hello.elf") == ["usage: pmpmon-run [-i FILE] [-t SECONDS] ENCLAVE.elf [WORD...]"])
