@@ -32,7 +32,7 @@ leaves bytes rest n e =
 pub end_front : (names rest : List ℕ) → SpellsPart names (word_bytes 2 ++ rest) ends rest
 end_front names rest = (word_front 2 rest (omega arith), leaves (word_bytes 2) rest 4 (length-word 2))
 
-length-text : (name : List ℕ) → length (text_bytes name) ≡ padded (length name + 1)
+pub length-text : (name : List ℕ) → length (text_bytes name) ≡ padded (length name + 1)
 length-text name =
     let zeros = length-replicate {A = ℕ} (padded (length name + 1) - length name) 0 in
     let whole = length-append name (replicate (padded (length name + 1) - length name) 0) in
@@ -61,7 +61,7 @@ begin_front names name rest h =
 unfoldable pub property_bytes : ℕ → List ℕ → List ℕ
 property_bytes place value = word_bytes 3 ++ (word_bytes (length value) ++ (word_bytes place ++ value_bytes value))
 
-length-value : (value : List ℕ) → length (value_bytes value) ≡ padded (length value)
+pub length-value : (value : List ℕ) → length (value_bytes value) ≡ padded (length value)
 length-value value =
     let zeros = length-replicate {A = ℕ} (padded (length value + 0) - length value) 0 in
     let whole = length-append value (replicate (padded (length value + 0) - length value) 0) in

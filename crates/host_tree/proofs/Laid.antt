@@ -7,7 +7,7 @@ use Rattle.device_tree.specs.Trees.{BeginsWithReservations, SpellsTree, reservat
 use Rattle.device_tree.specs.Words.{double_word_at, word_at}
 use Rattle.host_tree.specs.declared.header.Header.{Header}
 use Rattle.host_tree.specs.Header.{header_words}
-use Rattle.host_tree.specs.Written.{SpellsFront, double_word_bytes, word_bytes, words_bytes}
+use Rattle.host_tree.specs.Written.{HasFree, SpellsFront, double_word_bytes, word_bytes, words_bytes}
 use Rattle.host_tree.proofs.Numbers.{drop_front, length-double, length-word, length-words, read-double, take_front, words_at}
 use Rattle.host_tree.proofs.Fronts.{word_front}
 
@@ -63,7 +63,7 @@ pub laid_is : (h : Header) (r b n z : List ℕ) → laid h r b n z ≡ words_byt
 unfolding laid
 laid_is h r b n z = refl
 
-length-laid : (h : Header) (r b n z : List ℕ) → AreSizes h r b n z → length (laid h r b n z) ≡ h.size
+pub length-laid : (h : Header) (r b n z : List ℕ) → AreSizes h r b n z → length (laid h r b n z) ≡ h.size
 unfolding laid
 length-laid h r b n z are =
     let l0 = length-append (words_bytes (header_words h)) (r ++ ((b ++ word_bytes 9) ++ (n ++ z))) in
@@ -79,6 +79,16 @@ pub header_at : (h : Header) (r b n z : List ℕ) (k x : ℕ) → k < 10 → x <
 unfolding laid
 header_at h r b n z k x less fits is =
     words_at (header_words h) k (r ++ ((b ++ word_bytes 9) ++ (n ++ z))) less (subst (λ (y : ℕ). y < 2 ^ 32) (sym is) fits) ∙ is
+
+-- what is free behind the names
+pub free_left : (h : Header) (r b n z out : List ℕ) (free : ℕ) → out ≡ laid h r b n z → AreSizes h r b n z → length z ≡ free → HasFree out free
+free_left h r b n z out free e are long =
+    let len : length out ≡ h.size = ap length e ∙ length-laid h r b n z are in
+    let names : word_at out 12 ≡ h.names = ap (λ (y : List ℕ). word_at y 12) e
+    ∙ header_at h r b n z 3 h.names (omega arith) (omega (arith, are.fits, are.size)) refl in
+    let names_size : word_at out 32 ≡ h.names_size = ap (λ (y : List ℕ). word_at y 32) e
+    ∙ header_at h r b n z 8 h.names_size (omega arith) (omega (arith, are.fits, are.size)) refl in
+    omega (arith, len, names, names_size, are.size, long)
 
 behind_reserved : (h : Header) (r b n z : List ℕ) → laid h r b n z ≡ (words_bytes (header_words h) ++ r) ++ ((b ++ word_bytes 9) ++ (n ++ z))
 unfolding laid

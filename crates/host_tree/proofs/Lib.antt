@@ -6,6 +6,7 @@ mod FiveWords
 mod Laid
 mod Chains
 mod HexTexts
+mod Sizes
 mod Adding
 mod OneHost
 mod Ranged
@@ -15,3 +16,4 @@ mod WriteFaults
 mod Refused
 mod ReadNames
 mod RootRefused
+mod Rooms

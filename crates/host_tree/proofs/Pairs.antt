@@ -5,6 +5,7 @@ use Rattle.std.specs.Prelude.{eqb}
 use Rattle.std.proofs.lemmas.List.{drop_all}
 use Rattle.board_ranges.specs.declared.rows.Extent.{Extent}
 use Rattle.host_tree.specs.Platforms.{IsClipped, flat_words, pairs_in, triples_in}
+use Rattle.host_tree.proofs.Numbers.{drop_front}
 
 pub pair_step : (F : ℕ → List ℕ → List Extent) (left : ℕ) (rest later : List ℕ) (x : Extent) (old new all : List Extent) → 0 < left
     → F (suc (left - 1)) rest ≡ x ∷ F (left - 1) later → new ≡ old ++ x ∷ [] → old ++ F left rest ≡ all → new ++ F (left - 1) later ≡ all
@@ -50,6 +51,12 @@ one_triple n (a ∷ b ∷ d ∷ later) h = refl
 flat_len : (xs : List Extent) → length (flat_words xs) ≡ 2 * length xs
 flat_len [] = refl
 flat_len (x ∷ xs) = omega (arith, flat_len xs)
+
+-- words of pairs in front of words that stay
+pub words_behind : (count : ℕ) (old new : List ℕ) (xs : List Extent) → count ≡ length xs → new ≡ flat_words xs ++ drop (2 * length xs) old
+    → drop (2 * count) new ≡ drop (2 * count) old
+words_behind count old new xs e w = ap (λ (n : ℕ). drop (2 * n) new) e ∙ ap (λ (z : List ℕ). drop (2 * length xs) z) w
+    ∙ drop_front (2 * length xs) (flat_words xs) (drop (2 * length xs) old) (flat_len xs) ∙ ap (λ (n : ℕ). drop (2 * n) old) (sym e)
 
 pub flat_all : (xs : List Extent) (words : List ℕ) (i : ℕ) → length xs ≤ i → words ++ flat_words (drop i xs) ≡ flat_words xs → length words ≡ 2 * length xs
 flat_all xs words i more is =

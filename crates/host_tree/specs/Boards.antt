@@ -35,6 +35,8 @@ Has (first ∷ later) address = ((first.base ≤ address) × (address < first.ba
 pub record AreThere (memory : List Extent) (base size there : ℕ) : Type 0 where
   pub within : there ≤ size
   pub has : (address : ℕ) → base ≤ address → address < base + there → Has memory address
+  pub all : ((address : ℕ) → base ≤ address → address < base + size → Has memory address)
+      → there ≡ size
   pub pages : (there ≡ size) ⊎ (there % 4096 ≡ 0)
   pub most : (more : ℕ) → more ≤ size → more % 4096 ≡ 0
       → ((address : ℕ) → base ≤ address → address < base + more → Has memory address)

@@ -1,5 +1,5 @@
 -- The device tree as a host has it.
-use Rattle.std.specs.Prelude.{◌≡◌, ℕ, List, map}
+use Rattle.std.specs.Prelude.{◌≡◌, ◌⊎◌, ◌<◌, ◌+◌, ℕ, List, length, map}
 use Rattle.device_tree.specs.declared.reservations.Reservation.{Reservation}
 use Rattle.device_tree.specs.Pieces.{has}
 use Rattle.device_tree.specs.Nodes.{Nodes, Tree}
@@ -13,6 +13,7 @@ use Rattle.host_tree.specs.declared.reserved.Reserved.{Reserved}
 use Rattle.host_tree.specs.declared.share.Share.{Share}
 use Rattle.host_tree.specs.HostNodes.{HostNodes, Portion}
 use Rattle.host_tree.specs.Ranges.{AllFit, with_ranges}
+use Rattle.host_tree.specs.Written.{HasFree, plain_size}
 
 -- what a host has, as the program says it
 abbrev pub portion_of : Share → Portion
@@ -28,6 +29,28 @@ pub record IsHostTree (host : Portion) (ranges : List Reserved) (board made : Tr
   pub nodes_are : HostNodes host BelowRoot cells same board.children nodes
   pub properties : made.properties ≡ board.properties
   pub children : made.children ≡ with_ranges cells ranges nodes
+
+-- this is the host's tree of the one that a board's bytes begin with, with these reservations
+pub record Makes (host : Portion) (ranges : List Reserved) (bytes : List ℕ) (made : Tree)
+    (reservations : List Reservation) : Type 0 where
+  pub board : Tree
+  pub read : ReadsAs bytes board reservations
+  pub is_made : IsHostTree host ranges board made
+
+-- the host's tree of the one that these bytes begin with needs so many bytes
+abbrev pub Needs : Portion → List Reserved → List ℕ → ℕ → Type 0
+Needs host ranges bytes size = (made : Tree) × (reservations : List Reservation)
+    × Makes host ranges bytes made reservations × (size ≡ plain_size made reservations)
+
+-- these bytes are too few for the host's tree of the one that they begin with, and so many free
+abbrev pub LacksRoom : Portion → List Reserved → List ℕ → ℕ → Type 0
+LacksRoom host ranges bytes free = (size : ℕ) × Needs host ranges bytes size
+    × (length bytes < size + free)
+
+-- 4096 bytes are free at the end of a tree, or none where the place lacks room for them
+abbrev pub LeavesFree : Portion → List Reserved → List ℕ → List ℕ → Type 0
+LeavesFree host ranges place out = HasFree out 4096
+    ⊎ (HasFree out 0 × LacksRoom host ranges place 4096)
 
 -- the bytes are the host's tree of the one that a board's bytes begin with, with the same
 -- reservations and the same hart that boots

@@ -1,6 +1,6 @@
 -- A platform as firmware has it, and what of it a board has.
-use Rattle.std.specs.Prelude.{◌≡◌, ℕ, zero, suc, cond, eqb}
-use Rattle.std.specs.Prelude.{List, [], ◌∷◌, ◌++◌, true, false}
+use Rattle.std.specs.Prelude.{◌≡◌, ℕ, zero, suc, ◌*◌, cond, eqb}
+use Rattle.std.specs.Prelude.{List, [], ◌∷◌, ◌++◌, drop, true, false}
 use Rattle.device_tree.specs.declared.reservations.Reservation.{Reservation}
 use Rattle.device_tree.specs.Nodes.{Tree}
 use Rattle.device_tree.specs.Trees.{ReadsAs}
@@ -55,6 +55,9 @@ pub record IsFound (bytes : List ℕ) (old new : PlatformWords) : Type 0 where
   pub harts : HartsThere (extents_of true ranges) old.harts new.harts
   pub memory : IsClipped (extents_of false ranges) (pairs_in old.ram_count old.ram)
       (pairs_in new.ram_count new.ram)
+  -- the words behind these pairs
+  pub behind : drop (2 * new.ram_count) new.ram ≡ drop (2 * new.ram_count) old.ram
+  pub tag : new.tag ≡ old.tag
   pub entries : new.entries ≡ old.entries
   pub monitor_base : new.monitor_base ≡ old.monitor_base
   pub monitor_size : new.monitor_size ≡ old.monitor_size

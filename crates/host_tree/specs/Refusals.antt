@@ -1,6 +1,6 @@
 -- Why a host gets no tree, or nothing is known of a board: what is wrong with the board's own tree.
 -- Of memory nothing is said, and of a host's tree of 4 GiB neither.
-use Rattle.std.specs.Prelude.{◌≡◌, ◌≢◌, ◌⊎◌, ℕ, ◌*◌, ◌^◌, ◌<◌, ◌≤◌, ⊤}
+use Rattle.std.specs.Prelude.{◌≡◌, ◌≢◌, ◌⊎◌, ℕ, ◌*◌, ◌^◌, ◌≤◌, ⊤}
 use Rattle.std.specs.Prelude.{List, [], ◌∷◌, length, map}
 use Rattle.device_tree.specs.declared.fault.TreeFault.{TreeFault}
 use Rattle.device_tree.specs.declared.fault.TreeReason.TheVariants as trees
@@ -27,7 +27,7 @@ use Rattle.host_tree.specs.declared.write_fault.WriteFault.{WriteFault}
 use Rattle.host_tree.specs.declared.write_fault.WriteFault.TheVariants.{EmptyReservation}
 use Rattle.host_tree.specs.declared.write_fault.WriteFault.TheVariants.{Memory, TooLarge}
 use Rattle.host_tree.specs.declared.write_fault.WriteFault.TheVariants.{ZeroInName}
-use Rattle.host_tree.specs.HostTrees.{IsHosts}
+use Rattle.host_tree.specs.HostTrees.{LacksRoom}
 use Rattle.host_tree.specs.Platforms.{portion_in, reserved_in}
 use Rattle.host_tree.specs.declared.writer.TreeWriter.{TreeWriter}
 use Rattle.host_tree.specs.Written.{IsText, whole_size}
@@ -156,10 +156,9 @@ IsHostTreeFault ranges bytes (NotMade BadCells) = BeginsWithTree bytes (λ tree.
     × AreCells (map has tree.properties) cells × HasUnfitRange cells ranges)
 IsHostTreeFault ranges bytes (NotMade (NotWritten fault)) = IsWriteFault [] [] fault
 
--- why a board's tree is left as it is: there is no tree of the host, or it is longer than its place
+-- why a board's tree is left as it is: there is no tree of the host, or it has no room in its place
 abbrev pub IsPlaceFault : PlatformWords → Extent → List ℕ → PlaceFault → Type 0
 IsPlaceFault platform pool place (NoTree fault) =
     IsHostTreeFault (reserved_in platform pool) place fault
-IsPlaceFault platform pool place NoRoom = (out : List ℕ)
-    × IsHosts (portion_in platform) (reserved_in platform pool) place out
-    × (length place < length out)
+IsPlaceFault platform pool place NoRoom =
+    LacksRoom (portion_in platform) (reserved_in platform pool) place 0

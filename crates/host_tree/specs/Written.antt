@@ -1,8 +1,10 @@
 -- What a writer has written of a tree. Devicetree Specification 0.4, section 5.4.
-use Rattle.std.specs.Prelude.{◌≡◌, ℕ, ◌+◌, ◌-◌, ◌*◌, List, [], ◌∷◌, ◌++◌, length, replicate}
+use Rattle.std.specs.Prelude.{◌≡◌, ◌≤◌, ℕ, ◌+◌, ◌-◌, ◌*◌, List, [], ◌∷◌, ◌++◌, length, replicate}
 use Rattle.byteorder.specs.Endian.{big_bytes}
-use Rattle.device_tree.specs.Words.{padded, text_len}
-use Rattle.device_tree.specs.Pieces.{Part, Setting, SpellsParts}
+use Rattle.device_tree.specs.Words.{padded, text_len, word_at}
+use Rattle.device_tree.specs.declared.reservations.Reservation.{Reservation}
+use Rattle.device_tree.specs.Pieces.{Part, Setting, SpellsParts, begins, ends, has}
+use Rattle.device_tree.specs.Nodes.{Tree, parts_of_tree}
 use Rattle.host_tree.specs.declared.writer.TreeWriter.{TreeWriter}
 
 -- a number of four bytes, and one of eight, the highest byte first
@@ -43,10 +45,33 @@ abbrev pub whole_size : TreeWriter → ℕ → ℕ → ℕ
 whole_size writer reservations free = 40 + 16 * (reservations + 1)
     + (length writer.block.items + 4) + length writer.names.items + free
 
--- the writer has written these parts: its bytes are so, whatever names it adds to its own
+-- behind the names of a tree, at its end, so many bytes are free
+abbrev pub HasFree : List ℕ → ℕ → Type 0
+HasFree bytes free = length bytes ≡ word_at bytes 12 + word_at bytes 32 + free
+
+-- how many bytes a part needs, a property with a name of its own
+abbrev pub part_size : Part → ℕ
+part_size (begins name) = 4 + padded (length name + 1)
+part_size (has one) = 12 + padded (length one.value) + (length one.name + 1)
+part_size ends = 4
+
+-- how many bytes parts need
+abbrev pub parts_size : List Part → ℕ
+parts_size [] = 0
+parts_size (first ∷ later) = part_size first + parts_size later
+
+-- how many bytes a tree needs, with its reservations: none is free, and each property has a name
+-- of its own, so that a tree whose properties share names has fewer
+abbrev pub plain_size : Tree → List Reservation → ℕ
+plain_size tree reservations = 40 + 16 * (length reservations + 1)
+    + (parts_size (parts_of_tree tree) + 4)
+
+-- the writer has written these parts: its bytes are so, whatever names it adds to its own, and no
+-- more than the parts need
 pub record HasWritten (writer : TreeWriter) (parts : List Part) : Type 0 where
   pub spelt : (more : List ℕ)
       → SpellsFront (writer.names.items ++ more) writer.block.items parts
+  pub size : length writer.block.items + length writer.names.items ≤ parts_size parts
 
 -- the writer has written these parts more
 abbrev pub Adds : TreeWriter → TreeWriter → List Part → Type 0

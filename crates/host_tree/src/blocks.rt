@@ -1,9 +1,9 @@
 //! The parts of the structure block, one at the end of others.
 
-ghost use Rattle.std.specs.Prelude.{◌≡◌, ◌⊎◌, ◌≤◌, ◌^◌, ◌++◌, IfErr, OnOk, List, ℕ, drop, length};
+ghost use Rattle.std.specs.Prelude.{◌≡◌, ◌⊎◌, ◌≤◌, ◌+◌, ◌^◌, ◌++◌, IfErr, OnOk, List, ℕ, drop, length};
 ghost use Rattle.device_tree.specs.Pieces.{Setting, SpellsPart, begins, ends, has};
-ghost use Rattle.device_tree.specs.Words.{BeginsWithText};
-ghost use Rattle.host_tree.specs.Written.{IsText, setting};
+ghost use Rattle.device_tree.specs.Words.{BeginsWithText, padded};
+ghost use Rattle.host_tree.specs.Written.{IsText, part_size, setting};
 
 use crate::bytes::{put_text, put_value, put_word};
 use crate::names::word_of;
@@ -14,6 +14,8 @@ pub(crate) fn put_begin(block: &mut Vec<u8>, name: &[u8]) -> Result<(), WriteFau
     requires { IsText name.now }
     ensures put { OnOk result ((added : List ℕ) × (block.new.items ≡ block.old.items ++ added)
         × ((names rest : List ℕ) → SpellsPart names (added ++ rest) (begins name.now) rest)) }
+    ensures size { OnOk result (length block.new.items
+        ≡ length block.old.items + part_size (begins name.now)) }
     ensures refused { IfErr result (λ fault. fault ≡ WriteFault.Memory) }
 {
     put_word(block, 1)?;
@@ -30,6 +32,8 @@ pub(crate) fn put_property(
     ensures put { OnOk result ((added : List ℕ) × (block.new.items ≡ block.old.items ++ added)
         × ((names rest name : List ℕ) → BeginsWithText (drop place names) name
         → SpellsPart names (added ++ rest) (has (setting name value.now)) rest)) }
+    ensures size { OnOk result (length block.new.items
+        ≡ length block.old.items + (12 + padded (length value.now))) }
     ensures refused { IfErr result (λ fault. (fault ≡ WriteFault.Memory)
         ⊎ ((fault ≡ WriteFault.TooLarge) × ((2 ^ 32 ≤ length value.now) ⊎ (2 ^ 32 ≤ place)))) }
 {
@@ -46,6 +50,7 @@ pub(crate) fn put_property(
 pub(crate) fn put_end(block: &mut Vec<u8>) -> Result<(), WriteFault>
     ensures put { OnOk result ((added : List ℕ) × (block.new.items ≡ block.old.items ++ added)
         × ((names rest : List ℕ) → SpellsPart names (added ++ rest) ends rest)) }
+    ensures size { OnOk result (length block.new.items ≡ length block.old.items + 4) }
     ensures refused { IfErr result (λ fault. fault ≡ WriteFault.Memory) }
 {
     put_word(block, 2)?;

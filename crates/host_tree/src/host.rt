@@ -1,12 +1,12 @@
 //! The tree of the host.
 
-ghost use Rattle.std.specs.Prelude.{◌≡◌, ◌≤◌, IfErr, IfOk, OnOk, [], length};
+ghost use Rattle.std.specs.Prelude.{◌≡◌, ◌≤◌, ◌+◌, IfErr, IfOk, OnOk, [], ℕ, length};
 ghost use Rattle.device_tree.specs.Pieces.{parts_of};
 ghost use Rattle.device_tree.specs.Nodes.{Tree, parts_of_tree};
 ghost use Rattle.device_tree.specs.Trees.{SpellsTree};
 ghost use Rattle.device_tree.specs.Words.{word_at};
-ghost use Rattle.host_tree.specs.Written.{Adds};
-ghost use Rattle.host_tree.specs.HostTrees.{IsHostTree, IsHosts, portion_of};
+ghost use Rattle.host_tree.specs.Written.{Adds, HasFree, plain_size};
+ghost use Rattle.host_tree.specs.HostTrees.{IsHostTree, IsHosts, Needs, portion_of};
 ghost use Rattle.host_tree.specs.Refusals.{IsHostTreeFault, IsMakeFault};
 
 use crate::fault::{HostTreeFault, MakeFault};
@@ -69,7 +69,9 @@ fn written<'a>(
     ensures ok { IfOk result (λ out. (board : Tree)
         → parts_of read.now.pieces.items ≡ parts_of_tree board
         → (made : Tree) × IsHostTree (portion_of share.now) ranges.now board made
-        × SpellsTree out.items made read.now.reservations.items) }
+        × SpellsTree out.items made read.now.reservations.items
+        × (length out.items ≤ plain_size made read.now.reservations.items + free)) }
+    ensures free { IfOk result (λ out. HasFree out.items free) }
     ensures boot_hart { IfOk result (λ out. word_at out.items 28 ≡ boot_hart) }
     ensures refused { IfErr result (λ fault. (board : Tree)
         → parts_of read.now.pieces.items ≡ parts_of_tree board
@@ -89,9 +91,9 @@ fn written<'a>(
 }
 
 /// The device tree as a host has it, of the one that a board's bytes begin with. A node with registers that are not the host's, and
-/// a hart that it has not, has the status `disabled` (Devicetree Specification 0.4, section 2.3.4). Extensions that the monitor
-/// closes are not named. Each range is a child of `/reserved-memory` with `no-map` (section 3.5). Nothing else is changed. So many
-/// bytes are free at its end.
+/// a hart that it has not, has the status `disabled` (Devicetree Specification 0.4, section 2.3.4). Of a hart's extensions those
+/// that the monitor closes are taken out: names between `_` or zeros, without a version. Each range is a child of
+/// `/reserved-memory` with `no-map` (section 3.5). Nothing else is changed. So many bytes are free at its end.
 ///
 /// Refused where the bytes begin with no tree, a node's cells or rows are not read, a range does not fit into the root's cells, which
 /// have to be one or two, or the tree would have 4 GiB. Memory can be refused for each piece and each byte.
@@ -104,6 +106,10 @@ pub fn host_tree(
 ) -> Result<Vec<u8>, HostTreeFault>
     ensures ok { IfOk result (λ out.
         IsHosts (portion_of share.now) ranges.now bytes.now out.items) }
+    ensures size { IfOk result (λ out. (size : ℕ)
+        × Needs (portion_of share.now) ranges.now bytes.now size
+        × (length out.items ≤ size + free)) }
+    ensures free { IfOk result (λ out. HasFree out.items free) }
     ensures refused { IfErr result (IsHostTreeFault ranges.now bytes.now) }
 {
     match read_tree(alloc, bytes) {

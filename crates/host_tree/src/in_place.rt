@@ -1,8 +1,8 @@
 //! The host's tree in place of the board's.
 
-ghost use Rattle.std.specs.Prelude.{◌≡◌, ◌<◌, ◌++◌, IfErr, IfOk, OnErr, OnOk, List, ℕ, length};
+ghost use Rattle.std.specs.Prelude.{◌≡◌, ◌<◌, ◌++◌, IfErr, IfOk, OnErr, OnOk, List, ℕ, drop, length};
 ghost use Rattle.host_tree.specs.Platforms.{portion_in, reserved_in};
-ghost use Rattle.host_tree.specs.HostTrees.{IsHosts};
+ghost use Rattle.host_tree.specs.HostTrees.{IsHosts, LacksRoom, LeavesFree};
 ghost use Rattle.host_tree.specs.Refusals.{IsHostTreeFault, IsPlaceFault};
 
 use crate::fault::{HostTreeFault, MakeFault};
@@ -60,7 +60,7 @@ fn reserved_in(
 
 /// Puts bytes in front of a place, where they have room.
 fn put_front(place: &mut [u8], bytes: &[u8]) -> Result<(), PlaceFault>
-    ensures done { OnOk result ((rest : List ℕ) × (place.new ≡ bytes.now ++ rest)) }
+    ensures done { OnOk result (place.new ≡ bytes.now ++ drop (length bytes.now) place.old) }
     ensures kept { OnErr result (place.new ≡ place.old) }
     ensures refused { IfErr result (λ fault. (fault ≡ PlaceFault.NoRoom)
         × (length place.old < length bytes.now)) }
@@ -80,6 +80,10 @@ fn tree_for(
     place: &[u8],
 ) -> Result<Vec<u8>, HostTreeFault>
     ensures ok { IfOk result (λ out. IsHosts (portion_in platform.now)
+        (reserved_in platform.now pool) place.now out.items) }
+    ensures room { IfOk result (λ out. length place.now < length out.items → LacksRoom
+        (portion_in platform.now) (reserved_in platform.now pool) place.now 0) }
+    ensures free { IfOk result (λ out. LeavesFree (portion_in platform.now)
         (reserved_in platform.now pool) place.now out.items) }
     ensures refused { IfErr result
         (IsHostTreeFault (reserved_in platform.now pool) place.now) }
@@ -104,7 +108,8 @@ fn tree_for(
     Ok(shorter)
 }
 
-/// Writes the host's tree in place of the board's, which the bytes begin with. The pool is reserved too where it has a size.
+/// Writes the host's tree in place of the board's, which the bytes begin with. The pool is reserved too where it has a size. What is
+/// behind the tree stays.
 ///
 /// Refused where there is none or it has no room; then the bytes are as they were. Memory can be refused.
 pub fn put_host_tree(
@@ -113,8 +118,10 @@ pub fn put_host_tree(
     pool: Extent,
     place: &mut [u8],
 ) -> Result<(), PlaceFault>
-    ensures done { OnOk result ((out rest : List ℕ) × (place.new ≡ out ++ rest)
-        × IsHosts (portion_in platform.now) (reserved_in platform.now pool) place.old out) }
+    ensures done { OnOk result ((out : List ℕ)
+        × (place.new ≡ out ++ drop (length out) place.old)
+        × IsHosts (portion_in platform.now) (reserved_in platform.now pool) place.old out
+        × LeavesFree (portion_in platform.now) (reserved_in platform.now pool) place.old out) }
     ensures kept { OnErr result (place.new ≡ place.old) }
     ensures refused { IfErr result (IsPlaceFault platform.now pool place.old) }
 {

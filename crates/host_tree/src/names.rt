@@ -49,6 +49,8 @@ fn add_name(names: &mut Vec<u8>, name: &[u8]) -> Result<usize, WriteFault>
     requires { IsText name.now }
     ensures put { IfOk result (λ place. BeginsWithText (drop place names.new.items) name.now
         × (added : List ℕ) × (names.new.items ≡ names.old.items ++ added)) }
+    ensures size { OnOk result (length names.new.items
+        ≡ length names.old.items + (length name.now + 1)) }
     ensures inside { IfOk result (λ place. place ≤ length names.old.items) }
     ensures refused { IfErr result (λ fault. fault ≡ WriteFault.Memory) }
 {
@@ -63,6 +65,8 @@ pub(crate) fn place_of(names: &mut Vec<u8>, name: &[u8]) -> Result<usize, WriteF
     requires { IsText name.now }
     ensures put { IfOk result (λ place. BeginsWithText (drop place names.new.items) name.now
         × (added : List ℕ) × (names.new.items ≡ names.old.items ++ added)) }
+    ensures size { OnOk result (length names.new.items
+        ≤ length names.old.items + (length name.now + 1)) }
     ensures inside { IfOk result (λ place. place ≤ length names.old.items) }
     ensures refused { IfErr result (λ fault. fault ≡ WriteFault.Memory) }
 {

@@ -202,15 +202,15 @@ fn flat_words(alloc: Global, ranges: &[Extent]) -> Result<Vec<u64>, MakeFault>
     Ok(words)
 }
 
-/// The words of ranges, of which a platform has at most 32, and zeros behind them.
-fn words_of(alloc: Global, ranges: &[Extent]) -> Result<[u64; 64], MakeFault>
+/// The words of ranges, of which a platform has at most 32, in front of words that stay.
+fn words_of(alloc: Global, ranges: &[Extent], old: &[u64; 64]) -> Result<[u64; 64], MakeFault>
     requires { length ranges.now ≤ 32 }
-    ensures ok { IfOk result (λ words. (zeros : List ℕ)
-        × (words ≡ flat_words ranges.now ++ zeros)) }
+    ensures ok { IfOk result
+        (λ words. words ≡ flat_words ranges.now ++ drop (2 * length ranges.now) old.now) }
     ensures refused { IfErr result (λ fault. fault ≡ MakeFault.NotWritten WriteFault.Memory) }
 {
     let flat = flat_words(alloc, ranges)?;
-    let mut words = [0; 64];
+    let mut words = *old;
     words[..flat.len()].copy_from_slice(flat.as_slice());
     Ok(words)
 }
@@ -223,12 +223,13 @@ fn left_of(
 ) -> Result<(u64, [u64; 64]), MakeFault>
     ensures ok { IfOk result (λ left. (ranges : List Extent)
         × IsClipped board.now.memory.items (pairs_in platform.now.ram_count platform.now.ram) ranges
-        × (left.0 ≡ length ranges) × (zeros : List ℕ) × (left.1 ≡ flat_words ranges ++ zeros)) }
+        × (left.0 ≡ length ranges)
+        × (left.1 ≡ flat_words ranges ++ drop (2 * length ranges) platform.now.ram)) }
     ensures refused { IfErr result (λ fault. fault ≡ MakeFault.NotWritten WriteFault.Memory) }
 {
     let ranges = platform.memory(alloc)?;
     let left = clipped(alloc, board.memory.as_slice(), ranges.as_slice())?;
-    let words = words_of(alloc, left.as_slice())?;
+    let words = words_of(alloc, left.as_slice(), &platform.ram)?;
     Ok((left.as_slice().len() as u64, words))
 }
 

@@ -5,7 +5,7 @@ ghost use Rattle.device_tree.specs.Nodes.{Tree, parts_of_tree};
 ghost use Rattle.device_tree.specs.Trees.{SpellsTree};
 ghost use Rattle.device_tree.specs.Words.{word_at};
 ghost use Rattle.host_tree.specs.Refusals.{IsFinishFault};
-ghost use Rattle.host_tree.specs.Written.{HasWritten};
+ghost use Rattle.host_tree.specs.Written.{HasFree, HasWritten, whole_size};
 
 use crate::bytes::{put_bytes, put_word, put_zeros};
 use crate::header::{HEADER, Header, put_header};
@@ -78,6 +78,9 @@ impl TreeWriter {
             → HasWritten self.now (parts_of_tree tree)
             → SpellsTree bytes.items tree ends.now.reservations.now) }
         ensures boot_hart { IfOk result (λ bytes. word_at bytes.items 28 ≡ ends.now.boot_hart) }
+        ensures size { IfOk result (λ bytes. length bytes.items
+            ≡ whole_size self.now (length ends.now.reservations.now) ends.now.free) }
+        ensures free { IfOk result (λ bytes. HasFree bytes.items ends.now.free) }
         ensures refused { IfErr result
             (IsFinishFault self.now ends.now.reservations.now ends.now.free) }
     {

@@ -1,7 +1,9 @@
-use Rattle.std.proofs.Common.{◌≡◌, ◌++◌, ◌∙◌, ℕ, List, length, ap, refl, inl, inr}
+use Rattle.std.proofs.Common.{◌≡◌, ◌++◌, ◌∙◌, ℕ, List, length, ap, refl, inl, inr, arith}
 use Rattle.host_tree.specs.Written.{value_bytes, word_bytes}
 use Rattle.std.proofs.lemmas.Result.{err_from_is_err_and}
-use Rattle.host_tree.proofs.Fronts.{four_joined, property_bytes, property_front}
+use Rattle.host_tree.proofs.Fronts.{four_joined, length-value, property_bytes, property_front}
+use Rattle.host_tree.proofs.Numbers.{length-word}
+use Rattle.host_tree.proofs.Sizes.{grown}
 use Rattle.host_tree.proofs.blocks.put_property.Goals as goal
 
 bytes_are : (len place l p : ℕ) (value : List ℕ) → len ≡ l → place ≡ p → l ≡ length value
@@ -22,6 +24,18 @@ returns-clause-put c =
       joined ∙ ap (λ (x : List ℕ). c.args.block.now.items ++ x) same,
       λ names rest name named. property_front names value rest name c.args.place l.fits p.fits named,
     )
+
+pub returns-clause-size : goal.returns-clause-size
+returns-clause-size c =
+    let value = c.args.value.now in
+    let l = word_bytes c.in_ok-len.len in
+    let p = word_bytes c.in_ok-place.place in
+    let first = grown c.args.block.now.items c.put_word.new.out.items (word_bytes 3) c.in_ok-put_word.ensures.put in
+    let more = grown c.put_word.new.out.items c.put_word-2.new.out.items l c.in_ok-put_word-2.ensures.put in
+    let place = grown c.put_word-2.new.out.items c.put_word-3.new.out.items p c.in_ok-put_word-3.ensures.put in
+    let last = grown c.put_word-3.new.out.items c.put_value.new.out.items (value_bytes value) c.in_ok-put_value.ensures.put in
+    let words = length-word c.in_ok-len.len in
+    omega (arith, first, more, place, last, length-word 3, words, length-word c.in_ok-place.place, length-value value)
 
 pub returns-in_err-len-clause-refused : goal.returns-in_err-len-clause-refused
 returns-in_err-len-clause-refused c =

@@ -1,4 +1,5 @@
-use Rattle.std.proofs.Common.{◌∙◌}
+use Rattle.std.proofs.Common.{◌∙◌, refl}
+use Rattle.host_tree.specs.Written.{plain_size}
 use Rattle.host_tree.proofs.RootRefused.{read_refused}
 use Rattle.host_tree.proofs.host.host_tree.Goals as goal
 
@@ -15,6 +16,15 @@ returns-in-Ok-written-clause-ok c =
       spelt = made.2;
       boot_hart = c.in-Ok-written.ensures.boot_hart ∙ c.boot_hart_of-boot_hart.ensures;
     }
+
+pub returns-in-Ok-written-clause-size : goal.returns-in-Ok-written-clause-size
+returns-in-Ok-written-clause-size c =
+    let read = c.in-Ok.ensures.ok in
+    let made = c.in-Ok-written.ensures.ok read.0 read.2 in (
+      plain_size made.0 c.in-Ok.read.reservations.items,
+      (made.0, c.in-Ok.read.reservations.items, record { board = read.0; read = read.1; is_made = made.1 }, refl),
+      made.3,
+    )
 
 pub returns-in-Ok-clause-refused : goal.returns-in-Ok-clause-refused
 returns-in-Ok-clause-refused c =

@@ -1,4 +1,4 @@
-use Rattle.std.proofs.Common.{◌∙◌, [], List, ap, subst}
+use Rattle.std.proofs.Common.{◌∙◌, ◌≤◌, ◌+◌, [], List, length, ap, subst}
 use Rattle.device_tree.specs.declared.reservations.Reservation.{Reservation}
 use Rattle.device_tree.specs.declared.pieces.PlacedPiece.{PlacedPiece}
 use Rattle.device_tree.specs.Pieces.{parts_of}
@@ -6,6 +6,8 @@ use Rattle.device_tree.specs.Nodes.{parts_of_tree}
 use Rattle.device_tree.specs.Trees.{SpellsTree}
 use Rattle.std.proofs.lemmas.Result.{err_from_is_err_and}
 use Rattle.host_tree.specs.Refusals.{IsWriteFault}
+use Rattle.host_tree.specs.Written.{plain_size}
+use Rattle.host_tree.proofs.Sizes.{at_most}
 use Rattle.host_tree.proofs.RootRefused.{with_reservations}
 use Rattle.host_tree.proofs.WriteFaults.{finish_written}
 use Rattle.host_tree.proofs.host.written.Goals as goal
@@ -17,6 +19,9 @@ returns-in-Ok-clause-ok c = λ board e.
       made.1,
       subst (λ (x : List Reservation). SpellsTree c.in-Ok.bytes.items made.0 x) c.as_slice-2.ensures.value
           (c.in-Ok.ensures.spelt made.0 (made.2 [] c.new-writer.ensures)),
+      subst (λ (x : List Reservation). length c.in-Ok.bytes.items ≤ plain_size made.0 x + c.args.free) c.as_slice-2.ensures.value
+          (at_most c.put_tree.new.writer made.0 c.as_slice-2.result.now c.args.free (length c.in-Ok.bytes.items)
+          (made.2 [] c.new-writer.ensures) c.in-Ok.ensures.size),
     )
 
 pub returns-in_err-put_tree-clause-refused : goal.returns-in_err-put_tree-clause-refused

@@ -1,6 +1,7 @@
 use Rattle.std.proofs.Common.{◌≡◌, ℕ, List, [], ◌∷◌, ◌++◌, append_assoc, drop, length, subst, sym, ap, ◌∙◌, arith}
 use Rattle.device_tree.specs.Words.{BeginsWithText}
 use Rattle.host_tree.proofs.Texts.{name_added}
+use Rattle.host_tree.proofs.Sizes.{grown}
 use Rattle.host_tree.proofs.names.add_name.Goals as goal
 
 two : (a b n d : List ℕ) → b ≡ a ++ n → d ≡ b ++ 0 ∷ [] → d ≡ (a ++ n) ++ 0 ∷ []
@@ -24,6 +25,14 @@ returns-clause-put c =
       name ++ 0 ∷ [],
       whole ∙ append_assoc names name (0 ∷ []),
     )
+
+pub returns-clause-size : goal.returns-clause-size
+returns-clause-size c =
+    let last : c.put_bytes-2.new.out.items ≡ c.put_bytes.new.out.items ++ 0 ∷ [] = c.in_ok-put_bytes-2.ensures.put ∙ ap (λ (x : List ℕ).
+    c.put_bytes.new.out.items ++ x) c.as_slice.ensures in
+    let first = grown c.args.names.now.items c.put_bytes.new.out.items c.args.name.now c.in_ok-put_bytes.ensures.put in
+    let both = grown c.put_bytes.new.out.items c.put_bytes-2.new.out.items (0 ∷ []) last in
+    omega (arith, first, both)
 
 pub returns-clause-inside : goal.returns-clause-inside
 returns-clause-inside c = omega (arith, ap length c.as_slice-place.ensures.value)

@@ -1,8 +1,8 @@
-use Rattle.std.proofs.Common.{◌∙◌, List, refl, subst, sym, false}
+use Rattle.std.proofs.Common.{◌∙◌, ◌*◌, List, drop, length, refl, subst, sym, false}
 use Rattle.board_ranges.specs.declared.rows.Extent.{Extent}
 use Rattle.host_tree.specs.Boards.{HartsThere, extents_of}
 use Rattle.host_tree.specs.Platforms.{IsClipped, pairs_in}
-use Rattle.host_tree.proofs.Pairs.{pairs_are}
+use Rattle.host_tree.proofs.Pairs.{pairs_are, words_behind}
 use Rattle.host_tree.proofs.RootRefused.{board_lacks_memory}
 use Rattle.host_tree.proofs.platform.find_platform.Goals as goal
 
@@ -19,8 +19,11 @@ returns-clause-found c =
       said = b.4;
       harts = subst (λ (x : List Extent). HartsThere x old.harts c.harts_there-platform.result) (c.as_slice.ensures.value ∙ b.5)
           c.harts_there-platform.ensures;
-      memory = subst (λ (x : List Extent). IsClipped (extents_of false b.3) (pairs_in old.ram_count old.ram) x) (sym (pairs_are _ _ l.3 l.0 l.2 l.4))
+      memory = subst (λ (x : List Extent). IsClipped (extents_of false b.3) (pairs_in old.ram_count old.ram) x)
+          (sym (pairs_are _ _ (drop (2 * length l.0) old.ram) l.0 l.2 l.3))
           (subst (λ (x : List Extent). IsClipped x (pairs_in old.ram_count old.ram) l.0) b.6 l.1);
+      behind = words_behind _ old.ram _ l.0 l.2 l.3;
+      tag = refl;
       entries = refl;
       monitor_base = refl;
       monitor_size = refl;

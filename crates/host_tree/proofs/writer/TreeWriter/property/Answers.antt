@@ -1,9 +1,10 @@
-use Rattle.std.proofs.Common.{◌≡◌, ℕ, List, [], ◌∷◌, ◌++◌, ◌∙◌, append_assoc, subst, sym, ap}
+use Rattle.std.proofs.Common.{◌≡◌, ℕ, List, [], ◌∷◌, ◌++◌, ◌∙◌, append_assoc, subst, sym, ap, arith}
 use Rattle.device_tree.specs.Pieces.{has}
 use Rattle.host_tree.specs.Written.{SpellsFront, setting}
 use Rattle.std.proofs.lemmas.Result.{err_from_is_err_and}
 use Rattle.host_tree.proofs.WriteFaults.{property_no_memory, property_refused}
 use Rattle.host_tree.proofs.Fronts.{and_part}
+use Rattle.host_tree.proofs.Sizes.{parts_more}
 use Rattle.host_tree.proofs.Texts.{name_stays}
 use Rattle.host_tree.proofs.writer.TreeWriter.property.Goals as goal
 
@@ -22,6 +23,9 @@ returns-clause-put c = λ parts h. record {
       subst (λ (x : List ℕ). SpellsFront names x (parts ++ has (setting name value) ∷ [])) (sym added.1)
       (and_part names c.args.self.now.block.items added.0 parts (has (setting name value)) was
       (λ rest. added.2 names rest name (name_stays c.place_of.new.names.items more name c.in_ok-place.place place.0)));
+  size =
+      let more = parts_more parts (has (setting c.args.name.now c.args.value.now)) in
+      omega (arith, c.in_ok-put_property.ensures.size, c.in_ok-place.ensures.size, h.size, more);
 }
 
 pub returns-in_err-place-clause-refused : goal.returns-in_err-place-clause-refused
