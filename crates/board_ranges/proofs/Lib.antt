@@ -4,3 +4,5 @@ pub mod OneNode
 mod Either
 mod Uneven
 mod NoRanges
+mod Places
+mod OneList

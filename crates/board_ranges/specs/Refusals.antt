@@ -3,6 +3,7 @@ use Rattle.std.specs.Prelude.{◌≡◌, ◌⊎◌, ℕ, ◌+◌, ◌*◌, ◌^�
 use Rattle.std.specs.Prelude.{List, [], ◌∷◌, ◌++◌, Option, None, Some, length, drop, codes, map}
 use Rattle.device_tree.specs.Pieces.{Part, Setting, has, ends, parts_of}
 use Rattle.device_tree.specs.Nodes.{Nodes, node, Tree, parts_of_nodes, parts_of_tree}
+use Rattle.device_tree.specs.Places.{Block, BeginsAt}
 use Rattle.device_tree.specs.declared.pieces.PlacedPiece.{PlacedPiece}
 use Rattle.board_ranges.specs.declared.cells.Cells.{Cells}
 use Rattle.board_ranges.specs.declared.kinds.Kind.{Kind}
@@ -130,3 +131,9 @@ pub record BeginAt (pieces : List PlacedPiece) (from : List Part) (offset : ℕ)
 abbrev pub IsBoardFault : List PlacedPiece → Tree → BoardFault → Type 0
 IsBoardFault pieces tree fault = (from : List Part) × TreeSaysNone tree from fault.reason
     × BeginAt pieces from fault.offset
+
+-- why a tree of this structure block says no ranges, and the offset at which the node begins that
+-- has the reason
+abbrev pub IsBoardFaultIn : Block → Tree → BoardFault → Type 0
+IsBoardFaultIn block tree fault = (from : List Part) × TreeSaysNone tree from fault.reason
+    × BeginsAt block fault.offset from

@@ -22,7 +22,7 @@ pub use fault::{BoardFault, BoardReason};
 pub use head::{Head, after_end, head_of};
 pub use inner::{Inner, inner_of};
 pub use kinds::{Kind, Place};
-pub use nodes::ranges_of;
+pub use nodes::{one_list_law, ranges_of};
 pub use properties::value_of;
 pub use registers::{Found, cells_of, is_hart, kind_of};
 pub use rows::{Extent, RowFault, rows_of};

@@ -6,7 +6,8 @@ ghost use Rattle.device_tree.specs.Nodes.{BeginsNoNode, Nodes, Tree, parts_of_no
 ghost use Rattle.board_ranges.specs.Windows.{path_of};
 ghost use Rattle.board_ranges.specs.Properties.{value_in};
 ghost use Rattle.board_ranges.specs.Meaning.{AreOwn, Range, Say, TreeSays, live_kind, said_of};
-ghost use Rattle.board_ranges.specs.Refusals.{BeginAt, IsBoardFault, IsNodeFault, SayNone};
+ghost use Rattle.board_ranges.specs.Refusals.{BeginAt, IsBoardFault, IsBoardFaultIn, IsNodeFault, SayNone};
+ghost use Rattle.device_tree.specs.Places.{ArePlaced, Block};
 ghost use Rattle.device_tree.specs.declared.pieces.PlacedPiece.{PlacedPiece};
 
 use crate::cells::Cells;
@@ -108,6 +109,9 @@ pub fn ranges_of<'a>(
         → TreeSays tree (said_of found.items)) }
     ensures refused { IfErr result (λ fault. (tree : Tree)
         → parts_of pieces.now ≡ parts_of_tree tree → IsBoardFault pieces.now tree fault) }
+    ensures place { IfErr result (λ fault. (block : Block) (tree : Tree)
+        → parts_of pieces.now ≡ parts_of_tree tree → ArePlaced block pieces.now
+        → IsBoardFaultIn block tree fault) }
 {
     let mut found = Vec::new(alloc);
     let Some(root) = head_of(pieces) else {
@@ -130,3 +134,9 @@ pub fn ranges_of<'a>(
         Err(fault) => Err(fault),
     }
 }
+
+/// A tree says one list of ranges at most.
+pub fn one_list_law()
+    ensures { (tree : Tree) (ranges others : List Range)
+        → TreeSays tree ranges → TreeSays tree others → ranges ≡ others }
+{}

@@ -1,9 +1,9 @@
 -- Faults of a structure block in the bytes of a tree.
-use Rattle.std.proofs.Common.{◌≡◌, ℕ, ◌+◌, ◌-◌, List, [], ◌++◌, length, drop, sym, ap, subst, ◌∙◌}
+use Rattle.std.proofs.Common.{◌≡◌, ℕ, ◌+◌, ◌-◌, List, length, drop, sym, ap, subst, ◌∙◌}
 use Rattle.device_tree.specs.declared.fault.TreeFault.{TreeFault}
 use Rattle.device_tree.specs.declared.pieces.PlacedPiece.{PlacedPiece}
 use Rattle.device_tree.specs.Pieces.{Part, SpellsParts, parts_of}
-use Rattle.device_tree.specs.Places.{ArePlaced, BeginsAt, Block, block_at}
+use Rattle.device_tree.specs.Places.{ArePlaced, BeginsAt, block_at}
 use Rattle.device_tree.specs.Refusals.{IsPartsFault, IsShapeFault, IsWrongAt, offset_of}
 use Rattle.device_tree.proofs.Placed.{end_at, placed_at}
 

@@ -1,9 +1,9 @@
 -- The first of the parts that is wrong where they are no tree.
-use Rattle.std.proofs.Common.{◌≡◌, ◌≢◌, ℕ, zero, suc, ◌+◌, ◌<◌, List, [], ◌∷◌, ◌++◌, append_assoc, map, drop, sym, ap, subst, refl, ◌∙◌, arith}
+use Rattle.std.proofs.Common.{◌≡◌, ◌≢◌, ℕ, suc, ◌+◌, List, [], ◌∷◌, ◌++◌, append_assoc, map, drop, sym, ap, subst, refl, ◌∙◌, arith}
 use Rattle.std.proofs.lemmas.List.{drop-drop}
 use Rattle.device_tree.specs.declared.fault.TreeFault.{TreeFault}
 use Rattle.device_tree.specs.declared.fault.TreeReason.{TreeReason}
-use Rattle.device_tree.specs.declared.fault.TreeReason.TheVariants.{TooDeep, LateProperty, UnendedNode, NoRoot, PieceBehindRoot}
+use Rattle.device_tree.specs.declared.fault.TreeReason.TheVariants.{TooDeep, PieceBehindRoot}
 use Rattle.device_tree.specs.declared.pieces.PlacedPiece.{PlacedPiece}
 use Rattle.device_tree.specs.Pieces.{Part, Setting, begins, has, ends, parts_of}
 use Rattle.device_tree.specs.Nodes.{Nodes, no_nodes, node, parts_of_nodes, BeginsNoNode, HasNoProperty, Tree, parts_of_tree}

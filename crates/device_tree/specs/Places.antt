@@ -1,5 +1,5 @@
 -- Where the pieces of a structure block begin in the bytes of a tree.
-use Rattle.std.specs.Prelude.{◌≡◌, ℕ, ◌-◌, ◌≤◌, ⊤, List, [], ◌∷◌, ◌++◌, drop}
+use Rattle.std.specs.Prelude.{ℕ, ◌-◌, ◌≤◌, ⊤, List, [], ◌∷◌, ◌++◌, drop}
 use Rattle.device_tree.specs.declared.pieces.PlacedPiece.{PlacedPiece}
 use Rattle.device_tree.specs.Words.{word_at, BeginsWith}
 use Rattle.device_tree.specs.Pieces.{Part, SpellsPart, SpellsParts, part_of, parts_of}

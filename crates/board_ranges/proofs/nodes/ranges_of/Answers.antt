@@ -9,6 +9,7 @@ use Rattle.board_ranges.specs.Meaning.{AreCells, Range, Say, said_of}
 use Rattle.board_ranges.specs.Refusals.{HasNoCells, at_root, below_root}
 use Rattle.board_ranges.proofs.OneNode.{root_front}
 use Rattle.board_ranges.proofs.NoRanges.{begin_behind}
+use Rattle.board_ranges.proofs.Places.{in_block}
 use Rattle.board_ranges.proofs.nodes.ranges_of.Goals as goal
 
 pub returns-in-Ok-clause-ok : goal.returns-in-Ok-clause-ok
@@ -57,3 +58,11 @@ returns-clause-refused c = λ tree e.
       below_root cells got.0 fault.reason cells_too got.1,
       begin_behind c.args.pieces.now root.inner.now (pieces.0 ∷ root.properties.now) (got.0 ++ (ends ∷ [])) fault.offset pieces.1 got.2,
     )
+
+-- and the offset is that in the bytes
+pub returns-in_default-cells_of-clause-place : goal.returns-in_default-cells_of-clause-place
+returns-in_default-cells_of-clause-place c = λ block tree e are.
+    in_block block c.args.pieces.now tree _ are (returns-in_default-cells_of-clause-refused c tree e)
+
+pub returns-clause-place : goal.returns-clause-place
+returns-clause-place c = λ block tree e are. in_block block c.args.pieces.now tree _ are (returns-clause-refused c tree e)

@@ -1,8 +1,7 @@
 use Rattle.std.proofs.Common.{◌≡◌, ◌∙◌, ◌+◌, ◌-◌, ap, sym, subst, refl, [], ◌∷◌, ◌++◌, List, ℕ, length, append-nil, length-drop, drop, arith}
 use Rattle.std.proofs.lemmas.List.{map-append}
 use Rattle.device_tree.specs.declared.pieces.PlacedPiece.{PlacedPiece}
-use Rattle.device_tree.specs.Words.{Leaves}
-use Rattle.device_tree.specs.Pieces.{Part, SpellsPart, SpellsParts, parts_of, part_of, part, the_end, skipped}
+use Rattle.device_tree.specs.Pieces.{Part, SpellsParts, parts_of, part_of, part, the_end, skipped}
 use Rattle.device_tree.specs.Places.{ComesTo, at_front, behind_skip, behind_part, block_at}
 use Rattle.device_tree.specs.Refusals.{IsTokenFault}
 use Rattle.device_tree.proofs.Parts.{behind_nop, left_behind, shorter, taken}

@@ -1,7 +1,7 @@
-use Rattle.std.proofs.Common.{sym, subst, refl, ℕ, List, arith, length-take}
-use Rattle.device_tree.specs.Trees.{SpellsTree, front_of}
+use Rattle.std.proofs.Common.{sym, subst, ℕ, List}
+use Rattle.device_tree.specs.Trees.{SpellsTree}
 use Rattle.device_tree.specs.Places.{ArePlaced, block_of}
-use Rattle.device_tree.specs.Refusals.{IsTreeFault, of_header}
+use Rattle.device_tree.specs.Refusals.{IsTreeFault}
 use Rattle.device_tree.proofs.tree.read_tree.Goals as goal
 
 pub returns-in-Ok-clause-ok : goal.returns-in-Ok-clause-ok

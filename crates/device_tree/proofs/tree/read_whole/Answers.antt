@@ -1,9 +1,9 @@
-use Rattle.std.proofs.Common.{◌≡◌, ◌∙◌, ap, subst, refl, ℕ, List, drop, length, length-drop, arith}
+use Rattle.std.proofs.Common.{◌∙◌, ap, subst, refl, ℕ, List, length, length-drop, arith}
 use Rattle.device_tree.specs.Pieces.{SpellsParts, parts_of}
 use Rattle.device_tree.specs.Nodes.{parts_of_tree}
-use Rattle.device_tree.specs.Trees.{IsHeader, reservations_of, strings_of, structure_of}
+use Rattle.device_tree.specs.Trees.{IsHeader, strings_of, structure_of}
 use Rattle.device_tree.specs.Words.{word_at}
-use Rattle.device_tree.specs.Places.{ArePlaced, Block, block_at, block_of}
+use Rattle.device_tree.specs.Places.{Block, block_at}
 use Rattle.device_tree.specs.Refusals.{IsPartsFault, IsTokenFaultIn, IsUnended, of_header, of_parts, of_reservations, of_token}
 use Rattle.device_tree.proofs.InBytes.{parts_fault, same_block}
 use Rattle.device_tree.proofs.Parts.{same_parts}
