@@ -11,7 +11,7 @@
  * they are on again, and the enclave is resumed, perhaps on another hart.
  *
  * A destruction is refused where the host's view after it would need more entries than a hart has. Such an enclave is kept, with
- * its pages, in a list by address (`kept`), and is tried again whenever another goes (`settle_all`).
+ * its pages, in the list of blocks by address, and is tried again whenever another goes (`settle_all`).
  */
 #include <linux/bitmap.h>
 #include <linux/fs.h>
@@ -282,8 +282,8 @@ static bool fill(size_t unit, size_t at, size_t pages)
 	return true;
 }
 
-/* Whether each page of a block is closed or free. */
-static bool is_mixed_or_free(size_t unit, size_t at, size_t pages)
+/* Whether a block can be closed as a whole: each page is closed already, or free. */
+static bool is_closable(size_t unit, size_t at, size_t pages)
 {
 	for (size_t i = at; i < at + pages; i++)
 		if (test_bit(i, private_used[unit]) && !test_bit(i, closed[unit]))
@@ -313,7 +313,7 @@ static bool fill_one(void)
 {
 	for (size_t pages = 2; pages <= HALF; pages *= 2)
 		for (size_t i = 0; i < units * HALF; i += pages)
-			if (costs_of(i / HALF, i % HALF, pages).open > 1 && is_mixed_or_free(i / HALF, i % HALF, pages))
+			if (costs_of(i / HALF, i % HALF, pages).open > 1 && is_closable(i / HALF, i % HALF, pages))
 				return fill_in(i / HALF, i % HALF, pages);
 	return false;
 }
