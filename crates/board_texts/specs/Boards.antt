@@ -8,10 +8,12 @@ use Rattle.permission_map.specs.Runs.{AreRuns, view_of_runs}
 use Rattle.map_text.specs.MapFile.{Makes}
 use Rattle.device_tree.specs.declared.reservations.Reservation.{Reservation}
 use Rattle.device_tree.specs.Nodes.{Tree}
-use Rattle.device_tree.specs.Trees.{ReadsAs}
+use Rattle.device_tree.specs.Trees.{ReadsAs, front_of}
+use Rattle.device_tree.specs.Places.{Block, block_of}
+use Rattle.device_tree.specs.Refusals.{IsTreeFault}
 use Rattle.board_ranges.specs.declared.fault.BoardFault.{BoardFault}
 use Rattle.board_ranges.specs.Meaning.{Range, TreeSays}
-use Rattle.board_ranges.specs.Refusals.{HasNoRanges}
+use Rattle.board_ranges.specs.Refusals.{IsBoardFaultIn}
 use Rattle.lint_texts.specs.Pieces.{address_text}
 use Rattle.device_tree.specs.declared.fault.TreeFault.{TreeFault}
 use Rattle.device_tree.specs.declared.fault.TreeReason.TheVariants as tree_reasons
@@ -74,15 +76,17 @@ IsLateFault (faults.Rule fault) = ⊥
 IsLateFault faults.NotReadBack = ⊤
 IsLateFault faults.Memory = ⊤
 
--- the bytes begin with no tree that is read, but for want of memory
+-- the bytes begin with no tree that is read, and the fault is true of them; but for want of memory
 abbrev pub IsNoTree : List ℕ → TreeFault → Type 0
 IsNoTree bytes fault = fault.reason ≢ tree_reasons.Memory
-    → (tree : Tree) (reservations : List Reservation) → ReadsAs bytes tree reservations → ⊥
+    → IsTreeFault (front_of bytes) fault
+    × ((tree : Tree) (reservations : List Reservation) → ReadsAs bytes tree reservations → ⊥)
 
--- when a tree has no map: it says no ranges, or it is one of those faults
-abbrev pub IsReadFault : Tree → BoardTextFault → Type 0
-IsReadFault tree fault = ((reason : BoardFault) × (fault ≡ faults.Ranges reason)
-    × HasNoRanges tree reason.reason)
+-- when a tree that is in a block has no map: it says no ranges, for the fault that is named of the
+-- node at its offset; or it is one of the late faults
+abbrev pub IsReadFault : Block → Tree → BoardTextFault → Type 0
+IsReadFault block tree fault = ((one : BoardFault) × (fault ≡ faults.Ranges one)
+    × IsBoardFaultIn block tree one)
     ⊎ IsLateFault fault
 
 -- when there is no map: the bytes begin with no tree, or the tree has none
@@ -90,7 +94,7 @@ abbrev pub IsNoMap : List ℕ → BoardTextFault → Type 0
 IsNoMap bytes fault = ((reason : TreeFault) × (fault ≡ faults.Tree reason)
     × IsNoTree bytes reason)
     ⊎ ((tree : Tree) × (reservations : List Reservation) × ReadsAs bytes tree reservations
-    × IsReadFault tree fault)
+    × IsReadFault (block_of (front_of bytes)) tree fault)
 
 -- the bytes are those of a device tree, and the text is the map of its board
 pub record IsMapOfTree (bytes text : List ℕ) : Type 0 where

@@ -10,12 +10,13 @@ use Rattle.permission_map.specs.declared.runs.Run.{Run}
 use Rattle.permission_map.specs.Runs.{AreRuns, view_of_runs}
 use Rattle.device_tree.specs.declared.reservations.Reservation.{Reservation}
 use Rattle.device_tree.specs.Nodes.{Tree}
-use Rattle.device_tree.specs.Trees.{ReadsAs}
+use Rattle.device_tree.specs.Trees.{ReadsAs, front_of}
+use Rattle.device_tree.specs.Places.{Block, block_of}
 use Rattle.device_tree.specs.declared.fault.TreeFault.{TreeFault}
 use Rattle.board_ranges.specs.declared.fault.BoardFault.{BoardFault}
 use Rattle.board_ranges.specs.declared.kinds.Kind.TheVariants.{Memory, Device}
 use Rattle.board_ranges.specs.Meaning.{Range, TreeSays}
-use Rattle.board_ranges.specs.Refusals.{HasNoRanges}
+use Rattle.board_ranges.specs.Refusals.{IsBoardFaultIn}
 use Rattle.platforms.specs.declared.platform.PlatformFault.{PlatformFault}
 use Rattle.platforms.specs.declared.platform.PlatformFault.TheVariants.{BadHarts}
 use Rattle.platforms.specs.CheckLists.{FailsFirst}
@@ -178,10 +179,11 @@ IsBoardRefusal given ranges (faults.Rule fault) = BreaksRule given ranges fault
 IsBoardRefusal given ranges faults.NotReadBack = ⊤
 IsBoardRefusal given ranges faults.Memory = ⊤
 
--- when a tree is no platform: so are its ranges, or it says none
-abbrev pub IsTreeRefusal : Option (ℕ × ℕ) → Tree → BoardTextFault → Type 0
-IsTreeRefusal given tree fault = ((reason : BoardFault) × (fault ≡ faults.Ranges reason)
-    × HasNoRanges tree reason.reason)
+-- when a tree that is in a block is no platform: so are its ranges; or it says none, for the fault
+-- that is named of the node at its offset
+abbrev pub IsTreeRefusal : Option (ℕ × ℕ) → Block → Tree → BoardTextFault → Type 0
+IsTreeRefusal given block tree fault = ((one : BoardFault) × (fault ≡ faults.Ranges one)
+    × IsBoardFaultIn block tree one)
     ⊎ ((ranges : List Range) × TreeSays tree ranges × IsBoardRefusal given ranges fault)
 
 -- when there is no platform: the bytes begin with no tree, or the tree is none
@@ -189,4 +191,4 @@ abbrev pub IsNoPlatform : Option (ℕ × ℕ) → List ℕ → BoardTextFault �
 IsNoPlatform given bytes fault = ((reason : TreeFault) × (fault ≡ faults.Tree reason)
     × IsNoTree bytes reason)
     ⊎ ((tree : Tree) × (reservations : List Reservation) × ReadsAs bytes tree reservations
-    × IsTreeRefusal given tree fault)
+    × IsTreeRefusal given (block_of (front_of bytes)) tree fault)

@@ -5,6 +5,7 @@ ghost use Rattle.permission_map.specs.Runs.{AreRuns, end_of};
 ghost use Rattle.device_tree.specs.declared.reservations.Reservation.{Reservation};
 ghost use Rattle.device_tree.specs.Pieces.{parts_of};
 ghost use Rattle.device_tree.specs.Nodes.{Tree, parts_of_tree};
+ghost use Rattle.device_tree.specs.Places.{ArePlaced, Block};
 ghost use Rattle.device_tree.specs.Trees.{ReadsAs};
 ghost use Rattle.board_ranges.specs.Meaning.{Range, TreeSays, said_of};
 ghost use Rattle.board_texts.specs.Boards.{IsBoardMap, IsLateFault, IsMapOfTree, IsNoMap, IsReadFault, board_map_text, item_text, lines_text, map_head, run_text};
@@ -119,8 +120,9 @@ fn map_of_pieces<'a>(
     ensures ok { IfOk result (λ text. (tree : Tree) → parts_of pieces.now ≡ parts_of_tree tree
         → (ranges : List Range) × TreeSays tree ranges
         × IsBoardMap ranges reservations.now text.items) }
-    ensures refused { IfErr result (λ fault. (tree : Tree)
-        → parts_of pieces.now ≡ parts_of_tree tree → IsReadFault tree fault) }
+    ensures refused { IfErr result (λ fault. (block : Block) (tree : Tree)
+        → parts_of pieces.now ≡ parts_of_tree tree → ArePlaced block pieces.now
+        → IsReadFault block tree fault) }
 {
     let found = match ranges_of(alloc, pieces) {
         Ok(found) => found,

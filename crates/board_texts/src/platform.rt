@@ -5,6 +5,7 @@ ghost use Rattle.permission_map.specs.Runs.{AreRuns, end_of, view_of_runs};
 ghost use Rattle.device_tree.specs.declared.reservations.Reservation.{Reservation};
 ghost use Rattle.device_tree.specs.Pieces.{parts_of};
 ghost use Rattle.device_tree.specs.Nodes.{Tree, parts_of_tree};
+ghost use Rattle.device_tree.specs.Places.{ArePlaced, Block};
 ghost use Rattle.board_ranges.specs.Meaning.{Range, TreeSays, said_of};
 ghost use Rattle.board_texts.specs.Monitors.{monitor_of};
 ghost use Rattle.board_texts.specs.Platforms.{IsBoardPlatform, IsBoardRefusal, IsMapRefusal, IsNoPlatform, IsPlatformOfTree, IsTreeRefusal, IsRuleBroken, board_platform_text, built, devices_of, harts_used, layout_of, pages_of_bytes, ram_of};
@@ -205,8 +206,9 @@ fn platform_of_pieces<'a>(
     ensures ok { IfOk result (λ text. (tree : Tree) → parts_of pieces.now ≡ parts_of_tree tree
         → (ranges : List Range) × TreeSays tree ranges
         × IsBoardPlatform given ranges reservations.now text.items) }
-    ensures refused { IfErr result (λ fault. (tree : Tree)
-        → parts_of pieces.now ≡ parts_of_tree tree → IsTreeRefusal given tree fault) }
+    ensures refused { IfErr result (λ fault. (block : Block) (tree : Tree)
+        → parts_of pieces.now ≡ parts_of_tree tree → ArePlaced block pieces.now
+        → IsTreeRefusal given block tree fault) }
 {
     let found = match ranges_of(alloc, pieces) {
         Ok(found) => found,

@@ -1,5 +1,7 @@
-use Rattle.std.proofs.Common.{◌∙◌, ap, inl, inr, refl}
+use Rattle.std.proofs.Common.{◌∙◌, ap, inl, inr, refl, subst, sym}
 use Rattle.device_tree.specs.Pieces.{parts_of}
+use Rattle.device_tree.specs.Places.{ArePlaced, block_of}
+use Rattle.device_tree.specs.Trees.{front_of}
 use Rattle.board_texts.proofs.map.map_text_of.Goals as goal
 
 pub returns-in-Ok-map_of_pieces-clause-ok : goal.returns-in-Ok-map_of_pieces-clause-ok
@@ -14,7 +16,7 @@ returns-in-Ok-map_of_pieces-clause-ok c =
     }
 
 pub returns-in-Err-clause-refused : goal.returns-in-Err-clause-refused
-returns-in-Err-clause-refused c = inl (c.in-Err.fault, refl, c.in-Err.ensures.refused)
+returns-in-Err-clause-refused c = inl (c.in-Err.fault, refl, λ m. (c.in-Err.ensures.reason m, c.in-Err.ensures.refused m))
 
 pub returns-clause-refused : goal.returns-clause-refused
 returns-clause-refused c =
@@ -23,5 +25,6 @@ returns-clause-refused c =
       read.0,
       c.in-Ok.tree.reservations.items,
       read.1,
-      c.in-Err-map_of_pieces.ensures.refused read.0 (ap parts_of c.as_slice.ensures.value ∙ read.2),
+      c.in-Err-map_of_pieces.ensures.refused (block_of (front_of c.args.bytes.now)) read.0 (ap parts_of c.as_slice.ensures.value ∙ read.2)
+          (subst (ArePlaced (block_of (front_of c.args.bytes.now))) (sym c.as_slice.ensures.value) c.in-Ok.ensures.places),
     )
