@@ -10,12 +10,16 @@ use Rattle.host_tree.specs.declared.fault.MakeFault.TheVariants.{NotUnderstood, 
 use Rattle.host_tree.specs.declared.fault.MakeFault.TheVariants.{NotWritten}
 use Rattle.host_tree.specs.declared.write_fault.WriteFault.TheVariants as writes
 
--- memory was refused
+-- memory was refused, or the host's tree would have 4 GiB, for which there is none
 abbrev pub IsMemory : HostTreeFault → Type 0
 IsMemory (NotRead fault) = fault.reason ≡ trees.Memory
 IsMemory (NotMade (NotUnderstood reason)) = reason ≡ BadRows rows.Memory
 IsMemory (NotMade BadCells) = ⊥
-IsMemory (NotMade (NotWritten fault)) = fault ≡ writes.Memory
+IsMemory (NotMade (NotWritten fault)) = (fault ≡ writes.Memory) ⊎ (fault ≡ writes.TooLarge)
+
+-- the tree is not read, or memory was refused
+abbrev pub IsTreeCode : ℤ → Type 0
+IsTreeCode code = (code ≡ pos 1) ⊎ (code ≡ pos 3)
 
 -- it is not done: the tree is not read, its place has no room, or memory was refused
 abbrev pub IsCode : ℤ → Type 0

@@ -1,11 +1,11 @@
 //! What firmware does with the device tree of a board before its host begins.
 
-ghost use Rattle.std.specs.Prelude.{◌≡◌, ◌↔◌, ◌++◌, IsTrue, List, ℕ, pos};
-ghost use Rattle.host_tree.specs.HostTrees.{IsHosts};
+ghost use Rattle.std.specs.Prelude.{◌≡◌, ◌↔◌, ◌⊎◌, ◌++◌, IsTrue, List, ℕ, drop, length, pos};
+ghost use Rattle.host_tree.specs.HostTrees.{IsHosts, LeavesFree};
 ghost use Rattle.host_tree.specs.Platforms.{IsFound, portion_in, reserved_in};
 ghost use Rattle.host_tree.specs.Refusals.{IsBoardOfFault, IsHostTreeFault, IsPlaceFault};
 ghost use Rattle.host_tree.specs.declared.fault.HostTreeFault.{HostTreeFault};
-ghost use Rattle.pmpmon_monitor.specs.Codes.{IsCode, IsMemory, range};
+ghost use Rattle.pmpmon_monitor.specs.Codes.{IsCode, IsMemory, IsTreeCode, range};
 
 use board_ranges::{BoardReason, Extent, RowFault};
 use device_tree::TreeReason;
@@ -23,7 +23,7 @@ const NO_ROOM: i64 = 2;
 
 const NO_MEMORY: i64 = 3;
 
-/// Whether memory was refused.
+/// Whether memory was refused, or would have been for a tree of 4 GiB.
 fn is_memory(fault: HostTreeFault) -> bool
     ensures { IsTrue result ↔ IsMemory fault }
 {
@@ -33,7 +33,9 @@ fn is_memory(fault: HostTreeFault) -> bool
             reason == BoardReason::BadRows(RowFault::Memory)
         }
         HostTreeFault::NotMade(MakeFault::BadCells) => false,
-        HostTreeFault::NotMade(MakeFault::NotWritten(fault)) => fault == WriteFault::Memory,
+        HostTreeFault::NotMade(MakeFault::NotWritten(fault)) => {
+            fault == WriteFault::Memory || fault == WriteFault::TooLarge
+        }
     }
 }
 
@@ -41,7 +43,7 @@ fn is_memory(fault: HostTreeFault) -> bool
 fn code_of(fault: HostTreeFault) -> i64
     ensures memory { IsMemory fault → result ≡ pos 3 }
     ensures other { (IsMemory fault → ⊥) → result ≡ pos 1 }
-    ensures code { IsCode result }
+    ensures code { IsTreeCode result }
 {
     if is_memory(fault) {
         return NO_MEMORY;
@@ -58,7 +60,8 @@ pub extern "C" fn pmpmon_find_platform(
     platform: &mut PlatformWords,
 ) -> i64
     ensures found { result ≡ pos 0 → IsFound tree.now platform.old platform.new }
-    ensures refused { IsCode result → platform.new ≡ platform.old }
+    ensures code { (result ≡ pos 0) ⊎ IsTreeCode result }
+    ensures refused { IsTreeCode result → platform.new ≡ platform.old }
     // Why the tree is not read.
     ensures unread { result ≡ pos 1 → (fault : HostTreeFault) × (IsMemory fault → ⊥)
         × IsBoardOfFault tree.now fault }
@@ -70,8 +73,8 @@ pub extern "C" fn pmpmon_find_platform(
 }
 
 /// Writes the host's tree in place of the board's, which the bytes begin with, with the range of the monitor reserved, and that of a
-/// pool of enclaves where it has a size. It answers 0; 1 where the tree is not read, 2 where the host's has no room, or 3 where memory
-/// was refused, and the bytes are as they were.
+/// pool of enclaves where it has a size; what is behind the tree stays. It answers 0; 1 where the tree is not read, 2 where the host's
+/// has no room, or 3 where memory was refused or the host's tree would have 4 GiB, and the bytes are as they were.
 #[unsafe(no_mangle)]
 pub extern "C" fn pmpmon_put_host_tree(
     alloc: Global,
@@ -80,11 +83,15 @@ pub extern "C" fn pmpmon_put_host_tree(
     pool_size: u64,
     tree: &mut [u8],
 ) -> i64
-    ensures done { result ≡ pos 0 → (out rest : List ℕ) × (tree.new ≡ out ++ rest)
+    ensures code { (result ≡ pos 0) ⊎ IsCode result }
+    ensures done { result ≡ pos 0 → (out : List ℕ)
+        × (tree.new ≡ out ++ drop (length out) tree.old)
         × IsHosts (portion_in platform.now)
+        (reserved_in platform.now (range pool_base pool_size)) tree.old out
+        × LeavesFree (portion_in platform.now)
         (reserved_in platform.now (range pool_base pool_size)) tree.old out }
     ensures refused { IsCode result → tree.new ≡ tree.old }
-    // Why the tree is not read, and the host's tree that has no room.
+    // Why the tree is not read, and why the host's has no room.
     ensures unread { result ≡ pos 1 → (fault : HostTreeFault) × (IsMemory fault → ⊥)
         × IsHostTreeFault (reserved_in platform.now (range pool_base pool_size)) tree.old fault }
     ensures room { result ≡ pos 2 → IsPlaceFault platform.now (range pool_base pool_size)
