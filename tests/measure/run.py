@@ -1,6 +1,6 @@
 #!/usr/bin/env python3
 """Compares what `measure` prints with two others who measure: examples/linux/digest.py, of ELF files, and `run --measure`, of an
-enclave whose host stored the same bytes.
+enclave whose host stored the same bytes. And what digest.py refuses.
 
   tests/measure/run.py PROGRAM
 
@@ -22,6 +22,7 @@ TOP = Path(__file__).resolve().parents[2]
 PAGE = 4096
 PLATFORM = "[monitor]\nbase = 0x80000000\nsize = 0x200000\n[[ram]]\nbase = 0x80000000\nsize = 0x8000000\n"
 BASE, SHARED = 0x80200000, 0x80400000
+SHARED_AT = 0x400000  # of enclave.ld
 
 
 def elf(text, data, pages, entry):
@@ -30,7 +31,7 @@ def elf(text, data, pages, entry):
     header = b"\x7fELF\x02\x01\x01" + bytes(9) + struct.pack("<2HL3QL6H", 2, 243, 1, entry, 64, 0, 0, 64, 56, 3, 0, 0, 0)
     rows = struct.pack("<2L6Q", 1, 5, offset, 0, 0, len(text), pages[0] * PAGE, PAGE)
     rows += struct.pack("<2L6Q", 1, 6, offset + len(text), pages[0] * PAGE, 0, len(data), pages[1] * PAGE, PAGE)
-    rows += struct.pack("<2L6Q", 0x6D706D70, 6, 0, SHARED, 0, 0, pages[2] * PAGE, PAGE)
+    rows += struct.pack("<2L6Q", 0x6D706D70, 6, 0, SHARED_AT, 0, 0, pages[2] * PAGE, PAGE)
     return header + rows + text + data
 
 
@@ -70,12 +71,26 @@ def compare(program, folder, made, count):
     count.note(digest == ran(program, folder, whole, pages, entry), f"by run --measure: {name}")
 
 
+def refusals(folder, count):
+    """What digest.py is asked in vain: no monitor would measure it."""
+    text, data, at = bytes(PAGE), bytes(8), 64 + 56 + 16
+    file = elf(text, data, (1, 1, 1), 0)
+    rows = {"no words": None, "a file that is cut": file[:100], "data at another place": file[:at] + struct.pack("<Q", 0x8000) + file[at + 8 :]}
+    rows |= {"an entry after the text": elf(text, data, (1, 1, 1), PAGE), "1,025 pages": elf(text, data, (1, 1024, 1), 0), "no shared page": elf(text, data, (1, 1, 0), 0)}
+    for name, bytes_ in rows.items():
+        (folder / "file.elf").write_bytes(bytes_ or b"")
+        done = subprocess.run([TOP / "examples/linux/digest.py", *([folder / "file.elf"] if bytes_ else [])], capture_output=True, text=True)
+        right = done.returncode == 1 and not done.stdout and done.stderr.startswith(("digest.py: ", "usage: "))
+        count.note(right, f"digest.py refuses {name}", done.stdout + done.stderr)
+
+
 def main():
     program = Path(sys.argv[1]).resolve()
     count, made = Count(), random.Random(80)
     with tempfile.TemporaryDirectory() as folder:
         for _ in range(5):
             compare(program, Path(folder), made, count)
+        refusals(Path(folder), count)
     return count.end()
 
 
