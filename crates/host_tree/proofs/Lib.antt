@@ -17,3 +17,4 @@ mod Refused
 mod ReadNames
 mod RootRefused
 mod Rooms
+mod OneName

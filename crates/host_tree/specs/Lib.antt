@@ -1,4 +1,5 @@
 pub mod Written
+pub mod Names
 pub mod Header
 pub mod Shares
 pub mod Extensions

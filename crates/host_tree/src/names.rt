@@ -1,7 +1,8 @@
 //! The strings block: the names of properties, each with the zero that ends it.
 
-ghost use Rattle.std.specs.Prelude.{◌≡◌, ◌+◌, ◌≤◌, ◌<◌, ◌^◌, ◌++◌, IfErr, IfOk, IfSome, OnOk, List, ℕ, drop, length};
+ghost use Rattle.std.specs.Prelude.{◌≡◌, ◌+◌, ◌≤◌, ◌<◌, ◌^◌, ◌++◌, IfErr, IfNone, IfOk, IfSome, OnOk, List, ℕ, drop, length};
 ghost use Rattle.device_tree.specs.Words.{BeginsWithText};
+ghost use Rattle.host_tree.specs.Names.{HasName};
 ghost use Rattle.host_tree.specs.Written.{IsText};
 
 use crate::bytes::{put_bytes, text_in};
@@ -19,6 +20,7 @@ fn after(bytes: &[u8], n: usize) -> &[u8]
 fn place_in(names: &[u8], name: &[u8]) -> Option<usize>
     ensures here { IfSome result (λ place. BeginsWithText (drop place names.now) name.now) }
     ensures inside { IfSome result (λ place. place ≤ length names.now) }
+    ensures none { IfNone result (HasName names.now name.now → ⊥) }
 {
     let mut at = 0;
     'names: while at < names.len() {

@@ -1,4 +1,4 @@
-use Rattle.std.proofs.Common.{◌≡◌, ◌<◌, ◌∙◌, inr, length, arith}
+use Rattle.std.proofs.Common.{◌<◌, ◌∙◌, inr, length, arith}
 use Rattle.host_tree.specs.Platforms.{portion_in, reserved_in}
 use Rattle.host_tree.proofs.Rooms.{lacks}
 use Rattle.host_tree.proofs.in_place.tree_for.Goals as goal

@@ -1,4 +1,4 @@
-use Rattle.std.proofs.Common.{◌≡◌, ◌++◌, ◌∙◌, ℕ, List, [], length, replicate, ap, subst, refl, append-nil, arith}
+use Rattle.std.proofs.Common.{◌∙◌, ℕ, List, [], length, replicate, ap, subst, refl, append-nil, arith}
 use Rattle.std.proofs.lemmas.List.{length-replicate}
 use Rattle.std.proofs.lemmas.Result.{err_from_is_err_and}
 use Rattle.device_tree.specs.Words.{word_at}
