@@ -1,9 +1,13 @@
 -- The words of an event, read one after another.
-use Rattle.std.proofs.Common.{ℕ, zero, suc, List, [], ◌∷◌, ◌≡◌, ◌∙◌, ◌+◌, ◌≤◌, Bool, true, Some, ap, refl, length, drop, slice_get, arith}
+use Rattle.std.proofs.Common.{ℕ, zero, suc, List, [], ◌∷◌, ◌≡◌, ◌∙◌, ◌+◌, ◌≤◌, ⊎_elim, Bool, true, Some, ap, sym, refl, length, drop, slice_get, arith}
+use Rattle.std.proofs.lemmas.Bool.{cases_lt}
 use Rattle.std.proofs.lemmas.Grind.{common_steps}
 use Rattle.hart_trace.specs.Events.{Word}
 use Rattle.file_lints.specs.declared.forms.Slot.{Slot}
-use Rattle.file_lints.specs.Forms.{fit_all, fits}
+use Rattle.file_lints.specs.declared.forms.EventKind.{EventKind}
+use Rattle.file_lints.specs.Findings.{AreFit}
+use Rattle.file_lints.specs.Forms.{fit_all, fits, slots_of}
+use Rattle.lint_texts.specs.Columns.{PlacedWord}
 
 -- the element at a place is the first of those from there on
 get_drop : {X : Type 0} (xs : List X) (i : ℕ) → slice_get xs i ≡ slice_get (drop i xs) 0
@@ -45,3 +49,19 @@ pub fit_more :
     → fits slot word ≡ true
     → fit_all fewer rest more ≡ true → fit_all fewer slots words ≡ true
 fit_more fewer slots rest slot words more word e f here h = rw (e, f, here) h
+
+-- and so is one more than those before it
+pub one_more_fit :
+    (kind : EventKind) (words : List PlacedWord) (count : ℕ) (slot : Slot) (word : PlacedWord) → AreFit kind words count
+    → slice_get (slots_of kind) count ≡ Some slot → slice_get words (count + 1) ≡ Some word → fits slot word.1 ≡ true
+    → AreFit kind words (count + 1)
+one_more_fit kind words count slot word before here stands good = λ n other placed less slots is.
+    ⊎_elim (λ earlier. before n other placed earlier slots is)
+    (λ later.
+    let same : n ≡ count = omega (arith, less, later) in
+    let own_slot : Some slot ≡ Some other = sym here ∙ (rw same at slots) in
+    let own_word : Some word ≡ Some placed = sym stands ∙ (rw same at is) in
+    let one_slot : slot ≡ other = cc in
+    let one_word : word ≡ placed = cc in
+    rw (← one_slot, ← one_word) good)
+    (cases_lt n count)

@@ -9,6 +9,7 @@ use Rattle.hart_trace.specs.Events.{Word, hart_of, meaning_of}
 use Rattle.lint_texts.specs.Columns.{PlacedWord, end_of, placed_words}
 use Rattle.lint_texts.specs.Marks.{has_mark}
 use Rattle.file_lints.specs.declared.forms.EventKind.{EventKind}
+use Rattle.file_lints.specs.declared.forms.Slot.{Slot}
 use Rattle.file_lints.specs.declared.reason.Reason.{Reason}
 use Rattle.file_lints.specs.declared.reason.Reason.TheVariants.{LongLine, ByteOrderMark, NoText}
 use Rattle.file_lints.specs.declared.reason.Reason.TheVariants.{NoHart, NoEvent, UnknownEvent}
@@ -39,20 +40,28 @@ abbrev pub Begins : List PlacedWord → EventKind → Type 0
 Begins words kind = (first : PlacedWord) × (slice_get words 0 ≡ Some first)
     × (kind_of first.1 ≡ Some kind)
 
--- an event's words break this, at a word and that many bytes before it. A word that is wanting
--- would come after the last
+-- of the words after an event's first, so many are what should be there
+abbrev pub AreFit : EventKind → List PlacedWord → ℕ → Type 0
+AreFit kind words count = (n : ℕ) (slot : Slot) (word : PlacedWord) → n < count
+    → slice_get (slots_of kind) n ≡ Some slot → slice_get words (n + 1) ≡ Some word
+    → fits slot word.1 ≡ true
+
+-- an event's words break this, at a word and that many bytes before it: the first that is not what
+-- should be there. A word that is wanting would come after the last
 abbrev pub BreaksEvent : List PlacedWord → ℕ → Word → Reason → Type 0
 BreaksEvent words before word UnknownEvent = (slice_get words 0 ≡ Some (before, word))
     × (kind_of word ≡ None)
 BreaksEvent words before word (Misfit slot) =
     (kind : EventKind) × (n : ℕ) × Begins words kind × (slice_get (slots_of kind) n ≡ Some slot)
     × (slice_get words (n + 1) ≡ Some (before, word)) × (fits slot word ≡ false)
+    × AreFit kind words n
 BreaksEvent words before word (Missing kind slot) =
     (n : ℕ) × (last : PlacedWord) × Begins words kind × (slice_get (slots_of kind) n ≡ Some slot)
     × (may_end kind ≡ false) × (length words ≡ n + 1)
-    × (slice_get words n ≡ Some last) × (before ≡ end_of last)
+    × (slice_get words n ≡ Some last) × (before ≡ end_of last) × AreFit kind words n
 BreaksEvent words before word (Extra kind) = Begins words kind
     × (slice_get words (length (slots_of kind) + 1) ≡ Some (before, word))
+    × AreFit kind words (length (slots_of kind))
 BreaksEvent words before word _ = ⊥
 
 -- a line's words break this
