@@ -17,11 +17,13 @@
 
 mod host_trees;
 
-ghost use Rattle.std.specs.Prelude.{◌≡◌, ◌<◌};
+ghost use Rattle.std.specs.Prelude.{◌≡◌, ◌<◌, None};
 ghost use Rattle.sbi_calls.specs.Actions.{action_of};
 ghost use Rattle.sbi_calls.specs.Decisions.{Decides};
 ghost use Rattle.sbi_calls.specs.Owners.{world_of};
 ghost use Rattle.sbi_calls.specs.declared.decision.Decision.{Decision};
+ghost use Rattle.trap_server.specs.Numbers.{served_number};
+ghost use Rattle.trap_server.specs.Served.{EndsWith};
 
 pub use host_trees::{pmpmon_find_platform, pmpmon_put_host_tree};
 use sbi_calls::{Action, BankWords, Caller, Harts, HostCall, action_of, decide, world_of};
@@ -31,7 +33,10 @@ use trap_server::serve_on;
 
 /// Serves the traps until the input ends (0), a frame was refused (1), or a device failed (2 reading, 3 writing).
 #[unsafe(no_mangle)]
-pub extern "C" fn pmpmon_serve(alloc: Global, from: Stdin, to: Stdout) -> i64 {
+pub extern "C" fn pmpmon_serve(alloc: Global, from: Stdin, to: Stdout) -> i64
+    // (what standard input and output have is not known here)
+    ensures { EndsWith (λ input. None) (λ output. None) from to served_number result }
+{
     serve_on(alloc, from, to)
 }
 
