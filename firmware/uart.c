@@ -4,20 +4,15 @@
 static volatile uint8_t *const serial = (volatile uint8_t *)0x10000000;
 static volatile uint32_t *const finisher = (volatile uint32_t *)0x100000;
 
-#define SECOND 10000000ul
+#define TENTH_OF_A_SECOND 1000000ul
 
-/* A byte that the line does not take in a second is dropped, and so are those after it until it takes one at once: nobody waits for
-   a line without an end. */
+/* A byte that the line does not take in that time is dropped: nobody waits for a line without an end. */
 void put_char(char c)
 {
-    static uint8_t is_stuck;
-    uint64_t last = READ(time) + SECOND;
+    uint64_t last = READ(time) + TENTH_OF_A_SECOND;
     while (!(serial[5] & 0x20))
-        if (is_stuck || READ(time) > last) {
-            is_stuck = 1;
+        if (READ(time) > last)
             return;
-        }
-    is_stuck = 0;
     serial[0] = (uint8_t)c;
 }
 
