@@ -1,8 +1,8 @@
 /*
  * The registers of machine and supervisor mode that decide what a world can do beside the entries. Each is read once after a
  * trap, into the frame that the proved monitor reads, and written once from the frame that it answers with: which world has
- * which words is decided there (crates/trap_server); with which words a hart begins, here alone (at_start). A reader compares the table with the first one of
- * "Control registers" in firmware/README.md.
+ * which words is decided there (crates/trap_server); with which words a hart begins, here alone (at_start). A reader compares
+ * the table with the first one of "Control registers" in firmware/README.md.
  */
 #include "board.h"
 
@@ -135,7 +135,8 @@ void control_write(const struct control_words *words)
 #define MPV (1ul << 39)
 #define SPV (1ul << 7) /* of hstatus */
 
-/* A trap of the host that was not delegated goes on at its handler, with the registers as delegation leaves them, but for those that say more of a guest. */
+/* A trap of the host that was not delegated goes on at its handler, with the registers as delegation leaves them, but for those that
+   say more of a guest. */
 void control_to_handler(struct world *world)
 {
     uint64_t status = READ(mstatus), handler = READ(stvec);

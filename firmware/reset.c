@@ -1,7 +1,7 @@
 /*
- * What an enclave wrote into its pages is not left to the next boot. Whatever ends the board, or begins it anew, makes the private pages of all
- * enclaves zero first. A watchdog or a button asks nobody: then the next boot does it, by a list of these pages that lies after
- * the image, where no start clears it.
+ * What an enclave wrote into its pages is not left to the next boot. Whatever ends the board, or begins it anew, makes the private
+ * pages of all enclaves zero first. A watchdog or a button asks nobody: then the next boot does it, by a list of these pages that
+ * lies after the image, where no start clears it.
  */
 #include "board.h"
 

@@ -4,8 +4,8 @@
  *   pmpmon-run [-i FILE] [-t SECONDS] ENCLAVE.elf [WORD...]
  *
  * -i puts a file's bytes into the shared pages. -t ends it after that time, however often it stops by itself. The words are in its
- * first shared page, and what it says there at a stop is printed. It ends with the lowest byte of the enclave's exit value; with 125 where the enclave
- * was not made or did not exit; with 124 where the time was over.
+ * first shared page, and what it says there at a stop is printed. It ends with the lowest byte of the enclave's exit value; with 125
+ * where the enclave was not made or did not exit; with 124 where the time was over.
  */
 #include "enclave_file.h"
 #include <errno.h>
