@@ -63,9 +63,9 @@ run_world:
 /* From here on nothing of the monitor's is used but this hart's own: another hart may go on with it. */
     unlock
 enter_world:
+    csrw    mscratch, s0        # before mtvec: a trap finds the world's place from there on
     la      t0, trap
     csrw    mtvec, t0
-    csrw    mscratch, s0
     ld      t0, 32 * 8(s0)
     csrw    mepc, t0
     li      t1, ~(MODE_BITS)
