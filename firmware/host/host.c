@@ -8,7 +8,7 @@
 #define BASE 0x85000000ul
 #define TIME 0x54494d45ul
 #define RESET 0x53525354ul
-#define TICKS 50000ul /* 5 ms */
+#define TICKS 1000000ul /* 100 ms: a busy machine comes to the enclave before */
 
 long load_at(const uint64_t *at, uint64_t *value);
 extern const uint8_t enclave[], enclave_end[], enclave_second[];
