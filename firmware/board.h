@@ -2,8 +2,6 @@
 #ifndef BOARD_H
 #define BOARD_H
 #include "frames.h"
-#include <stddef.h>
-#include <stdint.h>
 
 #define MOST_HARTS 4
 #define MOST_ENCLAVES 64
@@ -27,19 +25,17 @@ void take_lock(void);
 #define LAST_OF_HART 6
 extern volatile uint32_t tickets[LAST_OF_HART + MOST_HARTS];
 
-/* pmp.S: the words of configuration and the addresses are loaded, then sfence.vma. */
-struct bank {
-    uint64_t cfg[8], addr[64];
-};
-void load_bank(const struct bank *bank);
-void read_bank(struct bank *bank);
+/* pmp.S: the words of a struct bank are loaded, as many addresses as the platform has entries, then sfence.vma. */
+void load_bank(const uint64_t *bank);
+void read_bank(uint64_t *bank);
 uint64_t clear_beyond(void);
 /* entries.c: the board ends where the hart that calls has not the entries of the platform. */
 void check_entries(void);
 
 /* serve.c: what the loop of the monitor has of the board, by hart. */
 extern struct world worlds[MOST_HARTS];
-extern struct bank banks[MOST_HARTS];
+extern struct bank host_bank;
+extern const uint64_t *banks[MOST_HARTS];
 extern uint64_t world_number[MOST_HARTS];
 /* Whether a hart's world, its entries or pages are others than when it last ran one. Then it loads its entries, and executes
    sfence.vma and fence.i, before it goes on. */

@@ -31,8 +31,8 @@ static int are_there(void)
             given.addr[i] = i % 2 == round ? all : LOWEST_PAGE;
             given.cfg[i / 8] = round ? OPEN : CLOSED;
         }
-        load_bank(&given);
-        read_bank(&got);
+        load_bank(given.cfg);
+        read_bank(got.cfg);
         if (differ(got.cfg, given.cfg, ENTRIES / 8) || differ(got.addr, given.addr, ENTRIES))
             return 0;
     }

@@ -1,6 +1,7 @@
 /* The frames between the board and the proved monitor: 64-bit words, the lowest byte first (docs/FORMATS.md, "Frames"). */
 #ifndef FRAMES_H
 #define FRAMES_H
+#include <stddef.h>
 #include <stdint.h>
 
 /* A tag is its eight letters, zero after the last. */
@@ -46,10 +47,20 @@ struct page_frame {
     uint8_t bytes[PAGE];
 };
 
-/* Written: with what a hart goes on. x[0] is x1. */
+/* The registers of 64 entries, as words: pmpcfg0, pmpcfg2, .. and pmpaddr0, pmpaddr1, .. */
+struct bank {
+    uint64_t cfg[8], addr[64];
+};
+
+/* Written: with what a hart goes on, and after it the lists of entries that are new, of which it is list_count: the host's, and that
+   of the enclave that was made, whose number is the value. x[0] is x1. */
 struct answer_frame {
-    uint64_t tag, hart, world, status, value, used, zero_first, zero_count, wake, pc, x[31], cfg[8], addr[64], control_tag;
+    uint64_t tag, hart, world, status, value, used, zero_first, zero_count, wake, list_count, pc, x[31], control_tag;
     struct control_words control;
+    struct {
+        uint64_t used;
+        struct bank bank;
+    } lists[2];
 };
 
 /* Written: pages to be read, one after another. */
@@ -65,5 +76,6 @@ struct end_frame {
 _Static_assert(sizeof(struct platform_frame) == 1336, "167 words");
 _Static_assert(sizeof(struct trap_frame) == 352, "44 words");
 _Static_assert(sizeof(struct page_frame) == 4112, "514 words");
-_Static_assert(sizeof(struct answer_frame) == 984, "123 words");
+_Static_assert(offsetof(struct answer_frame, lists) == 416, "52 words");
+_Static_assert(sizeof(struct answer_frame) == 416 + 2 * 584, "and 73 for each list");
 #endif

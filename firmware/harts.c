@@ -81,7 +81,7 @@ void load_changes(void)
     if (!is_stale[self])
         return;
     is_stale[self] = 0;
-    load_bank(&banks[self]);
+    load_bank(banks[self]);
     fence_here(FENCE_I); /* pages may have other bytes than when this hart last ran a world */
 }
 

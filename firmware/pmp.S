@@ -24,7 +24,7 @@
     .endm
 
 /*
- * void load_bank(const struct bank *): the addresses first, then the configuration, so that no entry is in force with
+ * void load_bank(const uint64_t *): the addresses first, then the configuration, so that no entry is in force with
  * another's address; in machine mode none of them binds meanwhile, since none is locked. Translations that may hold the old
  * permissions are dropped, those of a guest too where the hart has guests.
  */
@@ -39,7 +39,7 @@ load_bank:
     .insn   r 0x73, 0, 0x31, x0, x0, x0 # hfence.gvma
 1:  ret
 
-/* void read_bank(struct bank *): what the registers have. */
+/* void read_bank(uint64_t *): what the registers have. */
     .globl  read_bank
 read_bank:
     each_word get

@@ -4,8 +4,13 @@
  */
 #include "board.h"
 
+/* The entries of the host, and of each enclave by its number: the words of a struct bank that a hart has. */
+struct bank host_bank;
+static uint64_t enclave_banks[MOST_ENCLAVES + 1][8 + ENTRIES];
+_Static_assert(MOST_HARTS == 4, "a hart begins with the host's entries");
+const uint64_t *banks[MOST_HARTS] = {host_bank.cfg, host_bank.cfg, host_bank.cfg, host_bank.cfg};
+
 struct world worlds[MOST_HARTS];
-struct bank banks[MOST_HARTS];
 uint64_t world_number[MOST_HARTS];
 uint8_t is_stale[MOST_HARTS] = {1, 1, 1, 1};
 _Static_assert(MOST_HARTS == 4, "a hart begins with entries and fences");
@@ -90,18 +95,6 @@ int differ(const uint64_t *a, const uint64_t *b, unsigned count)
     return 0;
 }
 
-/* A hart goes on with the entries of an answer. It loads them where they were others, and fences where pages were made zero: these
-   may have been code. */
-static void keep_bank(unsigned hart, const struct answer_frame *answer)
-{
-    struct bank *bank = &banks[hart];
-    if (!answer->zero_count && !differ(bank->cfg, answer->cfg, ENTRIES / 8) && !differ(bank->addr, answer->addr, ENTRIES))
-        return;
-    copy_words(bank->cfg, answer->cfg, ENTRIES / 8);
-    copy_words(bank->addr, answer->addr, ENTRIES);
-    is_stale[hart] = 1;
-}
-
 void make_zero(uint64_t first, uint64_t count)
 {
     for (uint64_t page = first; page < first + count; page++)
@@ -109,31 +102,35 @@ void make_zero(uint64_t first, uint64_t count)
             memset((void *)(page * PAGE), 0, PAGE);
 }
 
-/* Other harts stand still while their entries change, and no longer. */
-static void change_others(uint64_t set, const struct answer_frame *answer)
+/* The harts that run the host are this one and the woken: they stand still while its entries change, and no longer. An enclave that is
+   new runs nowhere. */
+static void change_lists(uint64_t woken, const struct answer_frame *answer)
 {
-    if (!stop_harts(set))
+    if (!stop_harts(woken))
         end_because("a hart does not stop, asked by hart ", this_hart());
-    for (unsigned hart = 0; set; hart++, set >>= 1)
-        if (set & 1)
-            keep_bank(hart, answer);
+    host_bank = answer->lists[0].bank;
+    if (answer->list_count > 1)
+        copy_words(enclave_banks[answer->value], answer->lists[1].bank.cfg, 8 + ENTRIES);
+    for (unsigned hart = 0; hart < hart_count(); hart++)
+        if ((woken | 1ul << answer->hart) >> hart & 1)
+            is_stale[hart] = 1;
     stop_harts(0); /* they go on */
 }
 
 /* No world reaches the pages that are made zero: they were an enclave's, and are closed to the host until its entries change. */
 static int64_t written_answer(const struct answer_frame *answer)
 {
-    uint64_t hart = answer->hart, others = answer->wake & ~(1ul << hart);
+    uint64_t hart = answer->hart;
     struct world *world = &worlds[hart];
     if (answer->zero_count) {
         make_zero(answer->zero_first, answer->zero_count);
         private_end(answer->zero_first, answer->zero_count);
     }
-    keep_bank((unsigned)hart, answer);
-    if (others)
-        change_others(others, answer);
+    if (answer->list_count)
+        change_lists(answer->wake, answer);
     if (world_number[hart] != answer->world) {
         floats_change((unsigned)hart, answer->world);
+        banks[hart] = answer->world ? enclave_banks[answer->world] : host_bank.cfg;
         is_stale[hart] = 1;
     }
     world->pc = answer->pc;
@@ -141,7 +138,7 @@ static int64_t written_answer(const struct answer_frame *answer)
     control_write(&answer->control);
     world_number[hart] = answer->world;
     answered(answer);
-    return sizeof *answer;
+    return (int64_t)(offsetof(struct answer_frame, lists) + answer->list_count * sizeof answer->lists[0]);
 }
 
 /* An answer has made an enclave, whose number its hart finds in a1. Its pages are asked for while other harts run. */
@@ -163,7 +160,7 @@ int64_t write(uint64_t descriptor, const void *from, uint64_t n)
     if (!is_aligned(from))
         from = memcpy(words, from, n);
     tag = *(const uint64_t *)from;
-    if (tag == TAG_ANSWER && n == sizeof(struct answer_frame))
+    if (tag == TAG_ANSWER)
         return written_answer(from);
     if (tag == TAG_MEASURE && n == sizeof(struct measure_frame))
         return written_measure(from);

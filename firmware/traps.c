@@ -47,7 +47,7 @@ static struct action decisions[MOST_HARTS];
 static void decide(unsigned hart, struct harts *states)
 {
     struct world *world = &worlds[hart];
-    pmpmon_decide(world_number[hart], world->cause, world->x + 10, &callers[hart], &banks[hart], states, &decisions[hart]);
+    pmpmon_decide(world_number[hart], world->cause, world->x + 10, &callers[hart], &host_bank, states, &decisions[hart]);
 }
 
 /* Another hart may start or stop one meanwhile, so the states are a copy, and what changes them is decided anew with the lock. */

@@ -37,7 +37,7 @@ LINES = {
         r"halted\[self\] = 0;\n.*\"fence rw, rw\" .*\n +if \(__atomic_load_n\(&requests\[self\], __ATOMIC_ACQUIRE\) \|\| fences_asked\[self\] != fences_made\[self\]\)\n +take_requests\(\);\n"
         r" +if \(!is_to_stop\(self\)\)\n +return;\n +halted\[self\] = 1;\n +while \(is_to_stop\(self\)\)\n +;\n +}\n",
         r"return __atomic_load_n\(&stopping, __ATOMIC_ACQUIRE\) >> hart & 1;\n",
-        r"go_out\(self\);\n +if \(!is_stale\[self\]\)\n +return;\n +is_stale\[self\] = 0;\n +load_bank\(&banks\[self\]\);\n",
+        r"go_out\(self\);\n +if \(!is_stale\[self\]\)\n +return;\n +is_stale\[self\] = 0;\n +load_bank\(banks\[self\]\);\n",
         r"while \(!halted\[hart\] && .*&fences_made\[hart\], __ATOMIC_ACQUIRE\) - number\) < 0\) {\n +make_fences\(this_hart\(\)\);\n",
         r"fetch_or\(&requests\[hart\], kinds, __ATOMIC_SEQ_CST\);\n.*add_fetch\(&fences_asked\[hart\], 1, __ATOMIC_SEQ_CST\);\n +interrupt\(hart\);\n",
         r"store_n\(&stopping, set, __ATOMIC_RELEASE\);\n.*\"fence rw, rw\" .*\n.*\n +if \(is_other\(set, hart\) && !halted\[hart\]\)\n +interrupt\(hart\);\n"
@@ -45,8 +45,7 @@ LINES = {
         r"is_wanted\[hart\] = 1;\n.*\"fence\" .*\n +software_interrupt\[hart\] = 1;\n",
     ),
     "firmware/serve.c": (
-        r" +copy_words\(bank->addr, .*\n +is_stale\[hart\] = 1;\n",
-        r"if \(!stop_harts\(set\)\)\n.*\n.*\n +if \(set & 1\)\n +keep_bank\(hart, answer\);\n +stop_harts\(0\);",
+        r"if \(!stop_harts\(woken\)\)\n.*\n +host_bank = answer->lists\[0\]\.bank;\n(?: +.*\n){4} +is_stale\[hart\] = 1;\n +stop_harts\(0\);",
     ),
     "firmware/actions.c": (r"case GO_ON:\n +take_requests\(\);\n +load_changes\(\);\n",),
 }

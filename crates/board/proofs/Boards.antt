@@ -1,5 +1,5 @@
 -- What holds after every list of events on a board, by induction over them.
-use Rattle.std.proofs.Common.{◌∙◌, ℕ, ◌<◌, if◌then◌else◌, List, [], ◌∷◌, ◌++◌, Result, refl, ap, sym, subst}
+use Rattle.std.proofs.Common.{◌≡◌, ◌∙◌, ℕ, zero, suc, ◌<◌, ◌==◌, ◌&&◌, ◌/◌, ◌%◌, ◌^◌, nat_lt, if◌then◌else◌, List, [], ◌∷◌, ◌++◌, drop, Result, refl, ap, sym, subst}
 use Rattle.pmp_match.specs.declared.access.Access.{Access}
 use Rattle.pmp_match.specs.declared.cause.Cause.{Cause}
 use Rattle.platforms.specs.Platform.{IsLayout, PlatformLayout}
@@ -7,9 +7,10 @@ use Rattle.enclave_table.specs.Views.{current_view}
 use Rattle.monitor_core.proofs.Currents.{none_live}
 use Rattle.trap_server.specs.declared.trap.Trap.{Trap}
 use Rattle.trap_server.specs.Boot.{IsFirstAnswer}
-use Rattle.trap_server.specs.Firmware.{FirmwareHeadline, HasFewest, is_loaded}
+use Rattle.trap_server.specs.Firmware.{FirmwareHeadline, HasFewest, list_after, list_last, loaded_after, loaded_last}
 use Rattle.trap_server.specs.Runs.{ServesTraps, first_words, next_trap, no_trap}
 use Rattle.trap_server.specs.declared.words.ControlWords.{ControlWords}
+use Rattle.trap_server.specs.Words.{word_at}
 use Rattle.monitor_core.specs.States.{MonitorState, opening_monitor}
 use Rattle.board.specs.Board.{Board, BoardEvent, BoardRun, DoesAccess, DoesCompute, DoesTrap, Floats, HappensOn, access, computed, trapped}
 use Rattle.board.specs.Board.{booted, booted_board, happened}
@@ -31,6 +32,20 @@ FirmwareHolds =
     (layout : PlatformLayout) (opened read written : List ℕ) (s : MonitorState) (kept : ℕ → ControlWords)
     (served : ServesTraps (opening_monitor layout) first_words read written s kept)
     → IsLayout layout → IsFirstAnswer layout opened → FirmwareHeadline layout opened read written s kept served
+
+-- lists that were the same are so after an answer, and what a hart has loaded
+same_after : (answered : List ℕ) (a b : ℕ → List ℕ) → ((world : ℕ) → a world ≡ b world) → (world : ℕ) → list_after answered a world ≡ list_after answered b world
+same_after answered a b same zero = ap (λ bytes. if nat_lt 0 (word_at answered 9) then drop 416 answered else bytes) (same 0)
+same_after answered a b same (suc n) = ap (λ bytes. if word_at answered 9 == 2 && word_at answered 4 == suc n then drop 1000 answered else bytes) (same (suc n))
+
+same_loaded : (answered : List ℕ) (a b : ℕ → List ℕ) (before after : List ℕ) (hart : ℕ) → ((world : ℕ) → a world ≡ b world) → before ≡ after
+    → loaded_after answered a before hart ≡ loaded_after answered b after hart
+same_loaded answered a b before after hart same is =
+    let named = word_at answered 1 == hart in
+    let woken = word_at answered 8 / 2 ^ hart % 2 == 1 in
+    ap (λ bytes. if named then bytes else (if woken then a 0 else before)) (same (word_at answered 2))
+    ∙ ap (λ bytes. if named then b (word_at answered 2) else (if woken then bytes else before)) (same 0)
+    ∙ ap (λ bytes. if named then b (word_at answered 2) else (if woken then b 0 else bytes)) is
 
 module _ (law : FirmwareHolds) (steps : StepsPromise) (layout : PlatformLayout) (opened : List ℕ) (rules : IsLayout layout)
     (answer : IsFirstAnswer layout opened) where
@@ -61,13 +76,13 @@ module _ (law : FirmwareHolds) (steps : StepsPromise) (layout : PlatformLayout) 
   still_served : (read written : List ℕ) (old : Board) (hart : ℕ) (a : Access) (value : ℕ) (said : Result (Unit {0}) Cause) (new : Board)
       → IsServed layout opened read written old → DoesAccess old hart a value said new → IsServed layout opened read written new
   still_served read written old hart a value said new before x = subst (IsServed layout opened read written) (sym x.state)
-      (record { served = before.served; loads = before.loads })
+      (record { served = before.served; keeps = before.keeps; loads = before.loads })
 
   -- nor is a computation
   computed_served : (read written : List ℕ) (old : Board) (hart : ℕ) (floats : Floats) (new : Board) → IsServed layout opened read written old
       → DoesCompute old hart floats new → IsServed layout opened read written new
   computed_served read written old hart floats new before x = subst (IsServed layout opened read written) (sym x.state)
-      (record { served = before.served; loads = before.loads })
+      (record { served = before.served; keeps = before.keeps; loads = before.loads })
 
   -- a trap more
   abbrev next_served :
@@ -75,7 +90,10 @@ module _ (law : FirmwareHolds) (steps : StepsPromise) (layout : PlatformLayout) 
       → DoesTrap old trap frame read question answered new → IsServed layout opened (came ++ (frame ++ read)) (gone ++ (answered ++ question)) new
   next_served came gone old trap frame read question answered new before x = record {
     served = next_trap before.served trap frame read question answered new.monitor new.hosts x.size x.is_trap x.served;
-    loads = λ hart. x.loads hart ∙ ap (λ bytes. if is_loaded answered hart then answered else bytes) (before.loads hart);
+    keeps = λ world. x.keeps world ∙ same_after answered old.lists (list_last opened before.served) before.keeps world;
+    loads = λ hart. x.loads hart ∙ same_loaded answered new.lists (list_after answered (list_last opened before.served)) (old.loaded hart)
+        (loaded_last opened before.served hart) hart
+        (λ world. x.keeps world ∙ same_after answered old.lists (list_last opened before.served) before.keeps world) (before.loads hart);
   }
 
   by_event : (events : List BoardEvent) (old new : Board) (run : BoardRun layout opened events old) (event : BoardEvent) (happens : HappensOn event old new)
@@ -105,5 +123,5 @@ module _ (law : FirmwareHolds) (steps : StepsPromise) (layout : PlatformLayout) 
 
   pub board_kept : (events : List BoardEvent) (board : Board) (run : BoardRun layout opened events board) → BoardHeadline layout opened events board run
   board_kept _ _ (booted memory floats kept) = headline [] (booted_board layout opened memory floats kept) (booted memory floats kept)
-      (record { served = no_trap; loads = λ hart. refl }) (λ id e live fresh. absurd (none_live layout id e live)) tt
+      (record { served = no_trap; keeps = λ world. refl; loads = λ hart. refl }) (λ id e live fresh. absurd (none_live layout id e live)) tt
   board_kept _ _ (happened {events = events} {old = old} {new = new} run event happens) = by_event events old new run event happens (board_kept events old run)

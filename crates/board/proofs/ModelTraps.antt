@@ -2,20 +2,13 @@
 use Rattle.std.proofs.Common.{ℕ, ◌≡◌, ◌∙◌, ◌+◌, ◌<◌, ◌≤◌, ◌^◌, ◌==◌, false, if◌then◌else◌, List, [], ◌∷◌, ◌++◌}
 use Rattle.std.proofs.Common.{length, Option, Some, None, IfSome, refl, ap, sym, subst, arith}
 use Rattle.std.proofs.lemmas.Bool.{both_ways, eq-eqb, eqb-true}
-use Rattle.pmp_encoding.specs.Limits.{limit_number}
-use Rattle.pmp_encoding.specs.declared.limit.Limit.{Limit}
 use Rattle.pmp_encoding.specs.declared.pages.PageRange.{PageRange}
-use Rattle.pmp_encoding.specs.declared.region.Entry.{Entry}
-use Rattle.pmp_match.specs.Meaning.{IsFewest, View}
 use Rattle.platforms.specs.Platform.{PlatformLayout}
 use Rattle.sbi_decode.specs.Calls.{call_of}
 use Rattle.sbi_decode.specs.Registers.{RegisterFile}
 use Rattle.sbi_decode.specs.Runners.{runner_of}
-use Rattle.sbi_decode.specs.declared.world.World.{World}
-use Rattle.sbi_decode.specs.declared.world.World.TheVariants.{Host, Enclave as InEnclave}
-use Rattle.enclave_table.specs.Fewest.{FitsIn}
-use Rattle.enclave_table.specs.Tables.{IsCurrent}
-use Rattle.enclave_table.specs.Views.{current_view}
+use Rattle.enclave_table.specs.Enclaves.{Live}
+use Rattle.enclave_table.specs.declared.enclave.Enclave.{Enclave}
 use Rattle.monitor_core.specs.Answers.{world_number}
 use Rattle.monitor_core.specs.Changes.{is_same, past_call, with_running}
 use Rattle.monitor_core.specs.Frames.{ClearsMemory}
@@ -26,7 +19,7 @@ use Rattle.monitor_core.proofs.Cases.{both}
 use Rattle.monitor_core.proofs.Cleared.{call_clears_memory}
 use Rattle.monitor_core.proofs.Layouts.{call_keeps_layout, interrupt_keeps_layout}
 use Rattle.monitor_core.proofs.Put.{same_self}
-use Rattle.monitor_core.proofs.WorldsKept.{call_keeps_worlds, interrupt_keeps_worlds, putting_keeps_worlds}
+use Rattle.monitor_core.proofs.SoundTables.{call_keeps_table}
 use Rattle.hart_trace.specs.declared.event.Event.TheVariants as events
 use Rattle.hart_trace.specs.declared.reply.Reply.{Reply}
 use Rattle.hart_trace.specs.declared.reply.Reply.TheVariants as replies
@@ -35,14 +28,16 @@ use Rattle.hart_sim.specs.Memory.{measured_in}
 use Rattle.hart_sim.specs.Replies.{RepliesWith}
 use Rattle.hart_sim.specs.States.{MachineState, awoken, core_of, with_core}
 use Rattle.hart_sim.specs.Steps.{Serves}
-use Rattle.trap_server.specs.Answered.{no_answer}
+use Rattle.trap_server.specs.Answered.{new_lists, no_answer}
+use Rattle.trap_server.specs.declared.answer.NewLists.TheVariants as lists
 use Rattle.trap_server.specs.declared.trap.TrapEvent.TheVariants as traps
-use Rattle.trap_server.proofs.Waking.{marks_in_host}
+use Rattle.trap_server.proofs.ListsKept.{made_by_lists}
+use Rattle.trap_server.proofs.Remeasured.{call_remeasured}
 use Rattle.board.specs.Board.{BoardEvent, trapped}
 use Rattle.board.specs.Model.{IsOneTrap, SaysReply}
 use Rattle.board.proofs.Asked.{asks, frames_of_memory}
 use Rattle.board.proofs.Follows.{Follows, IsElsewhere, call_follows, digest_by, irq_follows}
-use Rattle.board.proofs.Rooms.{AllFit, call_fits, current_fits, irq_fits}
+use Rattle.board.proofs.Rooms.{AllFit, call_fits, irq_fits, lists_fit}
 use Rattle.board.proofs.Runners.{same_is}
 use Rattle.board.proofs.Runners.{alone as alone_on}
 use Rattle.board.proofs.TrapFrames.{trap_frame, trap_on}
@@ -75,20 +70,12 @@ module _ (layout : PlatformLayout) (opened : List ℕ) (seen : List BoardEvent) 
         ap (λ b. if b then file else on.registers who) no ∙ on.waits who waits ∙ sym (ap (λ b. if b then file else s.registers who) no));
   }
 
-  -- entries that are fewest for a view that fits are few enough
-  few : (limit : Limit) (view : View) (entries : List Entry) → IsFewest view entries → FitsIn limit view → length entries ≤ limit_number limit
-  few limit view entries fewest fits =
-      let least = fewest.least fits.1.entries fits.1.fewest.means in
-      let count = fits.1.count in
-      let most = fits.2 in
-      omega (arith, least, count, most)
-
   -- a call
   pub call_next : (file : RegisterFile) → AllFit s.table
       → Serves (DoesCall (call_of (past_call file)) (measured_in s.bytes) (with_running (core_of (awoken s hart)) hart (past_call file)) hart) (awoken s hart)
       hart reply new
       → (x : TrapLeaves layout opened seen traps.Call s new hart file on) × AllFit new.table
-      × (reply ≡ replies.Call x.answer.status x.answer.value (world_number (new.worlds hart)) (length x.entries))
+      × (reply ≡ replies.Call x.answer.status x.answer.value (world_number (new.worlds hart)) x.used)
   call_next file fit x =
       let call = call_of (past_call file) in
       let gone = past_call file in
@@ -101,7 +88,6 @@ module _ (layout : PlatformLayout) (opened : List ℕ) (seen : List BoardEvent) 
       let core = x.2 in
       let does = x.3 in
       let is = x.4 in
-      let needs = x.5.1 in
       let f = call_follows digests s.table s.worlds old.registers now.registers old.marked now.marked s.table.layout.harts hart answer pages core call alone
       (put_follows gone) does in
       let mid = f.0 in
@@ -109,19 +95,23 @@ module _ (layout : PlatformLayout) (opened : List ℕ) (seen : List BoardEvent) 
       let table : new.table ≡ mid.table = ap (λ n. n.table) is ∙ sym f.2.table in
       let worlds : new.worlds ≡ mid.worlds = ap (λ n. n.worlds) is ∙ sym f.2.worlds in
       let new_fit : AllFit new.table = subst AllFit (sym (ap (λ n. n.table) is)) (call_fits call digests old hart answer pages core good.table does fit) in
-      let placed = call_keeps_worlds call (λ parts. digest_by digests (asked_in call)) now hart answer pages mid known (good.awake hart known) f.1
-      (putting_keeps_worlds base hart gone good.worlds) in
       let a = asks (asked_in call) answer s.bytes in
-      let low : hart < new.table.layout.harts = subst (λ l. hart < l.harts) (sym layout_is) known in
-      let current : IsCurrent new.table (new.worlds hart) = subst (λ t. IsCurrent t (new.worlds hart)) (sym table)
-      (subst (λ w. IsCurrent mid.table (w hart)) (sym worlds) (placed.current hart (subst (λ t. hart < t.layout.harts) table low))) in (
+      let which = new_lists (asked_in call) answer pages in
+      let made : which ≡ lists.HostAndMade → (e : Enclave) × Live new.table answer.value e = λ is.
+      let m = made_by_lists (asked_in call) answer pages is in
+      let r = call_remeasured call (digest_by digests (asked_in call)) now hart answer pages mid m.0
+      (call_keeps_table call (λ parts. digest_by digests (asked_in call)) now hart answer pages mid f.1 good.table) f.1 m.1 in
+      (r.0, subst (λ t. Live t answer.value r.0) (sym table) r.1) in
+      let l = lists_fit which new.table answer.value new_fit made in (
         record {
           answer = answer;
           cleared = pages;
           mid = mid;
           read = a.1;
           question = a.0;
-          entries = needs.entries;
+          used = x.5.0;
+          which = which;
+          are = l.0;
           table = table;
           worlds = worlds;
           bytes = λ byte. ap (λ n. n.bytes byte) is ∙ clears pages s.bytes byte;
@@ -131,15 +121,8 @@ module _ (layout : PlatformLayout) (opened : List ℕ) (seen : List BoardEvent) 
               off other (subst (λ l. other < l.harts) (sym layout_is) under)
               (is_there ∙ ap (λ w. runner_of other (w other)) (sym (ap (λ n. n.worlds) is))))
               ∙ sym (ap (λ n. n.registers who) is);
-          fewest = needs.fewest;
-          room = few new.table.layout.limit (current_view new.table (new.worlds hart)) needs.entries needs.fewest
-              (current_fits new.table (new.worlds hart) new_fit current);
-          marks = λ other under on_mark.
-              let old_low : other < s.table.layout.harts = subst (λ l. other < l.harts) layout_is under in
-              let here : mid.worlds hart ≡ Host = marks_in_host call (λ parts. digest_by digests (asked_in call)) now hart answer pages mid other
-              (good.awake other old_low) f.1 on_mark in
-              let there : mid.worlds other ≡ Host = placed.marked other (subst (λ t. other < t.layout.harts) table under) on_mark in
-              ap (λ w. w hart) worlds ∙ here ∙ sym there ∙ sym (ap (λ w. w other) worlds);
+          needs = x.5.1;
+          lists = l.1;
           reads = a.3;
           serves = λ given answered that same goes_on. record {
             digest = digest_by digests (asked_in call);
@@ -149,7 +132,7 @@ module _ (layout : PlatformLayout) (opened : List ℕ) (seen : List BoardEvent) 
           };
         },
         new_fit,
-        x.5.2 ∙ ap (λ n. replies.Call answer.status answer.value (world_number (new.worlds hart)) n) (sym needs.count),
+        x.5.2,
       )
     where
       in_space : (cleared : Option PageRange) → IfSome cleared (λ range. ClearsMemory s.table.layout range)
@@ -185,7 +168,7 @@ module _ (layout : PlatformLayout) (opened : List ℕ) (seen : List BoardEvent) 
       → (core : MonitorState) × Interrupts (s.worlds hart) (core_of (awoken s hart)) hart core × (new ≡ with_core (awoken s hart) core)
       × RepliesWith replies.Irq new hart reply
       → (x : TrapLeaves layout opened seen traps.Stop s new hart running on) × AllFit new.table
-      × (reply ≡ replies.Irq (world_number (new.worlds hart)) (length x.entries))
+      × (reply ≡ replies.Irq (world_number (new.worlds hart)) x.used)
   irq_next fit x =
       let old = core_of (awoken s hart) in
       let base = monitor_of s on.registers on.marked in
@@ -194,25 +177,22 @@ module _ (layout : PlatformLayout) (opened : List ℕ) (seen : List BoardEvent) 
       let core = x.0 in
       let does = x.1 in
       let is = x.2 in
-      let needs = x.3.1 in
       let f = irq_follows (measured_in s.bytes) s.table s.worlds old.registers now.registers old.marked now.marked s.table.layout.harts hart no_answer None core
       world own_follows does in
       let mid = f.0 in
       let layout_is : new.table.layout ≡ s.table.layout = ap (λ n. n.table.layout) is ∙ interrupt_keeps_layout world old hart core does in
       let table : new.table ≡ mid.table = ap (λ n. n.table) is ∙ sym f.2.table in
       let worlds : new.worlds ≡ mid.worlds = ap (λ n. n.worlds) is ∙ sym f.2.worlds in
-      let new_fit : AllFit new.table = subst AllFit (sym (ap (λ n. n.table) is)) (irq_fits world old hart core does fit) in
-      let placed = interrupt_keeps_worlds world now hart mid refl known (good.awake hart known) f.1 (putting_keeps_worlds base hart running good.worlds) in
-      let low : hart < new.table.layout.harts = subst (λ l. hart < l.harts) (sym layout_is) known in
-      let current : IsCurrent new.table (new.worlds hart) = subst (λ t. IsCurrent t (new.worlds hart)) (sym table)
-      (subst (λ w. IsCurrent mid.table (w hart)) (sym worlds) (placed.current hart (subst (λ t. hart < t.layout.harts) table low))) in (
+      let new_fit : AllFit new.table = subst AllFit (sym (ap (λ n. n.table) is)) (irq_fits world old hart core does fit) in (
         record {
           answer = no_answer;
           cleared = None;
           mid = mid;
           read = [];
           question = [];
-          entries = needs.entries;
+          used = x.3.0;
+          which = lists.Nothing;
+          are = [];
           table = table;
           worlds = worlds;
           bytes = λ byte. ap (λ n. n.bytes byte) is ∙ clears None s.bytes byte;
@@ -222,12 +202,8 @@ module _ (layout : PlatformLayout) (opened : List ℕ) (seen : List BoardEvent) 
               off other (subst (λ l. other < l.harts) (sym layout_is) under)
               (is_there ∙ ap (λ w. runner_of other (w other)) (sym (ap (λ n. n.worlds) is))))
               ∙ sym (ap (λ n. n.registers who) is);
-          fewest = needs.fewest;
-          room = few new.table.layout.limit (current_view new.table (new.worlds hart)) needs.entries needs.fewest
-              (current_fits new.table (new.worlds hart) new_fit current);
-          marks = λ other under on_mark.
-              let old_low : other < s.table.layout.harts = subst (λ l. other < l.harts) layout_is under in
-              absurd (both_ways (mid.marked other) (unmarked_still world other mid f.1 old_low) on_mark);
+          needs = x.3.1;
+          lists = refl;
           reads = frames_of_memory s.bytes 0 0;
           serves = λ given answered that same goes_on. record {
             mid = mid;
@@ -239,19 +215,12 @@ module _ (layout : PlatformLayout) (opened : List ℕ) (seen : List BoardEvent) 
           };
         },
         new_fit,
-        x.3.2 ∙ ap (λ n. replies.Irq (world_number (new.worlds hart)) n) (sym needs.count),
+        x.3.2,
       )
-    where
-      unmarked_still : (world : World) (other : ℕ) (mid : MonitorState)
-          → Interrupts world (with_running (monitor_of s on.registers on.marked) hart running) hart mid → other < s.table.layout.harts
-          → mid.marked other ≡ false
-      unmarked_still Host other mid x low = ap (λ m. m.marked other) x ∙ good.awake other low
-      unmarked_still (InEnclave id) other mid x low = ap (λ m. m.marked other) x.2 ∙ good.awake other low
-
   -- what is seen of a call
   pub trap_next : (file : RegisterFile) (words : List ℕ) → past_call file ≡ calling s hart words
       → (x : TrapLeaves layout opened seen traps.Call s new hart file on)
-      → reply ≡ replies.Call x.answer.status x.answer.value (world_number (new.worlds hart)) (length x.entries)
+      → reply ≡ replies.Call x.answer.status x.answer.value (world_number (new.worlds hart)) x.used
       → (now : List BoardEvent) × IsOneTrap traps.Call hart (λ file. past_call file ≡ calling s hart words) reply now × OnBoard layout opened (seen ++ now) new
   trap_next file words came x replied =
       let t = trap_seen layout opened seen traps.Call s new hart file on known x in (
@@ -273,7 +242,7 @@ module _ (layout : PlatformLayout) (opened : List ℕ) (seen : List BoardEvent) 
 
   -- what is seen of an interrupt
   pub stop_next : (x : TrapLeaves layout opened seen traps.Stop s new hart running on)
-      → reply ≡ replies.Irq (world_number (new.worlds hart)) (length x.entries) → Next layout opened seen events.Irq s hart reply new
+      → reply ≡ replies.Irq (world_number (new.worlds hart)) x.used → Next layout opened seen events.Irq s hart reply new
   stop_next x replied =
       let t = trap_seen layout opened seen traps.Stop s new hart running on known x in
       record {

@@ -1,5 +1,5 @@
 -- Each run of the model is a run of a board, by induction over its events.
-use Rattle.std.proofs.Common.{◌≡◌, inl, inr, ℕ, ◌<◌, false, List, [], ◌∷◌, ◌++◌, length, Result, Ok, Err, refl, ap, sym, subst}
+use Rattle.std.proofs.Common.{◌≡◌, inl, inr, ℕ, ◌<◌, false, List, [], ◌∷◌, ◌++◌, drop, length, Result, Ok, Err, refl, ap, sym, subst}
 use Rattle.pmp_match.specs.declared.access.Access.{Access}
 use Rattle.pmp_match.specs.declared.access.Kind.{Kind}
 use Rattle.pmp_match.specs.declared.access.Kind.TheVariants.{Fetch, Load, Store}
@@ -44,7 +44,7 @@ access_table (Ok done) s a value reply new x = took_table a.kind s a value reply
 module _ (law : BoardHolds) (layout : PlatformLayout) (opened : List ℕ) (rules : IsLayout layout) (answer : IsFirstAnswer layout opened) where
   good_of : (seen : List BoardEvent) (s : MachineState) (on : OnBoard layout opened seen s) → IsGood layout s on.registers on.marked on.loaded
   good_of seen s on =
-      let h = law layout opened seen (board_of s on.registers on.marked on.hosts on.loaded) on.runs rules answer in
+      let h = law layout opened seen (board_of s on.registers on.marked on.hosts on.lists on.loaded) on.runs rules answer in
       record { table = h.table; platform = h.platform; worlds = h.worlds; awake = h.awake; banks = h.banks }
 
   by_event : (seen : List BoardEvent) (s : MachineState) (hart : ℕ) (event : Event) (reply : Reply) (new : MachineState) → hart < s.table.layout.harts
@@ -86,12 +86,13 @@ module _ (law : BoardHolds) (layout : PlatformLayout) (opened : List ℕ) (rules
       registers = λ who. zeros;
       marked = λ hart. false;
       hosts = first_words;
-      loaded = λ hart. opened;
+      lists = λ world. drop 416 opened;
+      loaded = λ hart. drop 416 opened;
       runs = booted (λ byte. 0) (λ hart. no_floats) (λ who. no_floats);
       waits = λ who off. refl;
     };
     fits = record {
-      host = (length answer.0, needs_of (current_view (opening_table layout) Host) answer.0 answer.1.here, answer.1.room);
+      host = let list = answer.puts.lists in (length list.0, needs_of (current_view (opening_table layout) Host) list.0 list.1.fewest, list.1.room);
       each = λ id e live. absurd (none_live layout id e live);
     };
   }
@@ -111,7 +112,7 @@ module _ (law : BoardHolds) (layout : PlatformLayout) (opened : List ℕ) (rules
       let r = reached events replies s run in
       record {
         seen = r.seen;
-        board = board_of s r.on.registers r.on.marked r.on.hosts r.on.loaded;
+        board = board_of s r.on.registers r.on.marked r.on.hosts r.on.lists r.on.loaded;
         each = r.each;
         runs = r.on.runs;
         is_as = record { table = refl; worlds = refl; memory = refl; registers = r.on.waits };

@@ -1,5 +1,5 @@
 -- The pages that the words of an answer name.
-use Rattle.std.proofs.Common.{◌≡◌, ◌∙◌, ℕ, ◌+◌, ◌%◌, ◌≤◌, ◌<◌, ◌^◌, List, ◌++◌, length, drop, Bool, Option, Some, None, IfSome, ap, lit<, arith}
+use Rattle.std.proofs.Common.{◌≡◌, ◌∙◌, ℕ, ◌+◌, ◌%◌, ◌≤◌, ◌<◌, ◌^◌, List, ◌++◌, drop, Bool, Option, Some, None, IfSome, ap, lit<, arith}
 use Rattle.std.proofs.Math.Nat.{div-one}
 use Rattle.byteorder.specs.Endian.{little_bytes, little_number}
 use Rattle.byteorder.specs.Numbers.{little_from-bytes, little_number-reads_back}
@@ -10,6 +10,7 @@ use Rattle.monitor_core.specs.States.{MonitorState, running_registers}
 use Rattle.monitor_core.specs.Answers.{world_number}
 use Rattle.monitor_core.specs.declared.answer.Answer.{Answer}
 use Rattle.trap_server.specs.declared.answer.Head.{Head}
+use Rattle.trap_server.specs.declared.answer.NewLists.{NewLists}
 use Rattle.trap_server.specs.declared.words.ControlWords.{ControlWords}
 use Rattle.trap_server.specs.Answered.{IsAnswer, head_of}
 use Rattle.trap_server.specs.Answers.{answer_bytes, pages_of}
@@ -20,10 +21,10 @@ abbrev pub Names : List ℕ → PageRange → Type 0
 Names bytes range = (word_at bytes 6 ≡ range.first) × (word_at bytes 7 ≡ range.count)
 
 -- the words at their places are those that were put there, where they have 64 bits
-in_bytes : (head : Head) (file : RegisterFile) (entries : List Entry) (control : ControlWords) → (pages_of head.zero).first < 2 ^ 64
-    → (pages_of head.zero).count < 2 ^ 64 → Names (answer_bytes head file entries control) (pages_of head.zero)
-in_bytes head file entries control first count =
-    let bytes = answer_bytes head file entries control in
+in_bytes : (head : Head) (file : RegisterFile) (control : ControlWords) (lists : List (List Entry)) → (pages_of head.zero).first < 2 ^ 64
+    → (pages_of head.zero).count < 2 ^ 64 → Names (answer_bytes head file control lists) (pages_of head.zero)
+in_bytes head file control lists first count =
+    let bytes = answer_bytes head file control lists in
     (little_number-reads_back 8 (pages_of head.zero).first (drop 56 bytes) first, little_number-reads_back 8 (pages_of head.zero).count (drop 64 bytes) count)
 
 -- pages in the space
@@ -34,13 +35,13 @@ small (Some range) inside = (omega (arith, inside), omega (arith, inside))
 
 -- an answer names the pages that are to be made zero
 pub named :
-    (s : MonitorState) (given : ControlWords) (hart : ℕ) (answer : Answer) (cleared : Option PageRange) (woken : List Bool) (bytes : List ℕ)
-    → IsAnswer s given hart answer cleared woken bytes
+    (s : MonitorState) (given : ControlWords) (hart : ℕ) (answer : Answer) (cleared : Option PageRange) (woken : List Bool) (new : NewLists)
+    (bytes : List ℕ) → IsAnswer s given hart answer cleared woken new bytes
     → IfSome cleared (λ range. range.first + range.count ≤ 2 ^ 44) → Names bytes (pages_of cleared)
-named s given hart answer cleared woken bytes a inside =
+named s given hart answer cleared woken new bytes a inside =
     let low = small cleared inside in
-    let put = in_bytes (head_of s hart answer cleared woken) (running_registers s hart) a.0 given low.0 low.1 in
-    (ap (λ b. word_at b 6) a.2 ∙ put.0, ap (λ b. word_at b 7) a.2 ∙ put.1)
+    let put = in_bytes (head_of s hart answer a.used cleared woken new) (running_registers s hart) given a.puts.are low.0 low.1 in
+    (ap (λ b. word_at b 6) a.puts.put ∙ put.0, ap (λ b. word_at b 7) a.puts.put ∙ put.1)
 
 -- a word that was put, as 64 bits
 put_word : (x : ℕ) (rest : List ℕ) → little_number 8 (little_bytes 8 x ++ rest) ≡ x % 2 ^ 64
@@ -53,13 +54,13 @@ pub record Says (bytes : List ℕ) (world status value used : ℕ) : Type 0 wher
   pub value_is : word_at bytes 4 ≡ value % 2 ^ 64
   pub used_is : word_at bytes 5 ≡ used % 2 ^ 64
 
-pub says : (head : Head) (file : RegisterFile) (entries : List Entry) (control : ControlWords)
-    → Says (answer_bytes head file entries control) (world_number head.world) head.status head.value (length entries)
-says head file entries control =
-    let bytes = answer_bytes head file entries control in
+pub says : (head : Head) (file : RegisterFile) (control : ControlWords) (lists : List (List Entry))
+    → Says (answer_bytes head file control lists) (world_number head.world) head.status head.value head.used
+says head file control lists =
+    let bytes = answer_bytes head file control lists in
     record {
       world_is = put_word (world_number head.world) (drop 24 bytes);
       status_is = put_word head.status (drop 32 bytes);
       value_is = put_word head.value (drop 40 bytes);
-      used_is = put_word (length entries) (drop 48 bytes);
+      used_is = put_word head.used (drop 48 bytes);
     }

@@ -25,11 +25,12 @@ monitor_of s registers marked = record {
   marked = marked;
 }
 
-abbrev pub board_of : MachineState → (Runner → RegisterFile) → (ℕ → Bool) → (ℕ → ControlWords) → (ℕ → List ℕ) → Board
-board_of s registers marked hosts loaded = record {
+abbrev pub board_of : MachineState → (Runner → RegisterFile) → (ℕ → Bool) → (ℕ → ControlWords) → (ℕ → List ℕ) → (ℕ → List ℕ) → Board
+board_of s registers marked hosts lists loaded = record {
   monitor = monitor_of s registers marked;
   hosts = hosts;
   memory = s.bytes;
+  lists = lists;
   loaded = loaded;
   floats = λ hart. no_floats;
   kept = λ who. no_floats;
@@ -43,8 +44,9 @@ pub record OnBoard (layout : PlatformLayout) (opened : List ℕ) (seen : List Bo
   pub registers : Runner → RegisterFile
   pub marked : ℕ → Bool
   pub hosts : ℕ → ControlWords
+  pub lists : ℕ → List ℕ
   pub loaded : ℕ → List ℕ
-  pub runs : BoardRun layout opened seen (board_of s registers marked hosts loaded)
+  pub runs : BoardRun layout opened seen (board_of s registers marked hosts lists loaded)
   pub waits : (who : Runner) → Waits s who → registers who ≡ s.registers who
 
 -- what the theorem of a board says of one that is as a state

@@ -1,8 +1,12 @@
 -- After every step there are as many entries as the view of each world needs.
-use Rattle.std.proofs.Common.{◌≡◌, ◌≢◌, ◌∙◌, inl, inr, ℕ, ◌-◌, ◌<◌, ◌≤◌, ◌==◌, length, List, Option, Some, None, refl, ap, sym, subst, arith}
+use Rattle.std.proofs.Common.{◌≡◌, ◌≢◌, ◌∙◌, inl, inr, ℕ, ◌-◌, ◌<◌, ◌≤◌, ◌==◌, length, List, [], ◌∷◌, Option, Some, None, refl, ap, sym, subst, arith}
 use Rattle.std.proofs.lemmas.Bool.{both_ways, eq-eqb, eqb-true}
 use Rattle.std.proofs.lemmas.Option.{same_Some}
+use Rattle.pmp_encoding.specs.Limits.{limit_number}
+use Rattle.pmp_encoding.specs.Views.{View}
+use Rattle.pmp_encoding.specs.declared.limit.Limit.{Limit}
 use Rattle.pmp_encoding.specs.declared.pages.PageRange.{PageRange}
+use Rattle.pmp_encoding.specs.declared.region.Entry.{Entry}
 use Rattle.measurement.specs.Requests.{parts_of}
 use Rattle.measurement.specs.declared.request.Create.{Create}
 use Rattle.sbi_decode.specs.declared.calls.Call.{Call}
@@ -11,9 +15,9 @@ use Rattle.sbi_decode.specs.declared.world.World.{World}
 use Rattle.sbi_decode.specs.declared.world.World.TheVariants.{Host, Enclave as InEnclave}
 use Rattle.enclave_table.specs.Create.{fresh}
 use Rattle.enclave_table.specs.Enclaves.{EnclaveTable, Live, enclave_at, with_enclave}
-use Rattle.enclave_table.specs.Fewest.{FitsIn}
+use Rattle.enclave_table.specs.Fewest.{FitsIn, IsListOf}
 use Rattle.enclave_table.specs.Lives.{Turns}
-use Rattle.enclave_table.specs.Tables.{IsCurrent, IsTable}
+use Rattle.enclave_table.specs.Tables.{IsTable}
 use Rattle.enclave_table.specs.Views.{current_view, enclave_view, host_view}
 use Rattle.enclave_table.specs.declared.enclave.Enclave.{Enclave}
 use Rattle.enclave_table.specs.declared.enclave.Stage.{Stage}
@@ -25,17 +29,35 @@ use Rattle.monitor_core.specs.States.{MonitorState}
 use Rattle.monitor_core.specs.Steps.{DoesCall, Interrupts}
 use Rattle.monitor_core.specs.declared.answer.Answer.{Answer}
 use Rattle.monitor_core.proofs.Cases.{both}
+use Rattle.trap_server.specs.Answered.{AreLists}
+use Rattle.trap_server.specs.declared.answer.NewLists.{NewLists}
+use Rattle.trap_server.specs.declared.answer.NewLists.TheVariants as lists
 
 pub record AllFit (table : EnclaveTable) : Type 0 where
   pub host : FitsIn table.layout.limit (host_view table)
   pub each : (id : ℕ) (e : Enclave) → Live table id e → FitsIn table.layout.limit (enclave_view e.parts)
 
--- the view of a world that is current
-pub current_fits : (table : EnclaveTable) (world : World) → AllFit table → IsCurrent table world → FitsIn table.layout.limit (current_view table world)
-current_fits table Host fit is = fit.host
-current_fits table (InEnclave id) fit is =
-    fits_same table.layout.limit (enclave_view is.0.parts) (current_view table (InEnclave id)) (λ page small. sym (ap (λ o. view_in o page) is.1))
-    (fit.each id is.0 is.1)
+-- the lists that are new, where an enclave that was made is live
+list_fits : (limit : Limit) (view : View) → FitsIn limit view → (entries : List Entry) × IsListOf limit view entries
+list_fits limit view fits = (
+  fits.1.entries,
+  record { fewest = fits.1.fewest; room = subst (λ n. n ≤ limit_number limit) (sym fits.1.count) fits.2 },
+)
+
+pub lists_fit :
+    (which : NewLists) (table : EnclaveTable) (id : ℕ) → AllFit table → (which ≡ lists.HostAndMade → (e : Enclave) × Live table id e)
+    → (are : List (List Entry)) × AreLists table id which are
+lists_fit lists.Nothing table id fit made = ([], refl)
+lists_fit lists.Host table id fit made =
+    let host = list_fits table.layout.limit (current_view table Host) fit.host in
+    (host.0 ∷ [], (host.0, host.1, refl))
+lists_fit lists.HostAndMade table id fit made =
+    let e = made refl in
+    let host = list_fits table.layout.limit (current_view table Host) fit.host in
+    let own = fits_same table.layout.limit (enclave_view e.0.parts) (current_view table (InEnclave id)) (λ page small. sym (ap (λ o. view_in o page) e.1))
+    (fit.each id e.0 e.1) in
+    let new = list_fits table.layout.limit (current_view table (InEnclave id)) own in
+    (host.0 ∷ (new.0 ∷ []), (host.0, new.0, host.1, new.1, refl))
 
 -- where one place is written
 put_fits : (table : EnclaveTable) (id : ℕ) (slot : Option Enclave) → 1 ≤ id → id - 1 < length table.enclaves

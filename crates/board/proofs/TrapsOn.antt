@@ -1,10 +1,9 @@
 -- A trap on a board that is as a state of the model.
-use Rattle.std.proofs.Common.{ℕ, ◌≡◌, ◌∙◌, ◌+◌, ◌/◌, ◌<◌, ◌≤◌, ◌^◌, true, false, if◌then◌else◌, List, [], ◌∷◌, ◌++◌}
-use Rattle.std.proofs.Common.{length, Option, Some, None, IfSome, option_map, unwrap_or, refl, ap, sym, subst}
-use Rattle.pmp_encoding.specs.Limits.{limit_number}
+use Rattle.std.proofs.Common.{ℕ, ◌≡◌, ◌∙◌, ◌+◌, ◌/◌, ◌<◌, ◌≤◌, ◌^◌, false, if◌then◌else◌, List, [], ◌∷◌, ◌++◌}
+use Rattle.std.proofs.Common.{Option, Some, None, IfSome, option_map, unwrap_or, refl, ap, sym}
 use Rattle.pmp_encoding.specs.declared.pages.PageRange.{PageRange}
 use Rattle.pmp_encoding.specs.declared.region.Entry.{Entry}
-use Rattle.pmp_match.specs.Meaning.{IsFewest}
+use Rattle.pmp_match.specs.Meaning.{Needs}
 use Rattle.platforms.specs.Platform.{PlatformLayout}
 use Rattle.sbi_decode.specs.Registers.{RegisterFile}
 use Rattle.sbi_decode.specs.Runners.{Runner}
@@ -15,15 +14,15 @@ use Rattle.monitor_core.specs.declared.answer.Answer.{Answer}
 use Rattle.monitor_core.proofs.Equal.{equal}
 use Rattle.hart_sim.specs.Memory.{in_range, zeroed}
 use Rattle.hart_sim.specs.States.{MachineState}
-use Rattle.trap_server.specs.Answered.{IsAnswer, head_of, marks_of, status_word, unmarked}
+use Rattle.trap_server.specs.declared.answer.NewLists.{NewLists}
+use Rattle.trap_server.specs.Answered.{AreLists, IsAnswer, head_of, marks_of, status_word, unmarked}
 use Rattle.trap_server.specs.Answers.{answer_bytes, pages_of}
-use Rattle.trap_server.specs.Firmware.{is_loaded}
+use Rattle.trap_server.specs.Firmware.{list_after, loaded_after}
 use Rattle.trap_server.specs.Given.{keeping, words_in}
 use Rattle.trap_server.specs.Service.{ServesAs}
 use Rattle.trap_server.specs.Words.{word_at}
 use Rattle.trap_server.specs.declared.trap.TrapEvent.{TrapEvent}
 use Rattle.trap_server.specs.declared.words.ControlWords.{ControlWords}
-use Rattle.trap_server.proofs.Served.{mark_at}
 use Rattle.board.specs.Board.{BoardEvent, ReadsMemory, happened, trapped}
 use Rattle.board.proofs.Named.{Says, named, says}
 use Rattle.board.proofs.TrapFrames.{frame_is, frame_size, trap_frame, trap_on}
@@ -38,25 +37,26 @@ pub record TrapLeaves (layout : PlatformLayout) (opened : List ℕ) (seen : List
   pub mid : MonitorState
   pub read : List ℕ
   pub question : List ℕ
-  pub entries : List Entry
+  pub used : ℕ
+  pub which : NewLists
+  pub are : List (List Entry)
   pub table : new.table ≡ mid.table
   pub worlds : new.worlds ≡ mid.worlds
   pub bytes : (byte : ℕ) → new.bytes byte ≡ zeroed old.bytes (pages_of cleared).first (pages_of cleared).count byte
   pub inside : IfSome cleared (λ range. range.first + range.count ≤ 2 ^ 44)
   pub waits : (who : Runner) → Waits new who → mid.registers who ≡ new.registers who
-  pub fewest : IsFewest (current_view new.table (new.worlds hart)) entries
-  pub room : length entries ≤ limit_number new.table.layout.limit
-  pub marks : (other : ℕ) → other < new.table.layout.harts → mid.marked other ≡ true → new.worlds hart ≡ new.worlds other
+  pub needs : Needs (current_view new.table (new.worlds hart)) used
+  pub lists : AreLists new.table answer.value which are
   pub reads : ReadsMemory old.bytes read
   pub serves : (given : ControlWords) (answered : List ℕ) (that : MonitorState) → that ≡ unmarked 4 mid
-      → IsAnswer that given hart answer cleared (marks_of mid) answered
+      → IsAnswer that given hart answer cleared (marks_of mid) which answered
       → ServesAs kind (monitor_of old on.registers on.marked) (trap_on kind hart file) given read question answered that
 
 pub trap_seen :
     (layout : PlatformLayout) (opened : List ℕ) (seen : List BoardEvent) (kind : TrapEvent) (old new : MachineState) (hart : ℕ) (file : RegisterFile)
     (on : OnBoard layout opened seen old) → hart < old.table.layout.harts → (x : TrapLeaves layout opened seen kind old new hart file on)
     → (answered : List ℕ) × OnBoard layout opened (seen ++ trapped (trap_on kind hart file) (trap_frame kind hart file) x.read x.question answered ∷ []) new
-    × Says answered (world_number (new.worlds hart)) (status_word x.answer.status) x.answer.value (length x.entries)
+    × Says answered (world_number (new.worlds hart)) (status_word x.answer.status) x.answer.value x.used
 trap_seen layout opened seen kind old new hart file on known x =
     let trap = trap_on kind hart file in
     let that = monitor_of new x.mid.registers (unmarked 4 x.mid).marked in
@@ -68,23 +68,22 @@ trap_seen layout opened seen kind old new hart file on known x =
     }) in
     let kept = keeping (old.worlds hart) on.hosts hart trap.control in
     let given = words_in (new.worlds hart) (kept hart) in
-    let answered = answer_bytes (head_of that hart x.answer x.cleared (marks_of x.mid)) (running_registers that hart) x.entries given in
-    let is_answer : IsAnswer that given hart x.answer x.cleared (marks_of x.mid) answered = (
-      x.entries,
-      record {
-        here = x.fewest;
-        there = λ other low on. subst (λ w. IsFewest (current_view new.table w) x.entries) (x.marks other low (mark_at x.mid other on)) x.fewest;
-        room = x.room;
-      },
-      refl,
-    ) in
-    let words = named that given hart x.answer x.cleared (marks_of x.mid) answered is_answer x.inside in
-    let loaded : ℕ → List ℕ = λ h. if is_loaded answered h then answered else on.loaded h in (
+    let head = head_of that hart x.answer x.used x.cleared (marks_of x.mid) x.which in
+    let answered = answer_bytes head (running_registers that hart) given x.are in
+    let is_answer : IsAnswer that given hart x.answer x.cleared (marks_of x.mid) x.which answered = record {
+      used = x.used;
+      needs = x.needs;
+      puts = record { are = x.are; lists = x.lists; put = refl };
+    } in
+    let words = named that given hart x.answer x.cleared (marks_of x.mid) x.which answered is_answer x.inside in
+    let lists : ℕ → List ℕ = list_after answered on.lists in
+    let loaded : ℕ → List ℕ = λ h. loaded_after answered lists (on.loaded h) h in (
       answered,
       record {
         registers = x.mid.registers;
         marked = (unmarked 4 x.mid).marked;
         hosts = kept;
+        lists = lists;
         loaded = loaded;
         runs = happened on.runs (trapped trap (trap_frame kind hart file) x.read x.question answered) (record {
           size = frame_size kind hart file;
@@ -98,6 +97,7 @@ trap_seen layout opened seen kind old new hart file on known x =
           cleared = λ byte.
               x.bytes byte ∙ sym (ap (λ first. zeroed old.bytes first (word_at answered 7) byte) words.0
               ∙ ap (λ count. zeroed old.bytes (pages_of x.cleared).first count byte) words.1);
+          keeps = λ world. refl;
           loads = λ h. refl;
           floats = record {
             goes_on = λ same. refl;
@@ -110,7 +110,7 @@ trap_seen layout opened seen kind old new hart file on known x =
         });
         waits = x.waits;
       },
-      says (head_of that hart x.answer x.cleared (marks_of x.mid)) (running_registers that hart) x.entries given,
+      says head (running_registers that hart) given x.are,
     )
 
 -- memory as the model clears it

@@ -1,6 +1,6 @@
 -- A board: harts that load what the monitor answers, memory, and worlds that run between its traps.
 use Rattle.std.specs.Prelude.{◌≡◌, ◌≢◌, ℕ, ◌*◌, ◌<◌, ◌==◌, if◌then◌else◌, List, [], ◌++◌, ◌∷◌}
-use Rattle.std.specs.Prelude.{length, Result, Ok, Err}
+use Rattle.std.specs.Prelude.{drop, length, Result, Ok, Err}
 use Rattle.pmp_encoding.specs.declared.region.Entry.{Entry}
 use Rattle.pmp_encoding.specs.Limits.{limit_number}
 use Rattle.pmp_encoding.specs.Lists.{MeansList}
@@ -18,7 +18,7 @@ use Rattle.monitor_core.specs.Switches.{runner_on}
 use Rattle.hart_sim.specs.Memory.{bytes_at, stored, zeroed}
 use Rattle.trap_server.specs.declared.trap.Trap.{Trap}
 use Rattle.trap_server.specs.declared.words.ControlWords.{ControlWords}
-use Rattle.trap_server.specs.Firmware.{is_loaded, loaded_pairs}
+use Rattle.trap_server.specs.Firmware.{list_after, loaded_after, loaded_pairs}
 use Rattle.trap_server.specs.PageDigest.{ArePages}
 use Rattle.trap_server.specs.Runs.{first_words}
 use Rattle.trap_server.specs.Service.{ServesTrap}
@@ -33,13 +33,15 @@ Floats = ℕ → ℕ
 abbrev pub no_floats : Floats
 no_floats n = 0
 
--- the state of the monitor, the control words that its loop keeps, the byte at each address, and
--- for each hart the bytes of the answer whose entries it loaded last. What each hart has in its
--- registers of floating point, and what is kept there for each host and each enclave
+-- the state of the monitor, the control words that its loop keeps, and the byte at each address. The
+-- bytes of the list of entries that is kept for each world by its number, 0 for the host, and of the
+-- one that each hart loaded last. What each hart has in its registers of floating point, and what is
+-- kept there for each host and each enclave
 pub record Board : Type 0 where
   pub monitor : MonitorState
   pub hosts : ℕ → ControlWords
   pub memory : ℕ → ℕ
+  pub lists : ℕ → List ℕ
   pub loaded : ℕ → List ℕ
   pub floats : ℕ → Floats
   pub kept : Runner → Floats
@@ -114,9 +116,10 @@ ReadsMemory memory read =
     → pages ≡ pages_from (λ page. bytes_at memory (page * 4096) 4096) first count
 
 -- a trap is served, and meanwhile no world runs. Its frame has any registers. The pages that were
--- read are memory's; those that the answer names, in its words 6 and 7, are made zero; each hart
--- that it names or wakes loads its entries before any world goes on; and registers of floating
--- point change with the world of the hart that trapped
+-- read are memory's; those that the answer names, in its words 6 and 7, are made zero; the lists
+-- that it has are kept for their worlds; the hart that it names loads the list of the world that it
+-- names, and each that it wakes the host's, before any world goes on; and registers of floating point
+-- change with the world of the hart that trapped
 pub record DoesTrap (old : Board) (trap : Trap) (frame read question answered : List ℕ)
     (new : Board) : Type 0 where
   pub size : length frame ≡ 352
@@ -125,8 +128,9 @@ pub record DoesTrap (old : Board) (trap : Trap) (frame read question answered : 
   pub pages : ReadsMemory old.memory read
   pub cleared : (byte : ℕ) → new.memory byte
       ≡ zeroed old.memory (word_at answered 6) (word_at answered 7) byte
+  pub keeps : (world : ℕ) → new.lists world ≡ list_after answered old.lists world
   pub loads : (hart : ℕ) → new.loaded hart
-      ≡ (if is_loaded answered hart then answered else old.loaded hart)
+      ≡ loaded_after answered new.lists (old.loaded hart) hart
   pub floats : ChangesFloats old trap.hart (runner_on old.monitor trap.hart)
       (runner_by trap.hart (word_at answered 2)) question answered new
 
@@ -137,15 +141,16 @@ HappensOn (computed hart floats) old new = DoesCompute old hart floats new
 HappensOn (trapped trap frame read question answered) old new =
     DoesTrap old trap frame read question answered new
 
--- a board after boot: the opening state, any memory, on each hart the entries of the first answer,
--- and anything in registers of floating point and kept of them
+-- a board after boot: the opening state, any memory, on each hart the list of the first answer, and
+-- anything in registers of floating point and kept of them
 abbrev pub booted_board : PlatformLayout → List ℕ → (ℕ → ℕ) → (ℕ → Floats) → (Runner → Floats)
     → Board
 booted_board layout opened memory floats kept = record {
   monitor = opening_monitor layout;
   hosts = first_words;
   memory = memory;
-  loaded = λ hart. opened;
+  lists = λ world. drop 416 opened;
+  loaded = λ hart. drop 416 opened;
   floats = floats;
   kept = kept;
 }

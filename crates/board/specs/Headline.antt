@@ -23,7 +23,7 @@ use Rattle.monitor_core.specs.Worlds.{ArePlaced}
 use Rattle.hart_sim.specs.Memory.{measured_in}
 use Rattle.hart_sim.specs.Steps.{verdict}
 use Rattle.trap_server.specs.Answered.{AreAwake}
-use Rattle.trap_server.specs.Firmware.{HasFewest, loaded_last}
+use Rattle.trap_server.specs.Firmware.{HasFewest, list_last, loaded_last}
 use Rattle.trap_server.specs.Runs.{ServesTraps, first_words}
 use Rattle.board.specs.Board.{Board, BoardEvent, BoardRun, access, computed, trapped, booted}
 use Rattle.board.specs.Board.{Floats, happened, no_floats}
@@ -140,12 +140,13 @@ written_on (happened run (computed hart floats) does) = written_on run
 written_on (happened run (trapped trap frame read question answered) does) =
     written_on run ++ (answered ++ question)
 
--- the traps are a run of the loop, which read and wrote these bytes, and each hart has loaded what
--- its answers say
+-- the traps are a run of the loop, which read and wrote these bytes, and each world's list is kept,
+-- and loaded on each hart, as its answers say
 pub record IsServed (layout : PlatformLayout) (opened read written : List ℕ) (board : Board) :
     Type 0 where
   pub served : ServesTraps (opening_monitor layout) first_words read written board.monitor
       board.hosts
+  pub keeps : (world : ℕ) → board.lists world ≡ list_last opened served world
   pub loads : (hart : ℕ) → board.loaded hart ≡ loaded_last opened served hart
 
 -- an enclave that was not entered yet has the digest of its private pages as they are in memory.

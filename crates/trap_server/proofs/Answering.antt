@@ -18,7 +18,7 @@ use Rattle.monitor_core.specs.States.{MonitorState, running_registers}
 use Rattle.monitor_core.specs.Steps.{DoesCall}
 use Rattle.monitor_core.specs.declared.answer.Answer.{Answer}
 use Rattle.monitor_core.proofs.Running.{call_there}
-use Rattle.trap_server.specs.Answered.{AreAwake, IsAnswer, given_on, marks_of, no_answer, unmarked}
+use Rattle.trap_server.specs.Answered.{AreAwake, IsAnswer, given_on, marks_of, new_lists, no_answer, unmarked}
 use Rattle.trap_server.specs.Given.{GivesWords, keeping}
 use Rattle.trap_server.specs.PageDigest.{HasParts, question_of}
 use Rattle.trap_server.specs.Service.{AnswersCall, ServesAs, ServesStop}
@@ -28,6 +28,7 @@ use Rattle.trap_server.specs.declared.trap.Trap.{Trap}
 use Rattle.trap_server.specs.declared.trap.TrapEvent.{TrapEvent}
 use Rattle.trap_server.specs.declared.trap.TrapEvent.TheVariants.{Call, Stop}
 use Rattle.trap_server.specs.declared.words.ControlWords.{ControlWords}
+use Rattle.trap_server.specs.declared.answer.NewLists.{NewLists}
 use Rattle.trap_server.proofs.Remeasured.{answer_remeasured}
 use Rattle.trap_server.proofs.Served.{quiet}
 
@@ -94,13 +95,14 @@ pub record CallAnswered (old now : MonitorState) (hosts kept : ℕ → ControlWo
 -- the registers of the trap were put on its hart, the call served, and each hart woken that was marked
 pub call_answered :
     (s put mid now : MonitorState) (hosts kept : ℕ → ControlWords) (trap : Trap) (digest : List ℕ) (answer : Answer) (cleared : Option PageRange)
-    (woken : List Bool) (harts : ℕ) (bytes : List ℕ) → trap.event ≡ Call → put ≡ with_running s trap.hart trap.registers
+    (woken : List Bool) (new : NewLists) (harts : ℕ) (bytes : List ℕ) → trap.event ≡ Call → put ≡ with_running s trap.hart trap.registers
     → (let there = past_call (running_registers put trap.hart) in DoesCall (call_of there) (λ parts. digest)
     (with_running put trap.hart there) trap.hart answer cleared mid)
     → mid.table.layout ≡ put.table.layout → IsTable mid.table → harts ≡ s.table.layout.harts → harts ≤ 4 → now ≡ unmarked 4 mid → woken ≡ marks_of mid
     → kept ≡ keeping (s.worlds trap.hart) hosts trap.hart trap.control
-    → IsAnswer now (given_on now kept trap.hart) trap.hart answer cleared woken bytes → CallAnswered s now hosts kept trap answer bytes
-call_answered s put mid now hosts kept trap digest answer cleared woken harts bytes is placed step platform sound number most n w keeps says =
+    → new ≡ new_lists (asked_in (call_of trap.registers)) answer cleared
+    → IsAnswer now (given_on now kept trap.hart) trap.hart answer cleared woken new bytes → CallAnswered s now hosts kept trap answer bytes
+call_answered s put mid now hosts kept trap digest answer cleared woken new harts bytes is placed step platform sound number most n w keeps l says =
     let given = given_on now kept trap.hart in
     let layout = platform ∙ ap (λ (x : MonitorState). x.table.layout) placed in
     let few : mid.table.layout.harts ≤ 4 = subst (λ l. l.harts ≤ 4) (sym layout) (subst (λ k. k ≤ 4) number most) in
@@ -114,7 +116,8 @@ call_answered s put mid now hosts kept trap digest answer cleared woken harts by
         mid = mid;
         step = call_there s put mid trap.hart trap.registers (λ parts. digest) answer cleared placed step;
         woken = n;
-        goes_on = subst (λ (ws : List Bool). IsAnswer now given trap.hart answer cleared ws bytes) w says;
+        goes_on = subst (λ (ls : NewLists). IsAnswer now given trap.hart answer cleared (marks_of mid) ls bytes) l
+            (subst (λ (ws : List Bool). IsAnswer now given trap.hart answer cleared ws new bytes) w says);
       };
       table = subst (λ (x : MonitorState). IsTable x.table) (sym n) sound;
       awake = quiet mid now n few;

@@ -3,7 +3,7 @@ use Rattle.std.proofs.Common.{◌≡◌, ◌∙◌, ℕ, ◌+◌, ◌*◌, List,
 use Rattle.byteorder.specs.Endian.{little_bytes}
 use Rattle.pmp_encoding.specs.declared.pages.PageRange.{PageRange}
 use Rattle.trap_server.specs.Words.{answer_tag, bytes_of}
-use Rattle.trap_server.specs.Answers.{head_bytes, pages_of, wake_word}
+use Rattle.trap_server.specs.Answers.{head_bytes, list_count, pages_of, wake_word}
 use Rattle.monitor_core.specs.Answers.{world_number}
 use Rattle.trap_server.specs.declared.answer.Head.{Head}
 
@@ -21,10 +21,12 @@ pub two_parts : (old now new first second : List ℕ) → now ≡ old ++ first �
 two_parts old now new first second a b = b ∙ ap (λ xs. xs ++ second) a ∙ append_assoc old first second
 
 -- the words of a head, each as it was made
-pub head_is : (old new : List ℕ) (head : Head) (used hart world wake : ℕ) (pages : PageRange) → hart ≡ head.hart → world ≡ world_number head.world
-    → pages ≡ pages_of head.zero → wake ≡ wake_word head.woken → new ≡ old ++ bytes_of
-    (answer_tag ∷ (hart ∷ (world ∷ (head.status ∷ (head.value ∷ (used ∷ (pages.first ∷ (pages.count ∷ (wake ∷ []))))))))) → new ≡ old ++ head_bytes head used
-head_is old new head used hart world wake pages h w p k is = rw (h, w, p, k) at is
+pub head_is :
+    (old new : List ℕ) (head : Head) (hart world wake : ℕ) (pages : PageRange) (count : ℕ) → hart ≡ head.hart → world ≡ world_number head.world
+    → pages ≡ pages_of head.zero → wake ≡ wake_word head.woken → count ≡ list_count head.lists → new ≡ old ++ bytes_of
+    (answer_tag ∷ (hart ∷ (world ∷ (head.status ∷ (head.value ∷ (head.used ∷ (pages.first ∷ (pages.count ∷ (wake ∷ (count ∷ []))))))))))
+    → new ≡ old ++ head_bytes head
+head_is old new head hart world wake pages count h w p k n is = rw (h, w, p, k, n) at is
 
 -- a word more after a front
 pub word_more :

@@ -1,124 +1,245 @@
 -- What holds after every list of traps, by induction over them.
-use Rattle.std.proofs.Common.{◌≡◌, ◌≢◌, ◌∙◌, ◌<◌, ◌≤◌, ◌==◌, ◌||◌, ◌/◌, ◌%◌, ◌^◌, ℕ, zero, suc, Bool, true, false, List, length, Option, None, if◌then◌else◌}
-use Rattle.std.proofs.Common.{slice_index_or, refl, ap, sym, subst, arith}
-use Rattle.std.proofs.lemmas.Bool.{both_ways, eq-eqb, eqb-true}
+use Rattle.std.proofs.Common.{◌≡◌, ◌≢◌, ◌∙◌, ◌<◌, ◌≤◌, ◌==◌, ◌&&◌, ◌/◌, ◌%◌, ◌^◌, ◌++◌, ℕ, zero, suc, nat_lt, Bool, true, false, List, [], ◌∷◌, drop, Option, None}
+use Rattle.std.proofs.Common.{if◌then◌else◌, slice_index_or, refl, ap, sym, subst, lit<, arith}
+use Rattle.std.proofs.lemmas.Bool.{both_ways, eq-eqb, eqb-true, ne_eqb, true≢false}
 use Rattle.pmp_encoding.specs.Limits.{limit_number}
 use Rattle.pmp_encoding.specs.Lists.{MeansList}
-use Rattle.pmp_encoding.specs.Views.{View}
+use Rattle.pmp_encoding.specs.Views.{SameView, View}
 use Rattle.pmp_encoding.specs.declared.limit.Limit.{Limit}
 use Rattle.pmp_encoding.specs.declared.pages.PageRange.{PageRange}
 use Rattle.pmp_encoding.specs.declared.region.Entry.{Entry}
-use Rattle.pmp_match.specs.Meaning.{IsFewest}
 use Rattle.platforms.specs.Platform.{IsLayout, PlatformLayout}
 use Rattle.sbi_decode.specs.Calls.{call_of}
 use Rattle.sbi_decode.specs.Registers.{RegisterFile}
-use Rattle.enclave_table.specs.Tables.{IsTable}
+use Rattle.sbi_decode.specs.declared.world.World.{World}
+use Rattle.sbi_decode.specs.declared.world.World.TheVariants.{Host, Enclave as InEnclave}
+use Rattle.enclave_table.specs.Enclaves.{EnclaveTable}
+use Rattle.enclave_table.specs.Fewest.{IsListOf}
+use Rattle.enclave_table.specs.Tables.{IsCurrent, IsTable}
 use Rattle.enclave_table.specs.Views.{current_view}
+use Rattle.enclave_table.proofs.Places.{live_above, live_inside}
 use Rattle.enclave_table.proofs.SameViews.{fewest_same}
+use Rattle.monitor_core.specs.Answers.{world_number}
 use Rattle.monitor_core.specs.Changes.{past_call, with_running}
 use Rattle.monitor_core.specs.States.{MonitorState, opening_monitor, running_registers}
 use Rattle.monitor_core.specs.Worlds.{ArePlaced}
 use Rattle.monitor_core.specs.declared.answer.Answer.{Answer}
 use Rattle.monitor_core.proofs.Cases.{both}
+use Rattle.monitor_core.proofs.Currents.{none_live}
 use Rattle.monitor_core.proofs.Layouts.{call_keeps_layout, interrupt_keeps_layout}
 use Rattle.monitor_core.proofs.SoundTables.{call_keeps_table, interrupt_keeps_table, opening_sound}
 use Rattle.monitor_core.proofs.WorldsKept.{call_keeps_worlds, interrupt_keeps_worlds, opened, putting_keeps_worlds, waking_keeps_worlds}
 use Rattle.trap_server.specs.declared.answer.Head.{Head}
+use Rattle.trap_server.specs.declared.answer.NewLists.{NewLists}
+use Rattle.trap_server.specs.declared.answer.NewLists.TheVariants as lists
 use Rattle.trap_server.specs.declared.trap.TrapEvent.{TrapEvent}
 use Rattle.trap_server.specs.declared.trap.TrapEvent.TheVariants.{Call, Stop}
 use Rattle.trap_server.specs.declared.trap.Trap.{Trap}
 use Rattle.trap_server.specs.declared.words.ControlWords.{ControlWords}
 use Rattle.trap_server.specs.Answered.{AreAwake, IsAnswer, head_of, no_answer, unmarked}
-use Rattle.trap_server.specs.Answers.{answer_bytes}
+use Rattle.trap_server.specs.Answers.{front_bytes, list_bytes, list_count, lists_bytes}
 use Rattle.trap_server.specs.Boot.{IsFirstAnswer, others}
-use Rattle.trap_server.specs.Firmware.{FirmwareHeadline, HasFewest, KeepsTrap, is_loaded, loaded_address, loaded_cfg, loaded_last, loaded_pairs}
+use Rattle.trap_server.specs.Firmware.{FirmwareHeadline, HasFewest, IsThere, KeepsTrap, is_new, list_after, list_last, loaded_address, loaded_after, loaded_cfg}
+use Rattle.trap_server.specs.Firmware.{loaded_last, loaded_pairs}
 use Rattle.trap_server.specs.Runs.{ServesTraps, first_words, next_trap, no_trap}
 use Rattle.trap_server.specs.Service.{ServesAs}
 use Rattle.trap_server.specs.Tables.{first_host_words}
 use Rattle.trap_server.specs.Words.{word_at}
-use Rattle.trap_server.proofs.LoadedBytes.{hart_back, list_back, loads_back, off_back}
+use Rattle.trap_server.proofs.LoadedBytes.{bit_there, count_back, first_list, hart_back, list_back, off_back, second_list, value_back, wake_back, world_back}
 use Rattle.trap_server.proofs.Served.{quiet}
 use Rattle.trap_server.proofs.TrapsKept.{still_below, trap_kept}
 
--- the bytes of an answer have the list that was put into them
-put_fewest :
-    (head : Head) (file : RegisterFile) (entries : List Entry) (control : ControlWords) (bytes : List ℕ) (limit : Limit) (view : View)
-    → bytes ≡ answer_bytes head file entries control → length entries ≤ limit_number limit → IsFewest view entries
+-- the bytes of a list have the entries that were put into them
+put_fewest : (entries : List Entry) (rest bytes : List ℕ) (limit : Limit) (view : View) → bytes ≡ list_bytes entries ++ rest → IsListOf limit view entries
     → HasFewest bytes limit view
-put_fewest head file entries control bytes limit view is room fewest = record {
+put_fewest entries rest bytes limit view is list = record {
   entries = entries;
-  fewest = fewest;
-  room = room;
-  list = subst (λ b. MeansList (loaded_pairs b 0 (limit_number limit)) entries) (sym is) (list_back head file entries control limit room);
-  off = λ i past low. subst (λ b. (loaded_cfg b i ≡ 0) × (loaded_address b i ≡ 0)) (sym is) (off_back head file entries control i past low);
+  fewest = list.fewest;
+  room = list.room;
+  list = subst (λ b. MeansList (loaded_pairs b 0 (limit_number limit)) entries) (sym is) (list_back entries rest limit list.room);
+  off = λ i past low. subst (λ b. (loaded_cfg b i ≡ 0) × (loaded_address b i ≡ 0)) (sym is) (off_back entries rest i past low);
 }
 
--- an answer has those of its hart, and of each that it wakes
-own_fewest :
-    (s : MonitorState) (given : ControlWords) (hart : ℕ) (answer : Answer) (cleared : Option PageRange) (woken : List Bool) (bytes : List ℕ)
-    → IsAnswer s given hart answer cleared woken bytes
-    → HasFewest bytes s.table.layout.limit (current_view s.table (s.worlds hart))
-own_fewest s given hart answer cleared woken bytes a = put_fewest (head_of s hart answer cleared woken)
-    (running_registers s hart) a.0 given bytes s.table.layout.limit _ a.2 a.1.room a.1.here
-
-woken_fewest :
-    (s : MonitorState) (given : ControlWords) (hart : ℕ) (answer : Answer) (cleared : Option PageRange) (woken : List Bool) (bytes : List ℕ) (other : ℕ)
-    → IsAnswer s given hart answer cleared woken bytes → other < s.table.layout.harts
-    → slice_index_or woken other false ≡ true → HasFewest bytes s.table.layout.limit (current_view s.table (s.worlds other))
-woken_fewest s given hart answer cleared woken bytes other a low on = put_fewest (head_of s hart answer cleared woken)
-    (running_registers s hart) a.0 given bytes s.table.layout.limit _ a.2 a.1.room (a.1.there other low on)
-
 -- the same list for a view that is the same
-same_fewest : (bytes : List ℕ) (limit : Limit) (view other : View) → ((f : HasFewest bytes limit view) → IsFewest other f.entries) → HasFewest bytes limit view
-    → HasFewest bytes limit other
-same_fewest bytes limit view other same f = record { entries = f.entries; fewest = same f; room = f.room; list = f.list; off = f.off }
+same_fewest : (bytes : List ℕ) (limit : Limit) (view other : View) → SameView view other → HasFewest bytes limit view → HasFewest bytes limit other
+same_fewest bytes limit view other same f = record {
+  entries = f.entries;
+  fewest = fewest_same view other f.entries same f.fewest;
+  room = f.room;
+  list = f.list;
+  off = f.off;
+}
 
--- who loads the entries of an answer: the hart that it names, and each that it wakes
-names :
-    (s : MonitorState) (given : ControlWords) (hart : ℕ) (answer : Answer) (cleared : Option PageRange) (woken : List Bool) (bytes : List ℕ)
-    → IsAnswer s given hart answer cleared woken bytes → hart < 4 → is_loaded bytes hart ≡ true
-names s given hart answer cleared woken bytes a low =
-    let head = head_of s hart answer cleared woken in
-    let one : word_at bytes 1 ≡ hart = ap (λ b. word_at b 1) a.2 ∙ hart_back head (running_registers s hart) a.0 given low in
-    ap (λ t. t || word_at bytes 8 / 2 ^ hart % 2 == 1) (eq-eqb (word_at bytes 1) hart one)
+-- what an answer says in its first words, and its lists
+module _ (s : MonitorState) (given : ControlWords) (hart : ℕ) (answer : Answer) (cleared : Option PageRange) (woken : List Bool) (new : NewLists)
+    (bytes : List ℕ) (a : IsAnswer s given hart answer cleared woken new bytes) where
+  abbrev head : Head
+  head = head_of s hart answer a.used cleared woken new
 
-wakes :
-    (s : MonitorState) (given : ControlWords) (hart : ℕ) (answer : Answer) (cleared : Option PageRange) (woken : List Bool) (bytes : List ℕ) (other : ℕ)
-    → IsAnswer s given hart answer cleared woken bytes → hart < 4 → other < 4 → other ≢ hart
-    → is_loaded bytes other ≡ slice_index_or woken other false
-wakes s given hart answer cleared woken bytes other a low under differs =
-    ap (λ b. is_loaded b other) a.2 ∙ loads_back (head_of s hart answer cleared woken) (running_registers s hart) a.0 given other low under differs
+  abbrev file : RegisterFile
+  file = running_registers s hart
 
--- what a hart loaded last is right after a trap where it was before it
-pub next_bank :
-    (s : MonitorState) (hosts kept : ℕ → ControlWords) (trap : Trap) (read question answered : List ℕ) (new : MonitorState) (before : List ℕ) (other : ℕ)
-    → KeepsTrap s hosts trap read question answered new kept → new.table.layout ≡ s.table.layout
-    → trap.hart < s.table.layout.harts → s.table.layout.harts ≤ 4 → other < s.table.layout.harts
-    → HasFewest before s.table.layout.limit (current_view s.table (s.worlds other))
-    → HasFewest (if is_loaded answered other then answered else before) new.table.layout.limit (current_view new.table (new.worlds other))
-next_bank s hosts kept trap read question answered new before other k layout low most under was =
-    let hart = trap.hart in
-    let four : hart < 4 = omega (arith, low, most) in
-    let fourth : other < 4 = omega (arith, under, most) in
-    let view = current_view new.table (new.worlds other) in
-    let Right = λ (loads : Bool). HasFewest (if loads then answered else before) new.table.layout.limit view in
-    both (other == hart)
-    (λ yes.
-    let same : other ≡ hart = eqb-true other hart yes in
-    let named : is_loaded answered other ≡ true = ap (is_loaded answered) same ∙ names new k.given hart k.answer k.cleared k.woken answered k.says four in
-    subst Right (sym named) (subst (λ h. HasFewest answered new.table.layout.limit (current_view new.table (new.worlds h))) (sym same)
-    (own_fewest new k.given hart k.answer k.cleared k.woken answered k.says)))
-    (λ no.
-    let differs : other ≢ hart = λ same. both_ways (other == hart) no (eq-eqb other hart same) in
-    let bit = wakes new k.given hart k.answer k.cleared k.woken answered other k.says four fourth differs in
-    both (slice_index_or k.woken other false)
-    (λ on. subst Right (sym (bit ∙ on)) (woken_fewest new k.given hart k.answer k.cleared k.woken answered other k.says
-    (subst (λ l. other < l.harts) (sym layout) under) on))
-    (λ off.
-    let same = k.others other differs under off in
-    let kept_list = same_fewest before s.table.layout.limit (current_view s.table (s.worlds other)) view
-    (λ f. fewest_same (current_view s.table (s.worlds other)) view f.entries same f.fewest) was in
-    subst Right (sym (bit ∙ off)) (subst (λ l. HasFewest before l.limit view) (sym layout) kept_list)))
+  says_hart : hart < 4 → word_at bytes 1 ≡ hart
+  says_hart low = ap (λ b. word_at b 1) a.puts.put ∙ hart_back head file given (lists_bytes a.puts.are) low
+
+  says_world : world_number (s.worlds hart) < 2 ^ 64 → word_at bytes 2 ≡ world_number (s.worlds hart)
+  says_world low = ap (λ b. word_at b 2) a.puts.put ∙ world_back head file given (lists_bytes a.puts.are) low
+
+  says_value : answer.value < 2 ^ 64 → word_at bytes 4 ≡ answer.value
+  says_value low = ap (λ b. word_at b 4) a.puts.put ∙ value_back head file given (lists_bytes a.puts.are) low
+
+  says_woken : (other : ℕ) → other < 4 → (word_at bytes 8 / 2 ^ other % 2 == 1) ≡ slice_index_or woken other false
+  says_woken other low = ap (λ n. n / 2 ^ other % 2 == 1) (ap (λ b. word_at b 8) a.puts.put ∙ wake_back head file given (lists_bytes a.puts.are))
+      ∙ bit_there woken other low
+
+  says_count : word_at bytes 9 ≡ list_count new
+  says_count = ap (λ b. word_at b 9) a.puts.put ∙ count_back head file given (lists_bytes a.puts.are) (few new)
+    where
+      few : (lists : NewLists) → list_count lists < 2 ^ 64
+      few lists.Nothing = lit< tt
+      few lists.Host = lit< tt
+      few lists.HostAndMade = lit< tt
+
+  says_first : (host : List Entry) (more : List (List Entry)) → a.puts.are ≡ host ∷ more → drop 416 bytes ≡ list_bytes host ++ lists_bytes more
+  says_first host more are = ap (drop 416) (a.puts.put ∙ ap (λ ls. front_bytes head file given ++ lists_bytes ls) are)
+      ∙ first_list head file given host more
+
+  says_second : (host made : List Entry) → a.puts.are ≡ host ∷ (made ∷ []) → drop 1000 bytes ≡ list_bytes made ++ []
+  says_second host made are = ap (drop 1000) (a.puts.put ∙ ap (λ ls. front_bytes head file given ++ lists_bytes ls) are)
+      ∙ second_list head file given host made []
+
+-- the list of the host, where it is new, and that of an enclave that was made
+host_listed :
+    (new : NewLists) (s : MonitorState) (given : ControlWords) (hart : ℕ) (answer : Answer) (cleared : Option PageRange) (woken : List Bool) (bytes : List ℕ)
+    → IsAnswer s given hart answer cleared woken new bytes → is_new new answer.value Host ≡ true
+    → HasFewest (drop 416 bytes) s.table.layout.limit (current_view s.table Host)
+host_listed lists.Nothing s given hart answer cleared woken bytes a is = absurd (true≢false (sym is))
+host_listed lists.Host s given hart answer cleared woken bytes a is =
+    put_fewest a.puts.lists.0 [] (drop 416 bytes) s.table.layout.limit (current_view s.table Host)
+    (says_first s given hart answer cleared woken lists.Host bytes a a.puts.lists.0 [] a.puts.lists.2) a.puts.lists.1
+host_listed lists.HostAndMade s given hart answer cleared woken bytes a is =
+    let more = a.puts.lists.1 ∷ [] in
+    put_fewest a.puts.lists.0 (lists_bytes more) (drop 416 bytes) s.table.layout.limit (current_view s.table Host)
+    (says_first s given hart answer cleared woken lists.HostAndMade bytes a a.puts.lists.0 more a.puts.lists.4) a.puts.lists.2
+
+made_listed :
+    (new : NewLists) (s : MonitorState) (given : ControlWords) (hart : ℕ) (answer : Answer) (cleared : Option PageRange) (woken : List Bool) (bytes : List ℕ)
+    → IsAnswer s given hart answer cleared woken new bytes → new ≡ lists.HostAndMade
+    → HasFewest (drop 1000 bytes) s.table.layout.limit (current_view s.table (InEnclave answer.value))
+made_listed lists.Nothing s given hart answer cleared woken bytes a is = absurd (let z : lists.Nothing ≡ lists.HostAndMade = is in cc)
+made_listed lists.Host s given hart answer cleared woken bytes a is = absurd (let z : lists.Host ≡ lists.HostAndMade = is in cc)
+made_listed lists.HostAndMade s given hart answer cleared woken bytes a is =
+    put_fewest a.puts.lists.1 [] (drop 1000 bytes) s.table.layout.limit (current_view s.table (InEnclave answer.value))
+    (says_second s given hart answer cleared woken lists.HostAndMade bytes a a.puts.lists.0 a.puts.lists.1 a.puts.lists.4) a.puts.lists.3
+
+-- the list of a world after an answer is right, where a new one is, and one that is kept
+module _ (value : ℕ) (table : EnclaveTable) (limit : Limit) (answered : List ℕ) (before : ℕ → List ℕ) where
+  abbrev Right : World → List ℕ → Type 0
+  Right world bytes = HasFewest bytes limit (current_view table world)
+
+  next_list :
+      (new : NewLists) (world : World) → IsThere table world → word_at answered 9 ≡ list_count new
+      → (new ≡ lists.HostAndMade → word_at answered 4 ≡ value) → (is_new new value Host ≡ true → Right Host (drop 416 answered))
+      → (new ≡ lists.HostAndMade → Right (InEnclave value) (drop 1000 answered))
+      → (is_new new value world ≡ false → Right world (before (world_number world)))
+      → Right world (list_after answered before (world_number world))
+  next_list lists.Nothing Host there count named host made kept =
+      subst (Right Host) (sym (ap (λ n. if nat_lt 0 n then drop 416 answered else before 0) count)) (kept refl)
+  next_list lists.Host Host there count named host made kept =
+      subst (Right Host) (sym (ap (λ n. if nat_lt 0 n then drop 416 answered else before 0) count)) (host refl)
+  next_list lists.HostAndMade Host there count named host made kept =
+      subst (Right Host) (sym (ap (λ n. if nat_lt 0 n then drop 416 answered else before 0) count)) (host refl)
+  next_list new (InEnclave zero) there count named host made kept =
+      let above = live_above table.enclaves 0 there.0 there.1 in absurd (omega (arith, above))
+  next_list lists.Nothing (InEnclave (suc n)) there count named host made kept =
+      subst (Right (InEnclave (suc n)))
+      (sym (ap (λ c. if c == 2 && word_at answered 4 == suc n then drop 1000 answered else before (suc n)) count)) (kept refl)
+  next_list lists.Host (InEnclave (suc n)) there count named host made kept =
+      subst (Right (InEnclave (suc n)))
+      (sym (ap (λ c. if c == 2 && word_at answered 4 == suc n then drop 1000 answered else before (suc n)) count)) (kept refl)
+  next_list lists.HostAndMade (InEnclave (suc n)) there count named host made kept =
+      let is = ap (λ c. if c == 2 && word_at answered 4 == suc n then drop 1000 answered else before (suc n)) count
+      ∙ ap (λ v. if v == suc n then drop 1000 answered else before (suc n)) (named refl) in
+      both (value == suc n)
+      (λ yes.
+      let same : value ≡ suc n = eqb-true value (suc n) yes in
+      subst (Right (InEnclave (suc n))) (sym (is ∙ ap (λ t. if t then drop 1000 answered else before (suc n)) yes))
+      (subst (λ k. Right (InEnclave k) (drop 1000 answered)) same (made refl)))
+      (λ no. subst (Right (InEnclave (suc n))) (sym (is ∙ ap (λ t. if t then drop 1000 answered else before (suc n)) no)) (kept no))
+
+-- the number of a world that is there is small
+number_small : (table : EnclaveTable) (world : World) → IsTable table → IsThere table world → world_number world < 2 ^ 64
+number_small table Host sound there = lit< tt
+number_small table (InEnclave id) sound there =
+    let inside = live_inside table.enclaves id there.0 there.1 in
+    let long = sound.places in
+    omega (arith, inside, long)
+
+-- a world that runs is there
+runs_there : (table : EnclaveTable) (world : World) → IsCurrent table world → IsThere table world
+runs_there table Host current = tt
+runs_there table (InEnclave id) current = (current.0, current.1)
+
+-- a trap, and the lists before it
+module _ (s : MonitorState) (hosts kept : ℕ → ControlWords) (trap : Trap) (read question answered : List ℕ) (new : MonitorState) (before : ℕ → List ℕ)
+    (k : KeepsTrap s hosts trap read question answered new kept) (layout : new.table.layout ≡ s.table.layout) (sound : IsTable new.table)
+    (placed : ArePlaced new) (was : (world : World) → IsThere s.table world
+    → HasFewest (before (world_number world)) s.table.layout.limit (current_view s.table world)) where
+  abbrev limit : Limit
+  limit = new.table.layout.limit
+
+  abbrev after : ℕ → List ℕ
+  after = list_after answered before
+
+  -- the lists are right after it
+  pub next_lists : (world : World) → IsThere new.table world → HasFewest (after (world_number world)) limit (current_view new.table world)
+  next_lists world there =
+      next_list k.answer.value new.table limit answered before k.lists world there
+      (says_count new k.given trap.hart k.answer k.cleared k.woken k.lists answered k.says)
+      (λ is. says_value new k.given trap.hart k.answer k.cleared k.woken k.lists answered k.says
+      (number_small new.table (InEnclave k.answer.value) sound (k.made is)))
+      (host_listed k.lists new k.given trap.hart k.answer k.cleared k.woken answered k.says)
+      (made_listed k.lists new k.given trap.hart k.answer k.cleared k.woken answered k.says)
+      (λ off.
+      let same = k.keeps world there off in
+      same_fewest (before (world_number world)) limit (current_view s.table world) (current_view new.table world) same.1
+      (subst (λ l. HasFewest (before (world_number world)) l.limit (current_view s.table world)) (sym layout) (was world same.0)))
+
+  -- what a hart loaded last is right after it where it was before
+  pub next_bank : (loaded : List ℕ) (other : ℕ) → trap.hart < s.table.layout.harts → s.table.layout.harts ≤ 4 → other < s.table.layout.harts
+      → HasFewest loaded s.table.layout.limit (current_view s.table (s.worlds other))
+      → HasFewest (loaded_after answered after loaded other) limit (current_view new.table (new.worlds other))
+  next_bank loaded other low most under right =
+      let hart = trap.hart in
+      let four : hart < 4 = omega (arith, low, most) in
+      let fourth : other < 4 = omega (arith, under, most) in
+      let under_new : other < new.table.layout.harts = subst (λ l. other < l.harts) (sym layout) under in
+      let Right = λ (bytes : List ℕ). HasFewest bytes limit (current_view new.table (new.worlds other)) in
+      let named = says_hart new k.given hart k.answer k.cleared k.woken k.lists answered k.says four in
+      let bit = says_woken new k.given hart k.answer k.cleared k.woken k.lists answered k.says other fourth in
+      let there = runs_there new.table (new.worlds other) (placed.current other under_new) in
+      let rest = if word_at answered 8 / 2 ^ other % 2 == 1 then after 0 else loaded in
+      both (other == hart)
+      (λ yes.
+      let same : other ≡ hart = eqb-true other hart yes in
+      let number = number_small new.table (new.worlds other) sound there in
+      let world : word_at answered 2 ≡ world_number (new.worlds other) =
+      says_world new k.given hart k.answer k.cleared k.woken k.lists answered k.says (subst (λ h. world_number (new.worlds h) < 2 ^ 64) same number)
+      ∙ ap (λ h. world_number (new.worlds h)) (sym same) in
+      subst Right (sym (ap (λ t. if t then after (word_at answered 2) else rest) (eq-eqb (word_at answered 1) other (named ∙ sym same)) ∙ ap after world))
+      (next_lists (new.worlds other) there))
+      (λ no.
+      let differs : other ≢ hart = λ same. both_ways (other == hart) no (eq-eqb other hart same) in
+      let passed = ap (λ t. if t then after (word_at answered 2) else rest)
+      (ap (λ n. n == other) named ∙ ne_eqb hart other (λ same. differs (sym same))) in
+      both (slice_index_or k.woken other false)
+      (λ on.
+      let host = k.wakes other under on in
+      subst Right (sym (passed ∙ ap (λ t. if t then after 0 else loaded) (bit ∙ on)))
+      (subst (λ w. HasFewest (after 0) limit (current_view new.table w)) (sym host) (next_lists Host tt)))
+      (λ off. subst Right (sym (passed ∙ ap (λ t. if t then after 0 else loaded) (bit ∙ off)))
+      (same_fewest loaded limit (current_view s.table (s.worlds other)) (current_view new.table (new.worlds other)) (k.others other differs under off)
+      (subst (λ l. HasFewest loaded l.limit (current_view s.table (s.worlds other))) (sym layout) right))))
 
 -- a state from which traps are served
 record IsGood (layout : PlatformLayout) (s : MonitorState) : Type 0 where
@@ -162,10 +283,15 @@ next_good Stop layout s trap given read question answered new most low good x =
     (interrupt_keeps_layout world t hart x.mid x.step ∙ good.platform)
     (interrupt_keeps_worlds world t hart x.mid refl low (good.awake hart low) x.step (putting_keeps_worlds s hart trap.registers good.worlds))
 
--- at the opening all harts have the host's entries
-first_bank : (layout : PlatformLayout) (first : List ℕ) (hart : ℕ) → IsFirstAnswer layout first
-    → HasFewest first layout.limit (current_view (opening_monitor layout).table ((opening_monitor layout).worlds hart))
-first_bank layout first hart a = own_fewest (opening_monitor layout) first_host_words 0 no_answer None (others layout.harts) first a
+-- at the opening all harts have the host's list, and no other world is there
+first_bank : (layout : PlatformLayout) (first : List ℕ) → IsFirstAnswer layout first
+    → HasFewest (drop 416 first) layout.limit (current_view (opening_monitor layout).table Host)
+first_bank layout first a = host_listed lists.Host (opening_monitor layout) first_host_words 0 no_answer None (others layout.harts) first a refl
+
+first_lists : (layout : PlatformLayout) (first : List ℕ) (world : World) → IsFirstAnswer layout first → IsThere (opening_monitor layout).table world
+    → HasFewest (drop 416 first) layout.limit (current_view (opening_monitor layout).table world)
+first_lists layout first Host a there = first_bank layout first a
+first_lists layout first (InEnclave id) a there = absurd (none_live layout id there.0 there.1)
 
 pub firmware_kept :
     (layout : PlatformLayout) (first read written : List ℕ) (s : MonitorState) (kept : ℕ → ControlWords)
@@ -176,7 +302,8 @@ firmware_kept layout first read written s kept no_trap rules answer = record {
   platform = refl;
   worlds = opened layout;
   awake = λ hart low. refl;
-  banks = λ hart low. first_bank layout first hart answer;
+  lists = λ world there. first_lists layout first world answer there;
+  banks = λ hart low. first_bank layout first answer;
   modes = λ hart. refl;
   each = tt;
 }
@@ -187,21 +314,35 @@ firmware_kept layout first read written s all (next_trap {read = r} {written = w
     let next = next_good trap.event layout mid trap step.given more question answered new rules.four_harts is.known good step.step in
     let most : mid.table.layout.harts ≤ 4 = subst (λ l. l.harts ≤ 4) (sym before.platform) rules.four_harts in
     let below = still_below now kept trap.hart (mid.worlds trap.hart) (new.worlds trap.hart) trap.control step.given step.words before.modes is.below in
-    let k = trap_kept mid now kept trap more question answered new (record { known = is.known; most = most; table = before.table; placed = before.worlds })
+    let k = trap_kept mid now kept trap more question answered new (record {
+      known = is.known;
+      awake = before.awake trap.hart is.known;
+      most = most;
+      table = before.table;
+      placed = before.worlds;
+    })
     below step in
+    let layouts = next.platform ∙ sym before.platform in
+    let was : (world : World) → IsThere mid.table world
+    → HasFewest (list_last first served (world_number world)) mid.table.layout.limit (current_view mid.table world) = λ world there.
+    subst (λ l. HasFewest (list_last first served (world_number world)) l.limit (current_view mid.table world)) (sym before.platform)
+    (before.lists world there) in
+    let after = list_after answered (list_last first served) in
     record {
       table = next.table;
       platform = next.platform;
       worlds = next.worlds;
       awake = next.awake;
+      lists = λ world there. subst (λ l. HasFewest (after (world_number world)) l.limit (current_view new.table world)) next.platform
+          (next_lists mid now kept trap more question answered new (list_last first served) k layouts next.table next.worlds was world there);
       banks = λ hart low.
           let under : hart < mid.table.layout.harts = subst (λ l. hart < l.harts) (sym before.platform) low in
-          let was = subst (λ l. HasFewest (loaded_last first served hart) l.limit (current_view mid.table (mid.worlds hart))) (sym before.platform)
+          let right = subst (λ l. HasFewest (loaded_last first served hart) l.limit (current_view mid.table (mid.worlds hart))) (sym before.platform)
           (before.banks hart low) in
-          subst (λ l. HasFewest (if is_loaded answered hart then answered else loaded_last first served hart) l.limit
-          (current_view new.table (new.worlds hart))) next.platform
-          (next_bank mid now kept trap more question answered new (loaded_last first served hart) hart k
-          (next.platform ∙ sym before.platform) is.known most under was);
+          subst (λ l. HasFewest (loaded_after answered after (loaded_last first served hart) hart) l.limit (current_view new.table (new.worlds hart)))
+          next.platform
+          (next_bank mid now kept trap more question answered new (list_last first served) k layouts next.table next.worlds was
+          (loaded_last first served hart) hart is.known most under right);
       modes = below;
       each = (before.each, k);
     }

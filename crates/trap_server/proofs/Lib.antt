@@ -1,5 +1,4 @@
-pub mod Waking
-mod Remeasured
+pub mod Remeasured
 pub mod Served
 mod Answering
 mod Looped
@@ -17,5 +16,7 @@ mod WordsBack
 mod LoadedBytes
 mod RegistersCame
 mod WorldsStay
+pub mod ListsKept
+mod ListsPut
 mod TrapsKept
 mod Firmware

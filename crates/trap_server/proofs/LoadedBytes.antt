@@ -1,8 +1,8 @@
--- What stands in the bytes of an answer: the hart and the woken, and the entries as registers.
-use Rattle.std.proofs.Common.{◌≡◌, ◌≢◌, ◌∙◌, ℕ, zero, suc, ◌+◌, ◌*◌, ◌/◌, ◌%◌, ◌^◌, ◌<◌, ◌≤◌, ⊎_elim, ◌==◌, ◌||◌, Bool, true, false, List, [], ◌∷◌, ◌++◌}
+-- What stands in the bytes of an answer: its first words, and lists of entries as registers.
+use Rattle.std.proofs.Common.{◌≡◌, ◌∙◌, ℕ, zero, suc, ◌+◌, ◌*◌, ◌/◌, ◌%◌, ◌^◌, ◌<◌, ◌≤◌, ◌==◌, ⊎_elim, Bool, true, false, List, [], ◌∷◌, ◌++◌}
 use Rattle.std.proofs.Common.{length, drop, slice_get, slice_index_or, Option, Some, None, ap, sym, subst, refl, arith, lit<, lit≤, append_assoc, length-append}
 use Rattle.std.proofs.Math.Seq.{drop-append_seam}
-use Rattle.std.proofs.lemmas.Bool.{cases_lt, ne_eqb}
+use Rattle.std.proofs.lemmas.Bool.{cases_lt}
 use Rattle.byteorder.specs.Endian.{little_bytes, little_number}
 use Rattle.byteorder.specs.Numbers.{little_number-reads_back}
 use Rattle.pmp_encoding.specs.declared.region.Entry.{Entry}
@@ -17,9 +17,9 @@ use Rattle.trap_server.specs.declared.answer.Head.{Head}
 use Rattle.trap_server.specs.declared.words.ControlWords.{ControlWords}
 use Rattle.trap_server.specs.Words.{answer_tag, bytes_of, word_at}
 use Rattle.monitor_core.specs.Answers.{world_number}
-use Rattle.trap_server.specs.Answers.{address_at, address_bytes, address_in, answer_bytes, bit_of, cfg_at, cfg_bytes, cfg_in, control_bytes, head_bytes}
-use Rattle.trap_server.specs.Answers.{pages_of, register_bytes, wake_word}
-use Rattle.trap_server.specs.Firmware.{is_loaded, loaded_address, loaded_cfg, loaded_pairs}
+use Rattle.trap_server.specs.Answers.{address_at, address_bytes, address_in, bit_of, cfg_at, cfg_bytes, cfg_in, control_bytes, front_bytes, head_bytes}
+use Rattle.trap_server.specs.Answers.{list_bytes, list_count, lists_bytes, pages_of, register_bytes, wake_word}
+use Rattle.trap_server.specs.Firmware.{loaded_address, loaded_cfg, loaded_pairs}
 use Rattle.trap_server.proofs.Lengths.{cfg_length, word_length}
 
 -- the word after a front of whole words
@@ -128,14 +128,14 @@ bits_in : (woken : List Bool) → (wake_word woken / 2 ^ 0 % 2 ≡ bit_in woken 
     × (wake_word woken / 2 ^ 2 % 2 ≡ bit_in woken 2) × (wake_word woken / 2 ^ 3 % 2 ≡ bit_in woken 3)
 bits_in woken = four_bits (bit_in woken 0) (bit_in woken 1) (bit_in woken 2) (bit_in woken 3) (bit_small _) (bit_small _) (bit_small _) (bit_small _)
 
-bit_there : (woken : List Bool) (i : ℕ) → i < 4 → (wake_word woken / 2 ^ i % 2 == 1) ≡ slice_index_or woken i false
+pub bit_there : (woken : List Bool) (i : ℕ) → i < 4 → (wake_word woken / 2 ^ i % 2 == 1) ≡ slice_index_or woken i false
 bit_there woken zero low = is_bit (slice_index_or woken 0 false) _ (bits_in woken).0
 bit_there woken (suc zero) low = is_bit (slice_index_or woken 1 false) _ (bits_in woken).1
 bit_there woken (suc (suc zero)) low = is_bit (slice_index_or woken 2 false) _ (bits_in woken).2
 bit_there woken (suc (suc (suc zero))) low = is_bit (slice_index_or woken 3 false) _ (bits_in woken).3
 bit_there woken (suc (suc (suc (suc i)))) low = absurd (omega (arith, low))
 
-wake_small : (woken : List Bool) → wake_word woken < 2 ^ 64
+pub wake_small : (woken : List Bool) → wake_word woken < 2 ^ 64
 wake_small woken = omega (
   arith,
   bit_small (slice_index_or woken 0 false),
@@ -170,72 +170,113 @@ listed (e ∷ entries) bytes first (suc count) few are =
     (listed entries bytes (suc first) count (omega (arith, few)) (λ i low. let next : first + suc i ≡ suc first + i = omega arith in rw next at
     (are (suc i) (omega (arith, low)))))
 
--- nine words
-abbrev head_words : Head → ℕ → List ℕ
-head_words head used =
-    answer_tag ∷ (head.hart ∷ (world_number head.world ∷ (head.status ∷ (head.value ∷
-    (used ∷ ((pages_of head.zero).first ∷ ((pages_of head.zero).count ∷ (wake_word head.woken ∷ []))))))))
+-- a list, whatever comes after it
+pub list_length : (entries : List Entry) → length (list_bytes entries) ≡ 584
+list_length entries = omega (
+  arith,
+  length-append (little_bytes 8 (length entries)) (cfg_bytes entries 64 ++ address_bytes entries 64),
+  length-append (cfg_bytes entries 64) (address_bytes entries 64),
+  word_length (length entries),
+  cfg_length entries 64,
+  address_length entries 64,
+)
 
-head_length : (head : Head) (used : ℕ) → length (head_bytes head used) ≡ 72
-head_length head used = refl
-
-module _ (head : Head) (file : RegisterFile) (entries : List Entry) (control : ControlWords) where
-  abbrev front : List ℕ
-  front = head_bytes head (length entries) ++ register_bytes file 32
-
-  front_length : length front ≡ 328
-  front_length = omega (
-    arith,
-    length-append (head_bytes head (length entries)) (register_bytes file 32),
-    register_length file 31,
-    head_length head
-        (length entries),
-  )
+module _ (entries : List Entry) (rest : List ℕ) where
+  abbrev number : List ℕ
+  number = little_bytes 8 (length entries)
 
   abbrev tail : List ℕ
-  tail = address_bytes entries 64 ++ control_bytes control
+  tail = address_bytes entries 64 ++ rest
 
-  parted : answer_bytes head file entries control ≡ front ++ (cfg_bytes entries 64 ++ tail)
-  parted = sym (append_assoc (head_bytes head (length entries)) (register_bytes file 32) (cfg_bytes entries 64 ++ tail))
+  parted : list_bytes entries ++ rest ≡ number ++ (cfg_bytes entries 64 ++ tail)
+  parted = append_assoc number (cfg_bytes entries 64 ++ address_bytes entries 64) rest
+      ∙ ap (λ bytes. number ++ bytes) (append_assoc (cfg_bytes entries 64) (address_bytes entries 64) rest)
 
-  pub cfg_back : (i : ℕ) → i < 64 → loaded_cfg (answer_bytes head file entries control) i ≡ cfg_at entries i
-  cfg_back i low = ap (λ bytes. slice_index_or bytes (328 + i) 0) parted ∙ index_after front (cfg_bytes entries 64 ++ tail) 328 i front_length
+  cfg_back : (i : ℕ) → i < 64 → loaded_cfg (list_bytes entries ++ rest) i ≡ cfg_at entries i
+  cfg_back i low = ap (λ bytes. slice_index_or bytes (8 + i) 0) parted ∙ index_after number (cfg_bytes entries 64 ++ tail) 8 i (word_length (length entries))
       ∙ cfg_there entries tail 64 i low
 
-  pub address_back : (i : ℕ) → i < 64 → loaded_address (answer_bytes head file entries control) i ≡ address_at entries i
+  address_back : (i : ℕ) → i < 64 → loaded_address (list_bytes entries ++ rest) i ≡ address_at entries i
   address_back i low =
-      let whole : length (front ++ cfg_bytes entries 64) ≡ 8 * 49 = omega
-      (arith, length-append front (cfg_bytes entries 64), cfg_length entries 64, front_length) in
-      ap (λ bytes. word_at bytes (49 + i)) (parted ∙ sym (append_assoc front (cfg_bytes entries 64) tail))
-      ∙ address_there entries (front ++ cfg_bytes entries 64) (control_bytes control) 49 64 i whole low
-
-  pub hart_back : head.hart < 4 → word_at (answer_bytes head file entries control) 1 ≡ head.hart
-  hart_back low = word_between (head_words head (length entries)) [] (register_bytes file 32 ++ (cfg_bytes entries 64 ++ tail)) 0 1 refl (lit< tt)
-      (omega (arith, low))
-
-  wake_back : word_at (answer_bytes head file entries control) 8 ≡ wake_word head.woken
-  wake_back = word_between (head_words head (length entries)) [] (register_bytes file 32 ++ (cfg_bytes entries 64 ++ tail)) 0 8 refl (lit< tt)
-      (wake_small head.woken)
+      let whole : length (number ++ cfg_bytes entries 64) ≡ 8 * 9 = omega
+      (arith, length-append number (cfg_bytes entries 64), cfg_length entries 64, word_length (length entries)) in
+      ap (λ bytes. word_at bytes (9 + i)) (parted ∙ sym (append_assoc number (cfg_bytes entries 64) tail))
+      ∙ address_there entries (number ++ cfg_bytes entries 64) rest 9 64 i whole low
 
   -- the entries, canonical, and nothing after them
   pub list_back : (limit : Limit) → length entries ≤ limit_number limit → MeansList
-      (loaded_pairs (answer_bytes head file entries control) 0 (limit_number limit)) entries
+      (loaded_pairs (list_bytes entries ++ rest) 0 (limit_number limit)) entries
   list_back limit room =
-      let bytes = answer_bytes head file entries control in
+      let bytes = list_bytes entries ++ rest in
       let most = limit_most limit in
       listed entries bytes 0 (limit_number limit) room
       (λ i low. let inside : i < 64 = omega (arith, low, most) in subst (λ k. (loaded_cfg bytes k ≡ cfg_at entries i)
       × (loaded_address bytes k ≡ address_at entries i)) (let same : i ≡ 0 + i = omega arith in same) (cfg_back i inside, address_back i inside))
 
-  pub off_back : (i : ℕ) → length entries ≤ i → i < 64 → (loaded_cfg (answer_bytes head file entries control) i ≡ 0)
-      × (loaded_address (answer_bytes head file entries control) i ≡ 0)
+  pub off_back : (i : ℕ) → length entries ≤ i → i < 64 → (loaded_cfg (list_bytes entries ++ rest) i ≡ 0)
+      × (loaded_address (list_bytes entries ++ rest) i ≡ 0)
   off_back i past low = let none = none_there entries i past in (cfg_back i low ∙ ap cfg_in none, address_back i low ∙ ap address_in none)
 
-  -- another hart loads them where it is woken
-  pub loads_back : (hart : ℕ) → head.hart < 4 → hart < 4 → hart ≢ head.hart
-      → is_loaded (answer_bytes head file entries control) hart ≡ slice_index_or head.woken hart false
-  loads_back hart low inside other =
-      let differs : (head.hart == hart) ≡ false = ne_eqb head.hart hart (λ same. other (sym same)) in
-      ap (λ n. n == hart || word_at (answer_bytes head file entries control) 8 / 2 ^ hart % 2 == 1) (hart_back low)
-      ∙ ap (λ b. b || word_at (answer_bytes head file entries control) 8 / 2 ^ hart % 2 == 1) differs
-      ∙ ap (λ n. n / 2 ^ hart % 2 == 1) wake_back ∙ bit_there head.woken hart inside
+-- ten words
+abbrev head_words : Head → List ℕ
+head_words head =
+    answer_tag ∷ (head.hart ∷ (world_number head.world ∷ (head.status ∷ (head.value ∷
+    (head.used ∷ ((pages_of head.zero).first ∷ ((pages_of head.zero).count ∷ (wake_word head.woken ∷ (list_count head.lists ∷ [])))))))))
+
+module _ (head : Head) (file : RegisterFile) (control : ControlWords) where
+  abbrev front : List ℕ
+  front = front_bytes head file control
+
+  front_length : length front ≡ 416
+  front_length = omega (
+    arith,
+    length-append (head_bytes head) (register_bytes file 32 ++ control_bytes control),
+    length-append (register_bytes file 32) (control_bytes control),
+    register_length file 31,
+    head_size,
+    control_size,
+  )
+    where
+      head_size : length (head_bytes head) ≡ 80
+      head_size = refl
+      control_size : length (control_bytes control) ≡ 80
+      control_size = refl
+
+  -- one of the first words
+  head_word : (rest : List ℕ) (k : ℕ) → k < 10 → slice_index_or (head_words head) k 0 < 2 ^ 64 → word_at (front ++ rest) k ≡ slice_index_or (head_words head) k 0
+  head_word rest k low small =
+      let more = register_bytes file 32 ++ control_bytes control in
+      let same : 0 + k ≡ k = omega arith in
+      ap (λ bytes. word_at bytes k) (append_assoc (head_bytes head) more rest)
+      ∙ sym (ap (word_at (head_bytes head ++ (more ++ rest))) same)
+      ∙ word_between (head_words head) [] (more ++ rest) 0 k refl low small
+
+  pub hart_back : (rest : List ℕ) → head.hart < 4 → word_at (front ++ rest) 1 ≡ head.hart
+  hart_back rest low = head_word rest 1 (lit< tt) (omega (arith, low))
+
+  pub world_back : (rest : List ℕ) → world_number head.world < 2 ^ 64 → word_at (front ++ rest) 2 ≡ world_number head.world
+  world_back rest low = head_word rest 2 (lit< tt) low
+
+  pub value_back : (rest : List ℕ) → head.value < 2 ^ 64 → word_at (front ++ rest) 4 ≡ head.value
+  value_back rest low = head_word rest 4 (lit< tt) low
+
+  pub wake_back : (rest : List ℕ) → word_at (front ++ rest) 8 ≡ wake_word head.woken
+  wake_back rest = head_word rest 8 (lit< tt) (wake_small head.woken)
+
+  pub count_back : (rest : List ℕ) → list_count head.lists < 2 ^ 64 → word_at (front ++ rest) 9 ≡ list_count head.lists
+  count_back rest low = head_word rest 9 (lit< tt) low
+
+  -- the lists after them
+  pub first_list : (entries : List Entry) (lists : List (List Entry)) → drop 416 (front ++ lists_bytes (entries ∷ lists))
+      ≡ list_bytes entries ++ lists_bytes lists
+  first_list entries lists =
+      let rest = list_bytes entries ++ lists_bytes lists in
+      ap (λ k. drop k (front ++ rest)) (sym front_length) ∙ drop-append_seam front rest
+
+  pub second_list : (one two : List Entry) (lists : List (List Entry)) → drop 1000 (front ++ lists_bytes (one ∷ (two ∷ lists)))
+      ≡ list_bytes two ++ lists_bytes lists
+  second_list one two lists =
+      let rest = list_bytes two ++ lists_bytes lists in
+      let both = front ++ list_bytes one in
+      let size : length both ≡ 1000 = omega (arith, length-append front (list_bytes one), front_length, list_length one) in
+      ap (drop 1000) (sym (append_assoc front (list_bytes one) rest)) ∙ ap (λ k. drop k (both ++ rest)) (sym size) ∙ drop-append_seam both rest

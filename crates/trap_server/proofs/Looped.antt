@@ -13,6 +13,7 @@ use Rattle.trap_server.specs.declared.frame_fault.FrameFault.TheVariants as fram
 use Rattle.trap_server.specs.declared.end.EndReason.{EndReason}
 use Rattle.trap_server.specs.declared.end.EndReason.TheVariants as refusals
 use Rattle.trap_server.specs.declared.fault.ServeFault.{ServeFault}
+use Rattle.trap_server.specs.declared.answer.NewLists.TheVariants as lists
 use Rattle.trap_server.specs.declared.fault.ServeFault.TheVariants as faults
 use Rattle.trap_server.specs.Ends.{EndsAs, Refuses}
 use Rattle.trap_server.specs.Boot.{Boots, BootsOn, EndsAtFirst, IsFirstAnswer, MayOpen, RefusesFirst, StopsAtFirst, others}
@@ -74,19 +75,19 @@ opened_at layout first opened before after held middle holds size platform consu
 pub opens :
     (s : MonitorState) (hosts : ℕ → ControlWords) (layout : PlatformLayout) (opened : List ℕ) (harts : ℕ) (woken : List Bool) → s ≡ opening_monitor layout
     → hosts ≡ first_words → harts ≡ s.table.layout.harts → woken ≡ others harts
-    → IsAnswer s (given_on s hosts 0) 0 no_answer None woken opened → IsFirstAnswer layout opened
+    → IsAnswer s (given_on s hosts 0) 0 no_answer None woken lists.Host opened → IsFirstAnswer layout opened
 opens s hosts layout opened harts woken is words n w answer =
-    let known = subst (λ ws. IsAnswer s (given_on s hosts 0) 0 no_answer None ws opened)
+    let known = subst (λ ws. IsAnswer s (given_on s hosts 0) 0 no_answer None ws lists.Host opened)
     (w ∙ ap others (n ∙ ap (λ (x : MonitorState). x.table.layout.harts) is)) answer in
-    let with_words = subst (λ (hs : ℕ → ControlWords). IsAnswer s (given_on s hs 0) 0 no_answer None (others layout.harts) opened) words known in
-    subst (λ (x : MonitorState). IsAnswer x (given_on x first_words 0) 0 no_answer None (others layout.harts) opened) is with_words
+    let with_words = subst (λ (hs : ℕ → ControlWords). IsAnswer s (given_on s hs 0) 0 no_answer None (others layout.harts) lists.Host opened) words known in
+    subst (λ (x : MonitorState). IsAnswer x (given_on x first_words 0) 0 no_answer None (others layout.harts) lists.Host opened) is with_words
 
 pub begins :
     (s : MonitorState) (hosts : ℕ → ControlWords) (layout : PlatformLayout) (first opened : List ℕ) (harts : ℕ) (woken : List Bool)
     (before after held middle holds : Option (List ℕ)) → length first ≡ 1336 → IsPlatformFrame first layout → s ≡ opening_monitor layout
     → hosts ≡ first_words
     → Consumes before after first → Appends held middle [] → MayOpen layout → harts ≡ s.table.layout.harts → woken ≡ others harts
-    → IsAnswer s (given_on s hosts 0) 0 no_answer None woken opened → Appends middle holds opened → Progress 0 s hosts before after held holds
+    → IsAnswer s (given_on s hosts 0) 0 no_answer None woken lists.Host opened → Appends middle holds opened → Progress 0 s hosts before after held holds
 begins s hosts layout first opened harts woken before after held middle holds size platform is words consumed nothing may n w answer wrote =
     subst (λ (hs : ℕ → ControlWords). Progress 0 s hs before after held holds) (sym words)
     (subst (λ (x : MonitorState). Progress 0 x first_words before after held holds) (sym is)
@@ -99,7 +100,7 @@ pub answer_stops :
     (before after held middle holds : Option (List ℕ)) → length first ≡ 1336 → IsPlatformFrame first layout → s ≡ opening_monitor layout
     → hosts ≡ first_words
     → Consumes before after first → Appends held middle [] → harts ≡ s.table.layout.harts → woken ≡ others harts → fault ≡ faults.Write
-    → IsAnswer s (given_on s hosts 0) 0 no_answer None woken answer → n < length answer → Appends middle holds (take n answer)
+    → IsAnswer s (given_on s hosts 0) 0 no_answer None woken lists.Host answer → n < length answer → Appends middle holds (take n answer)
     → EndsAtFirst fault before after held holds
 answer_stops fault s hosts layout first answer n harts woken before after held middle holds size platform is words consumed nothing h w write whole less wrote =
     let part = take n answer in (

@@ -2,6 +2,7 @@
 use Rattle.std.proofs.Common.{◌≡◌, ◌∙◌, ◌-◌, ◌≤◌, inl, inr, ℕ, pos, Bool, List, length, Option, Some, None, ap, sym, refl, subst, arith}
 use Rattle.std.proofs.lemmas.List.{length-set, set-set}
 use Rattle.pmp_encoding.specs.declared.pages.PageRange.{PageRange}
+use Rattle.pmp_encoding.specs.declared.region.Entry.{Entry}
 use Rattle.measurement.specs.Requests.{parts_of}
 use Rattle.measurement.specs.declared.request.Create.{Create}
 use Rattle.platforms.specs.CheckLists.{AllPass}
@@ -9,10 +10,12 @@ use Rattle.sbi_decode.specs.Calls.{call_of}
 use Rattle.sbi_decode.specs.declared.calls.Call.{Call}
 use Rattle.sbi_decode.specs.declared.calls.Call.TheVariants as calls
 use Rattle.sbi_decode.specs.declared.world.World.{World}
+use Rattle.sbi_decode.specs.declared.world.World.TheVariants.{Host, Enclave as InEnclave}
 use Rattle.enclave_table.specs.Checks.{create_checks}
 use Rattle.enclave_table.specs.Create.{Creates, fresh}
 use Rattle.enclave_table.specs.Digests.{with_digest}
 use Rattle.enclave_table.specs.Enclaves.{EnclaveTable, Live, enclave_at, with_enclave}
+use Rattle.enclave_table.specs.Fewest.{IsListOf}
 use Rattle.enclave_table.specs.Tables.{IsTable}
 use Rattle.enclave_table.specs.Views.{host_view}
 use Rattle.enclave_table.specs.declared.enclave.Enclave.{Enclave}
@@ -22,11 +25,13 @@ use Rattle.enclave_table.proofs.SameViews.{fits_same}
 use Rattle.monitor_core.specs.Answers.{below_zero}
 use Rattle.monitor_core.specs.Changes.{answering, having_digest, marking_others, past_call, with_running}
 use Rattle.monitor_core.specs.Measured.{IsMade, asked_in}
-use Rattle.monitor_core.specs.States.{MonitorState}
+use Rattle.monitor_core.specs.States.{MonitorState, view_of}
 use Rattle.monitor_core.specs.Steps.{DoesCall, Refuses}
 use Rattle.monitor_core.specs.declared.answer.Answer.{Answer}
 use Rattle.monitor_core.proofs.Digested.{fewest_digested}
-use Rattle.trap_server.specs.Answered.{IsAnswer, marks_of}
+use Rattle.trap_server.specs.Answered.{AreLists, IsAnswer, marks_of, new_lists}
+use Rattle.trap_server.specs.declared.answer.NewLists.{NewLists}
+use Rattle.trap_server.specs.declared.answer.NewLists.TheVariants as lists
 use Rattle.trap_server.specs.PageDigest.{HasParts}
 use Rattle.trap_server.specs.Service.{AnswersCall}
 use Rattle.trap_server.specs.declared.trap.Trap.{Trap}
@@ -92,7 +97,7 @@ abbrev pub Remeasures : Option Call → MonitorState → ℕ → Answer → Opti
 Remeasures call s hart answer cleared mid = (e : Enclave) × Live mid.table answer.value e
     × ((digest : List ℕ) → DoesCall call (λ parts. digest) s hart answer cleared (having_digest mid answer.value e digest))
 
-call_remeasured :
+pub call_remeasured :
     (call : Option Call) (first : List ℕ) (s : MonitorState) (hart : ℕ) (answer : Answer) (cleared : Option PageRange) (mid : MonitorState) (parts : Create)
     → IsTable mid.table → DoesCall call (λ parts. first) s hart answer cleared mid → IsMade (asked_in call) answer parts
     → Remeasures call s hart answer cleared mid
@@ -136,19 +141,40 @@ call_remeasured (Some (calls.Measure id k)) first s hart answer cleared mid part
 -- ---- its answer
 
 -- an answer says nothing of digests
+list_digested : (s : MonitorState) (id : ℕ) (e : Enclave) (digest : List ℕ) (world : World) (entries : List Entry) → Live s.table id e
+    → IsListOf s.table.layout.limit (view_of s.table world) entries
+    → IsListOf s.table.layout.limit (view_of (having_digest s id e digest).table world) entries
+list_digested s id e digest world entries live is = record { fewest = fewest_digested s id e digest world entries live is.fewest; room = is.room }
+
+lists_digested : (new : NewLists) (s : MonitorState) (id made : ℕ) (e : Enclave) (digest : List ℕ) (are : List (List Entry)) → Live s.table id e
+    → AreLists s.table made new are → AreLists (having_digest s id e digest).table made new are
+lists_digested lists.Nothing s id made e digest are live is = is
+lists_digested lists.Host s id made e digest are live is = (is.0, list_digested s id e digest Host is.0 live is.1, is.2)
+lists_digested lists.HostAndMade s id made e digest are live is = (
+  is.0,
+  is.1,
+  list_digested s id e digest Host is.0 live is.2,
+  list_digested s id e digest (InEnclave made) is.1 live is.3,
+  is.4,
+)
+
 answer_same :
     (s : MonitorState) (id : ℕ) (e : Enclave) (digest : List ℕ) (given : ControlWords) (hart : ℕ) (answer : Answer) (cleared : Option PageRange)
-    (woken : List Bool) (bytes : List ℕ) → Live s.table id e → IsAnswer s given hart answer cleared woken bytes
-    → IsAnswer (having_digest s id e digest) given hart answer cleared woken bytes
-answer_same s id e digest given hart answer cleared woken bytes live is = (
-  is.0,
-  record {
-    here = fewest_digested s id e digest (s.worlds hart) is.0 live is.1.here;
-    there = λ other known on. fewest_digested s id e digest (s.worlds other) is.0 live (is.1.there other known on);
-    room = is.1.room;
-  },
-  is.2,
-)
+    (woken : List Bool) (new : NewLists) (bytes : List ℕ) → Live s.table id e → IsAnswer s given hart answer cleared woken new bytes
+    → IsAnswer (having_digest s id e digest) given hart answer cleared woken new bytes
+answer_same s id e digest given hart answer cleared woken new bytes live is = record {
+  used = is.used;
+  needs = record {
+    entries = is.needs.entries;
+    fewest = fewest_digested s id e digest (s.worlds hart) is.needs.entries live is.needs.fewest;
+    count = is.needs.count;
+  };
+  puts = record {
+    are = is.puts.are;
+    lists = lists_digested new s id answer.value e digest is.puts.are live is.puts.lists;
+    put = is.puts.put;
+  };
+}
 
 pub answer_remeasured :
     (s : MonitorState) (trap : Trap) (given : ControlWords) (first : List ℕ) (answer : Answer) (answered : List ℕ) (now : MonitorState) (parts : Create)
@@ -170,6 +196,7 @@ answer_remeasured s trap given first answer answered now parts is x made =
         mid = having_digest x.mid answer.value r.0 digest;
         step = r.2 digest;
         woken = ap (λ (m : MonitorState). having_digest m answer.value r.0 digest) x.woken;
-        goes_on = answer_same now answer.value r.0 digest given hart answer x.cleared (marks_of x.mid) answered live x.goes_on;
+        goes_on = answer_same now answer.value r.0 digest given hart answer x.cleared (marks_of x.mid)
+            (new_lists (asked_in (call_of trap.registers)) answer x.cleared) answered live x.goes_on;
       },
     )

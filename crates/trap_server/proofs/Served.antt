@@ -6,7 +6,6 @@ use Rattle.std.specs.Prelude.{slice_index_or}
 use Rattle.std.specs.Io.KnownBytes.{Appends, Consumes}
 use Rattle.std.proofs.KnownBytes.{Appends-trans}
 use Rattle.measurement.specs.declared.request.Create.{Create}
-use Rattle.sbi_decode.specs.declared.world.World.TheVariants.{Host}
 use Rattle.trap_server.specs.PageDigest.{Asks, question_of}
 use Rattle.trap_server.specs.EndFrames.{end_bytes}
 use Rattle.trap_server.specs.declared.end.EndReason.{EndReason}
@@ -24,7 +23,7 @@ use Rattle.monitor_core.specs.States.{MonitorState}
 use Rattle.trap_server.specs.declared.trap.Trap.{Trap}
 use Rattle.trap_server.specs.declared.fault.ServeFault.{ServeFault}
 use Rattle.trap_server.specs.Answered.{AreAwake, marks_of, unmarked}
-use Rattle.trap_server.specs.Steps.{MayWake, StopsMeasuring}
+use Rattle.trap_server.specs.Steps.{StopsMeasuring}
 
 -- which of four harts are marked
 pub mark_at : (s : MonitorState) (hart : ℕ) → slice_index_or (marks_of s) hart false ≡ true → s.marked hart ≡ true
@@ -44,12 +43,6 @@ awake s harts (suc zero) most known = refl
 awake s harts (suc (suc zero)) most known = refl
 awake s harts (suc (suc (suc zero))) most known = refl
 awake s harts (suc (suc (suc (suc n)))) most known = absurd (none_there n harts most known)
-
--- who may be woken after a step, from its marks
-pub may_wake :
-    (mid new : MonitorState) (hart : ℕ) (woken : List Bool) → new ≡ unmarked 4 mid → woken ≡ marks_of mid
-    → ((other : ℕ) → other < mid.table.layout.harts → mid.marked other ≡ true → (mid.worlds other ≡ Host) × (mid.worlds hart ≡ Host)) → MayWake new hart woken
-may_wake mid new hart woken n w hosts = rw (n, w) (λ other known is. hosts other known (mark_at mid other is))
 
 -- none is marked after the harts were woken
 pub quiet : (mid new : MonitorState) → new ≡ unmarked 4 mid → mid.table.layout.harts ≤ 4 → AreAwake new

@@ -1,5 +1,5 @@
 -- What one trap keeps that was served.
-use Rattle.std.proofs.Common.{◌≡◌, ◌≢◌, ◌∙◌, ◌<◌, ◌≤◌, ◌||◌, ◌⊎◌, ◌==◌, if◌then◌else◌, inl, inr, ℕ, zero, suc, pos, false, List, Option, Some, None, IfSome}
+use Rattle.std.proofs.Common.{◌≡◌, ◌≢◌, ◌∙◌, ◌<◌, ◌≤◌, ◌||◌, ◌⊎◌, ◌==◌, if◌then◌else◌, inl, inr, ℕ, zero, suc, pos, true, false, List, Option, Some, None, IfSome}
 use Rattle.std.proofs.Common.{slice_index_or, refl, ap, sym, subst, arith}
 use Rattle.pmp_encoding.specs.Views.{SameView}
 use Rattle.pmp_encoding.specs.declared.pages.PageRange.{PageRange}
@@ -12,7 +12,7 @@ use Rattle.sbi_decode.specs.declared.world.World.{World}
 use Rattle.sbi_decode.specs.declared.world.World.TheVariants.{Host, Enclave as InEnclave}
 use Rattle.platforms.specs.CheckLists.{AllPass}
 use Rattle.enclave_table.specs.Checks.{create_checks}
-use Rattle.enclave_table.specs.Enclaves.{EnclaveTable, enclave_at}
+use Rattle.enclave_table.specs.Enclaves.{EnclaveTable, Live, enclave_at}
 use Rattle.enclave_table.specs.Refusals.{refusal_number}
 use Rattle.enclave_table.specs.Tables.{IsTable}
 use Rattle.enclave_table.specs.Views.{current_view}
@@ -34,19 +34,24 @@ use Rattle.monitor_core.proofs.Others.{others_call, others_irq}
 use Rattle.monitor_core.proofs.Put.{put_there}
 use Rattle.monitor_core.proofs.Switched.{call_keeps_registers, interrupt_keeps_registers, put_before}
 use Rattle.monitor_core.proofs.Wanted.{call_refused_by_need}
-use Rattle.monitor_core.proofs.WorldsKept.{putting_keeps_worlds}
+use Rattle.monitor_core.proofs.Layouts.{call_keeps_layout, interrupt_keeps_layout}
+use Rattle.monitor_core.proofs.SoundTables.{call_keeps_table}
+use Rattle.monitor_core.proofs.WorldsKept.{call_keeps_worlds, interrupt_keeps_worlds, putting_keeps_worlds}
 use Rattle.monitor_core.proofs.Zeroed as zeroed
 use Rattle.monitor_core.proofs.Zeroed.{Clears, lost_call, lost_irq}
 use Rattle.trap_server.specs.declared.trap.TrapEvent.{TrapEvent}
 use Rattle.trap_server.specs.declared.trap.TrapEvent.TheVariants.{Call, Stop}
 use Rattle.trap_server.specs.declared.trap.Trap.{Trap}
 use Rattle.trap_server.specs.declared.words.ControlWords.{ControlWords}
-use Rattle.trap_server.specs.Answered.{marks_of, no_answer, unmarked}
-use Rattle.trap_server.specs.Firmware.{AreDestroyed, AreThose, AsksMemory, KeepsTrap, called, private_pages}
+use Rattle.trap_server.specs.declared.answer.NewLists.TheVariants as lists
+use Rattle.trap_server.specs.Answered.{marks_of, new_lists, no_answer, unmarked}
+use Rattle.trap_server.specs.Firmware.{AreDestroyed, AreThose, AsksMemory, IsThere, KeepsTrap, called, private_pages}
 use Rattle.trap_server.specs.Given.{GivesWords, keeping, words_in}
 use Rattle.trap_server.specs.Service.{AsksFor, ServesAs, ServesCall, ServesStop, ServesTrap}
 use Rattle.trap_server.specs.Traps.{is_machine}
-use Rattle.trap_server.proofs.Remeasured.{made_passes}
+use Rattle.trap_server.proofs.ListsKept.{Keeps, call_keeps, irq_keeps, made_by_lists}
+use Rattle.trap_server.proofs.Remeasured.{call_remeasured, made_passes}
+use Rattle.trap_server.proofs.Served.{mark_at}
 use Rattle.trap_server.proofs.RegistersCame.{Through, call_through, interrupt_through}
 use Rattle.trap_server.proofs.WorldsStay.{call_elsewhere, interrupt_elsewhere}
 
@@ -89,6 +94,19 @@ woken_others :
 woken_others s mid new hart woken most keeps other differs low off =
     subst (λ (y : MonitorState). SameView (current_view s.table (s.worlds other)) (current_view y.table (y.worlds other))) (sym woken)
     (keeps.views other differs low (not_marked mid other s.table.layout.harts low most off))
+
+-- a world that is there after the harts were woken was there before, and its view stays
+woken_keeps : (s mid new : MonitorState) (world : World) → new ≡ unmarked 4 mid → (IsThere mid.table world → Keeps s.table mid.table world)
+    → IsThere new.table world → Keeps s.table new.table world
+woken_keeps s mid new world woken keeps there = subst (λ (y : MonitorState). Keeps s.table y.table world) (sym woken)
+    (keeps (subst (λ (y : MonitorState). IsThere y.table world) woken there))
+
+-- who is woken runs the host
+woken_hosts :
+    (s mid new : MonitorState) (other : ℕ) → new ≡ unmarked 4 mid → mid.table.layout ≡ s.table.layout → ArePlaced mid → other < s.table.layout.harts
+    → slice_index_or (marks_of mid) other false ≡ true → new.worlds other ≡ Host
+woken_hosts s mid new other woken layout placed low on = ap (λ (y : MonitorState). y.worlds other) woken
+    ∙ placed.marked other (subst (λ l. other < l.harts) (sym layout) low) (mark_at mid other on)
 
 -- an enclave is in user mode, and no world in machine mode where no host came so
 user_mode :
@@ -138,6 +156,7 @@ past came file now is through = subst (λ f. Through f now) is through
 -- what every trap has, before which the table was sound and each enclave on one hart
 pub record IsReady (s : MonitorState) (hart : ℕ) : Type 0 where
   pub known : hart < s.table.layout.harts
+  pub awake : s.marked hart ≡ false
   pub most : s.table.layout.harts ≤ 4
   pub table : IsTable s.table
   pub placed : ArePlaced s
@@ -161,8 +180,18 @@ call_kept s hosts kept trap given read question answered new ready is words all 
       answer = x.answer;
       cleared = a.cleared;
       woken = marks_of a.mid;
+      lists = new_lists (asked_in call) x.answer a.cleared;
       given = given;
       says = a.goes_on;
+      made = λ is.
+          let m = made_by_lists (asked_in call) x.answer a.cleared is in
+          let sound = call_keeps_table call (λ parts. x.digest) t hart x.answer a.cleared a.mid a.step ready.table in
+          let r = call_remeasured call x.digest t hart x.answer a.cleared a.mid m.0 sound a.step m.1 in
+          (r.0, subst (λ (y : MonitorState). Live y.table x.answer.value r.0) (sym a.woken) r.1);
+      keeps = λ world there off. woken_keeps t a.mid new world a.woken
+          (λ is. call_keeps call (λ parts. x.digest) t hart x.answer a.cleared a.mid world a.step is off) there;
+      wakes = λ other low on. woken_hosts t a.mid new other a.woken (call_keeps_layout call (λ parts. x.digest) t hart x.answer a.cleared a.mid a.step)
+          (call_keeps_worlds call (λ parts. x.digest) t hart x.answer a.cleared a.mid ready.known ready.awake a.step placed) low on;
       need = subst Refused (sym is) (call_refused_by_need call (λ parts. x.digest) t hart x.answer a.cleared a.mid ready.table a.step);
       asks = asks_memory (asked_in (call_of trap.registers)) x.answer s.table (s.worlds hart) question read x.digest x.asks
           (λ parts. made_passes call (λ of. x.digest) t hart x.answer a.cleared a.mid parts a.step);
@@ -208,8 +237,13 @@ stop_kept s hosts kept trap given read question answered new ready is words all 
       answer = no_answer;
       cleared = None;
       woken = marks_of x.mid;
+      lists = lists.Nothing;
       given = given;
       says = x.goes_on;
+      made = λ is. let z : lists.Nothing ≡ lists.HostAndMade = is in absurd cc;
+      keeps = λ world there off. woken_keeps t x.mid new world x.woken (irq_keeps (s.worlds hart) t hart x.mid world x.step) there;
+      wakes = λ other low on. woken_hosts t x.mid new other x.woken (interrupt_keeps_layout world t hart x.mid x.step)
+          (interrupt_keeps_worlds world t hart x.mid refl ready.known ready.awake x.step placed) low on;
       need = subst Refused (sym is) (record {
         entries = λ said. absurd (none_refused NoEntries said);
         outgrown = λ pass out. absurd pass;

@@ -1,17 +1,22 @@
 -- With what harts go on.
-use Rattle.std.specs.Prelude.{◌≡◌, ◌<◌, ◌≤◌, ◌+◌, ◌-◌, ◌^◌, ℕ, ℤ, negsuc, zero, suc, Bool, true}
-use Rattle.std.specs.Prelude.{false, List, [], ◌∷◌, length, slice_index_or, Option, pos}
-use Rattle.pmp_encoding.specs.Limits.{limit_number}
+use Rattle.std.specs.Prelude.{◌≡◌, ◌<◌, ◌+◌, ◌-◌, ◌^◌, ℕ, ℤ, negsuc, pos, zero, suc, Bool, false}
+use Rattle.std.specs.Prelude.{List, [], ◌∷◌, ◌++◌, Option, None, Some}
 use Rattle.pmp_encoding.specs.declared.pages.PageRange.{PageRange}
 use Rattle.pmp_encoding.specs.declared.region.Entry.{Entry}
-use Rattle.pmp_match.specs.Meaning.{IsFewest}
+use Rattle.pmp_match.specs.Meaning.{Needs}
+use Rattle.sbi_decode.specs.declared.world.World.TheVariants.{Host, Enclave as InEnclave}
+use Rattle.measurement.specs.declared.request.Create.{Create}
+use Rattle.enclave_table.specs.Enclaves.{EnclaveTable}
+use Rattle.enclave_table.specs.Fewest.{IsListOf}
 use Rattle.monitor_core.specs.declared.answer.Answer.{Answer}
 use Rattle.monitor_core.specs.States.{MonitorState, running_registers}
 use Rattle.monitor_core.specs.Changes.{without_mark}
 use Rattle.trap_server.specs.declared.words.ControlWords.{ControlWords}
 use Rattle.trap_server.specs.Given.{words_in}
 use Rattle.trap_server.specs.declared.answer.Head.{Head}
-use Rattle.trap_server.specs.Answers.{answer_bytes}
+use Rattle.trap_server.specs.declared.answer.NewLists.{NewLists}
+use Rattle.trap_server.specs.declared.answer.NewLists.TheVariants as lists
+use Rattle.trap_server.specs.Answers.{front_bytes, lists_bytes}
 use Rattle.enclave_table.specs.Views.{current_view}
 
 -- the marks of the harts below n taken away
@@ -23,14 +28,36 @@ unmarked (suc n) s = without_mark (unmarked n s) n
 abbrev pub marks_of : MonitorState → List Bool
 marks_of s = s.marked 0 ∷ (s.marked 1 ∷ (s.marked 2 ∷ (s.marked 3 ∷ [])))
 
--- these entries are those of a hart, and of each other that loads them with it: they mean what the
--- world there may do, and no list that does is shorter. Each hart has room for them
-pub record AreEntries (s : MonitorState) (hart : ℕ) (woken : List Bool) (entries : List Entry) :
+-- the lists of entries that are new, of the host and of the enclave that was made of this id: each
+-- means what its world may do, no list that does is shorter, and each hart has room for it
+abbrev pub AreLists : EnclaveTable → ℕ → NewLists → List (List Entry) → Type 0
+AreLists table id lists.Nothing are = are ≡ []
+AreLists table id lists.Host are =
+    (host : List Entry) × IsListOf table.layout.limit (current_view table Host) host
+    × (are ≡ host ∷ [])
+AreLists table id lists.HostAndMade are =
+    (host made : List Entry) × IsListOf table.layout.limit (current_view table Host) host
+    × IsListOf table.layout.limit (current_view table (InEnclave id)) made
+    × (are ≡ host ∷ (made ∷ []))
+
+-- lists that are new were put after some bytes
+pub record PutsLists (table : EnclaveTable) (id : ℕ) (new : NewLists) (front bytes : List ℕ) :
     Type 0 where
-  pub here : IsFewest (current_view s.table (s.worlds hart)) entries
-  pub there : (other : ℕ) → other < s.table.layout.harts → slice_index_or woken other false ≡ true
-      → IsFewest (current_view s.table (s.worlds other)) entries
-  pub room : length entries ≤ limit_number s.table.layout.limit
+  pub are : List (List Entry)
+  pub lists : AreLists table id new are
+  pub put : bytes ≡ front ++ lists_bytes are
+
+-- which lists are new after a call that asks for a creation, or for none: after a destruction,
+-- which leaves pages to be made zero, the host's; after a creation that was done the host's and
+-- that of the enclave
+abbrev pub made_lists : ℤ → NewLists
+made_lists (pos zero) = lists.HostAndMade
+made_lists _ = lists.Nothing
+
+abbrev pub new_lists : Option Create → Answer → Option PageRange → NewLists
+new_lists asked answer (Some range) = lists.Host
+new_lists (Some asked) answer None = made_lists answer.status
+new_lists None answer None = lists.Nothing
 
 -- a status as a word of 64 bits, in two's complement
 abbrev pub status_word : ℤ → ℕ
@@ -38,15 +65,17 @@ status_word (pos n) = n
 status_word (negsuc n) = 2 ^ 64 - (n + 1)
 
 -- the front of an answer on a hart
-abbrev pub head_of : MonitorState → ℕ → Answer → Option PageRange → List Bool → Head
-head_of s hart answer cleared woken =
+abbrev pub head_of : MonitorState → ℕ → Answer → ℕ → Option PageRange → List Bool → NewLists → Head
+head_of s hart answer used cleared woken new =
     record {
       hart = hart;
       world = s.worlds hart;
       status = status_word answer.status;
       value = answer.value;
+      used = used;
       zero = cleared;
       woken = woken;
+      lists = new;
     }
 
 -- the control words with which the world that runs on a hart goes on there, where the hosts have
@@ -54,14 +83,15 @@ head_of s hart answer cleared woken =
 abbrev pub given_on : MonitorState → (ℕ → ControlWords) → ℕ → ControlWords
 given_on s hosts hart = words_in (s.worlds hart) (hosts hart)
 
--- an answer is written with which a hart goes on: the registers of the world that runs there, its
--- entries, and the control words that it is given
-abbrev pub IsAnswer : MonitorState → ControlWords → ℕ → Answer → Option PageRange → List Bool
-    → List ℕ → Type 0
-IsAnswer s given hart answer cleared woken bytes =
-    (entries : List Entry) × AreEntries s hart woken entries
-    × (bytes ≡ answer_bytes (head_of s hart answer cleared woken) (running_registers s hart) entries
-    given)
+-- an answer is written with which a hart goes on: how many entries the world needs that runs there,
+-- its registers, the control words that it is given, and the lists of entries that are new
+pub record IsAnswer (s : MonitorState) (given : ControlWords) (hart : ℕ) (answer : Answer)
+    (cleared : Option PageRange) (woken : List Bool) (new : NewLists) (bytes : List ℕ) : Type 0
+    where
+  pub used : ℕ
+  pub needs : Needs (current_view s.table (s.worlds hart)) used
+  pub puts : PutsLists s.table answer.value new (front_bytes
+      (head_of s hart answer used cleared woken new) (running_registers s hart) given) bytes
 
 -- what is in the answer's place where there was no call
 abbrev pub no_answer : Answer

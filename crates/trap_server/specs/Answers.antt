@@ -10,6 +10,8 @@ use Rattle.trap_server.specs.declared.words.ControlWords.{ControlWords}
 use Rattle.monitor_core.specs.Answers.{world_number}
 use Rattle.trap_server.specs.Words.{answer_tag, bytes_of, control_tag}
 use Rattle.trap_server.specs.declared.answer.Head.{Head}
+use Rattle.trap_server.specs.declared.answer.NewLists.{NewLists}
+use Rattle.trap_server.specs.declared.answer.NewLists.TheVariants.{Nothing, Host, HostAndMade}
 
 -- the word whose bit h is of hart h
 abbrev pub bit_of : Bool → ℕ
@@ -27,13 +29,20 @@ abbrev pub pages_of : Option PageRange → PageRange
 pages_of None = record { first = 0; count = 0 }
 pages_of (Some range) = range
 
+-- how many lists of entries an answer has
+abbrev pub list_count : NewLists → ℕ
+list_count Nothing = 0
+list_count Host = 1
+list_count HostAndMade = 2
+
 -- what comes before the registers
-abbrev pub head_bytes : Head → ℕ → List ℕ
-head_bytes head used =
+abbrev pub head_bytes : Head → List ℕ
+head_bytes head =
     bytes_of (answer_tag ∷ (head.hart
     ∷ (world_number head.world ∷ (head.status
-    ∷ (head.value ∷ (used ∷ ((pages_of head.zero).first
-    ∷ ((pages_of head.zero).count ∷ (wake_word head.woken ∷ [])))))))))
+    ∷ (head.value ∷ (head.used ∷ ((pages_of head.zero).first
+    ∷ ((pages_of head.zero).count ∷ (wake_word head.woken
+    ∷ (list_count head.lists ∷ []))))))))))
 
 -- the program counter, and the registers from x1 to before xn
 abbrev pub register_bytes : RegisterFile → ℕ → List ℕ
@@ -78,8 +87,21 @@ control_bytes words =
     ∷ (words.senvcfg ∷ (words.hstatus
     ∷ (words.medeleg ∷ (words.mideleg ∷ (words.mode ∷ []))))))))))
 
+-- a list of entries as registers: how many they are, 64 configuration bytes and 64 address
+-- registers, zero after its end
+abbrev pub list_bytes : List Entry → List ℕ
+list_bytes entries = little_bytes 8 (length entries) ++ cfg_bytes entries 64
+    ++ address_bytes entries 64
+
+-- lists, one after another
+abbrev pub lists_bytes : List (List Entry) → List ℕ
+lists_bytes [] = []
+lists_bytes (entries ∷ lists) = list_bytes entries ++ lists_bytes lists
+
+-- the bytes of the frame before its lists
+abbrev pub front_bytes : Head → RegisterFile → ControlWords → List ℕ
+front_bytes head file control = head_bytes head ++ register_bytes file 32 ++ control_bytes control
+
 -- the bytes of the frame
-abbrev pub answer_bytes : Head → RegisterFile → List Entry → ControlWords → List ℕ
-answer_bytes head file entries control =
-    head_bytes head (length entries) ++ register_bytes file 32 ++ cfg_bytes entries 64
-    ++ address_bytes entries 64 ++ control_bytes control
+abbrev pub answer_bytes : Head → RegisterFile → ControlWords → List (List Entry) → List ℕ
+answer_bytes head file control lists = front_bytes head file control ++ lists_bytes lists

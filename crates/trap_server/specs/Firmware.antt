@@ -1,7 +1,7 @@
 -- What holds after every list of traps that was served and answered.
 use Rattle.std.specs.Prelude.{◌≡◌, ◌≢◌, ◌⊎◌, ℕ, ◌+◌, ◌/◌, ◌%◌, ◌^◌, ◌<◌, ◌≤◌, ◌==◌, zero, suc}
-use Rattle.std.specs.Prelude.{Bool, false, ◌||◌, if◌then◌else◌, List, [], ◌∷◌, length}
-use Rattle.std.specs.Prelude.{slice_index_or, Option, None, Some, IfSome, ⊤}
+use Rattle.std.specs.Prelude.{nat_lt, Bool, true, false, ◌&&◌, if◌then◌else◌, List, [], ◌∷◌, length}
+use Rattle.std.specs.Prelude.{drop, slice_index_or, Option, None, Some, IfSome, ⊤}
 use Rattle.pmp_encoding.specs.declared.limit.Limit.{Limit}
 use Rattle.pmp_encoding.specs.declared.pages.PageRange.{PageRange}
 use Rattle.pmp_encoding.specs.declared.region.Entry.{Entry}
@@ -10,17 +10,20 @@ use Rattle.pmp_encoding.specs.Lists.{MeansList}
 use Rattle.pmp_encoding.specs.Views.{SameView, View}
 use Rattle.pmp_match.specs.Meaning.{IsFewest}
 use Rattle.sbi_decode.specs.declared.calls.Call.{Call}
-use Rattle.sbi_decode.specs.declared.world.World.TheVariants.{Enclave as InEnclave}
+use Rattle.sbi_decode.specs.declared.world.World.{World}
+use Rattle.sbi_decode.specs.declared.world.World.TheVariants.{Host, Enclave as InEnclave}
 use Rattle.sbi_decode.specs.Calls.{call_of}
 use Rattle.sbi_decode.specs.Registers.{RegisterFile, with_x}
 use Rattle.sbi_decode.specs.Runners.{EnclaveOf}
 use Rattle.measurement.specs.declared.request.Create.{Create}
 use Rattle.platforms.specs.Platform.{PlatformLayout}
+use Rattle.enclave_table.specs.Enclaves.{EnclaveTable, Live}
+use Rattle.enclave_table.specs.declared.enclave.Enclave.{Enclave}
 use Rattle.enclave_table.specs.Refusals.{refusal_number}
 use Rattle.enclave_table.specs.Tables.{IsTable}
 use Rattle.enclave_table.specs.Views.{current_view}
-use Rattle.monitor_core.specs.Answers.{below_zero}
-use Rattle.monitor_core.specs.Changes.{past_call}
+use Rattle.monitor_core.specs.Answers.{below_zero, world_number}
+use Rattle.monitor_core.specs.Changes.{is_host, past_call}
 use Rattle.monitor_core.specs.Frames.{ClearsMemory}
 use Rattle.monitor_core.specs.States.{MonitorState, opening_monitor}
 use Rattle.monitor_core.specs.Switches.{HasExited, IsGone, KeepsRegisters, runner_on}
@@ -31,6 +34,8 @@ use Rattle.trap_server.specs.declared.trap.TrapEvent.{TrapEvent}
 use Rattle.trap_server.specs.declared.trap.TrapEvent.TheVariants as trap_events
 use Rattle.trap_server.specs.declared.trap.Trap.{Trap}
 use Rattle.trap_server.specs.declared.words.ControlWords.{ControlWords}
+use Rattle.trap_server.specs.declared.answer.NewLists.{NewLists}
+use Rattle.trap_server.specs.declared.answer.NewLists.TheVariants as new_lists
 use Rattle.trap_server.specs.Answered.{AreAwake, IsAnswer}
 use Rattle.trap_server.specs.Given.{GivesWords}
 use Rattle.trap_server.specs.PageDigest.{ArePages, question_bytes}
@@ -38,13 +43,13 @@ use Rattle.trap_server.specs.Runs.{ServesTraps, first_words, next_trap, no_trap}
 use Rattle.trap_server.specs.Traps.{is_machine}
 use Rattle.trap_server.specs.Words.{word_at}
 
--- the configuration byte of entry i in the bytes of an answer
+-- the configuration byte of entry i in the bytes of a list
 abbrev pub loaded_cfg : List ℕ → ℕ → ℕ
-loaded_cfg bytes i = slice_index_or bytes (328 + i) 0
+loaded_cfg bytes i = slice_index_or bytes (8 + i) 0
 
 -- its address register there
 abbrev pub loaded_address : List ℕ → ℕ → ℕ
-loaded_address bytes i = word_at bytes (49 + i)
+loaded_address bytes i = word_at bytes (9 + i)
 
 -- the pairs of the entries from `first` on, `count` of them
 abbrev pub loaded_pairs : List ℕ → ℕ → ℕ → List (ℕ × ℕ)
@@ -52,7 +57,7 @@ loaded_pairs bytes first zero = []
 loaded_pairs bytes first (suc count) = (loaded_cfg bytes first, loaded_address bytes first)
     ∷ loaded_pairs bytes (suc first) count
 
--- the registers in the bytes of an answer have a list that means a view, and no list that does is
+-- the registers in the bytes of a list have entries that mean a view, and no list that does is
 -- shorter. A hart of that many entries has room for it, and every entry after it is OFF
 pub record HasFewest (bytes : List ℕ) (limit : Limit) (view : View) : Type 0 where
   pub entries : List Entry
@@ -62,17 +67,52 @@ pub record HasFewest (bytes : List ℕ) (limit : Limit) (view : View) : Type 0 w
   pub off : (i : ℕ) → length entries ≤ i → i < 64 → (loaded_cfg bytes i ≡ 0)
       × (loaded_address bytes i ≡ 0)
 
--- a hart loads the entries of an answer that names it, or that has its bit among the woken
-abbrev pub is_loaded : List ℕ → ℕ → Bool
-is_loaded bytes hart = word_at bytes 1 == hart || word_at bytes 8 / 2 ^ hart % 2 == 1
+-- the list of a world by its number, 0 for the host, after an answer. Word 9 says how many lists
+-- are in it: the first is the host's, the second that of the enclave whose number is in word 4. Each
+-- other world keeps the list that it had
+abbrev pub list_after : List ℕ → (ℕ → List ℕ) → ℕ → List ℕ
+list_after answered lists zero = if nat_lt 0 (word_at answered 9) then drop 416 answered
+    else lists 0
+list_after answered lists (suc n) = if word_at answered 9 == 2 && word_at answered 4 == suc n
+    then drop 1000 answered else lists (suc n)
 
--- the last answer whose entries a hart loaded, the answer to the platform included
+-- what a hart has loaded after an answer, by the lists of the worlds: where the answer names it, in
+-- word 1, that of the world in word 2; where its bit is among the woken, in word 8, the host's; and
+-- otherwise what it had
+abbrev pub loaded_after : List ℕ → (ℕ → List ℕ) → List ℕ → ℕ → List ℕ
+loaded_after answered lists before hart = if word_at answered 1 == hart
+    then lists (word_at answered 2)
+    else (if word_at answered 8 / 2 ^ hart % 2 == 1 then lists 0 else before)
+
+-- the list that was answered last of a world by its number; before any trap the one of the answer to
+-- the platform
+abbrev pub list_last : (opened : List ℕ) {old : MonitorState} {hosts : ℕ
+    → ControlWords} {read written : List ℕ} {new : MonitorState} {kept : ℕ
+    → ControlWords} → ServesTraps old hosts read written new kept → ℕ → List ℕ
+list_last opened no_trap world = drop 416 opened
+list_last opened (next_trap served trap frame more question answered new kept size is step) world =
+    list_after answered (list_last opened served) world
+
+-- the list that a hart loaded last
 abbrev pub loaded_last : (opened : List ℕ) {old : MonitorState} {hosts : ℕ
     → ControlWords} {read written : List ℕ} {new : MonitorState} {kept : ℕ
     → ControlWords} → ServesTraps old hosts read written new kept → ℕ → List ℕ
-loaded_last opened no_trap hart = opened
+loaded_last opened no_trap hart = drop 416 opened
 loaded_last opened (next_trap served trap frame more question answered new kept size is step) hart =
-    if is_loaded answered hart then answered else loaded_last opened served hart
+    loaded_after answered (list_after answered (list_last opened served))
+    (loaded_last opened served hart) hart
+
+-- the host, or an enclave that is live
+abbrev pub IsThere : EnclaveTable → World → Type 0
+IsThere table Host = ⊤
+IsThere table (InEnclave id) = (e : Enclave) × Live table id e
+
+-- whether the list of a world is new, where that of an enclave is of this id
+abbrev pub is_new : NewLists → ℕ → World → Bool
+is_new new_lists.Nothing id world = false
+is_new new_lists.Host id world = is_host world
+is_new new_lists.HostAndMade id Host = true
+is_new new_lists.HostAndMade id (InEnclave other) = id == other
 
 -- the call that a trap is, if it is one
 abbrev pub called : TrapEvent → RegisterFile → Option Call
@@ -114,12 +154,13 @@ AreThose trap_events.Stop came now = now ≡ came
 pub record KeepsTrap (old : MonitorState) (hosts : ℕ → ControlWords) (trap : Trap)
     (read question answered : List ℕ) (new : MonitorState) (kept : ℕ → ControlWords) : Type 0 where
   -- what the answer says: its status and value, the pages that are to be made zero, the harts that
-  -- are woken, and the control words
+  -- are woken, the lists of entries that are new, and the control words
   pub answer : Answer
   pub cleared : Option PageRange
   pub woken : List Bool
+  pub lists : NewLists
   pub given : ControlWords
-  pub says : IsAnswer new given trap.hart answer cleared woken answered
+  pub says : IsAnswer new given trap.hart answer cleared woken lists answered
   -- a creation or destruction is refused for want of entries just where a view after it needs more
   pub need :
       IsRefusedByNeed (called trap.event trap.registers) old.table (old.worlds trap.hart)
@@ -129,8 +170,16 @@ pub record KeepsTrap (old : MonitorState) (hosts : ℕ → ControlWords) (trap :
   pub zeroes : IfSome cleared (AreDestroyed old new)
   pub destroys : (id : ℕ) → (gone : IsGone old new id)
       → cleared ≡ Some (private_pages gone.0.parts)
-  -- each other hart stays in its world, and if it is not woken its view stays too: it may go on
-  -- with the entries that it has
+  -- an enclave whose list is new is there. A world that is there, and whose list is not new, was there
+  -- before, and its view stays: its list is right still
+  pub made : lists ≡ new_lists.HostAndMade → IsThere new.table (InEnclave answer.value)
+  pub keeps : (world : World) → IsThere new.table world → is_new lists answer.value world ≡ false
+      → IsThere old.table world
+      × SameView (current_view old.table world) (current_view new.table world)
+  -- a hart that is woken runs the host. Each other hart stays in its world, and if it is not woken
+  -- its view stays too: it may go on with the entries that it has
+  pub wakes : (other : ℕ) → other < old.table.layout.harts
+      → slice_index_or woken other false ≡ true → new.worlds other ≡ Host
   pub stays : (other : ℕ) → other ≢ trap.hart → new.worlds other ≡ old.worlds other
   pub others :
       (other : ℕ) → other ≢ trap.hart → other < old.table.layout.harts
@@ -157,8 +206,9 @@ AreKept (next_trap {mid = mid} {now = now} served trap frame more question answe
 
 -- after any traps: the table is sound, and the platform is the one that was read. Each hart is in
 -- the host's world or in that of an enclave that is Running, and each of these runs on just one; no
--- hart is to be woken. The entries that each hart loaded last mean the view of its world, by the
--- fewest that do. No host that waits is to go on in machine mode. And what each trap kept
+-- hart is to be woken. The list that was answered last of each world that is there means its view, by
+-- the fewest entries that do, and so does the list that each hart loaded last for the view of its
+-- world. No host that waits is to go on in machine mode. And what each trap kept
 pub record FirmwareHeadline (layout : PlatformLayout) (opened read written : List ℕ)
     (s : MonitorState) (kept : ℕ → ControlWords)
     (served : ServesTraps (opening_monitor layout) first_words read written s kept) : Type 0 where
@@ -166,6 +216,9 @@ pub record FirmwareHeadline (layout : PlatformLayout) (opened read written : Lis
   pub platform : s.table.layout ≡ layout
   pub worlds : ArePlaced s
   pub awake : AreAwake s
+  pub lists : (world : World) → IsThere s.table world
+      → HasFewest (list_last opened served (world_number world)) layout.limit
+      (current_view s.table world)
   pub banks : (hart : ℕ) → hart < layout.harts
       → HasFewest (loaded_last opened served hart) layout.limit
       (current_view s.table (s.worlds hart))

@@ -16,7 +16,8 @@ use Rattle.trap_server.specs.declared.trap.TrapEvent.{TrapEvent}
 use Rattle.trap_server.specs.declared.trap.TrapEvent.TheVariants.{Call, Stop}
 use Rattle.trap_server.specs.declared.trap.Trap.{Trap}
 use Rattle.trap_server.specs.PageDigest.{ArePages, question_of}
-use Rattle.trap_server.specs.Answered.{IsAnswer, marks_of, no_answer, unmarked}
+use Rattle.trap_server.specs.declared.answer.NewLists.TheVariants.{Nothing}
+use Rattle.trap_server.specs.Answered.{IsAnswer, marks_of, new_lists, no_answer, unmarked}
 
 -- a call is a step of the monitor, in which a creation gets this digest; then no hart is marked,
 -- and each that was is woken. So it is answered
@@ -27,7 +28,8 @@ pub record AnswersCall (s : MonitorState) (trap : Trap) (given : ControlWords) (
   pub step : DoesCall (call_of (past_call trap.registers)) (λ parts. digest)
       (with_running s trap.hart (past_call trap.registers)) trap.hart answer cleared mid
   pub woken : new ≡ unmarked 4 mid
-  pub goes_on : IsAnswer new given trap.hart answer cleared (marks_of mid) answered
+  pub goes_on : IsAnswer new given trap.hart answer cleared (marks_of mid)
+      (new_lists (asked_in (call_of trap.registers)) answer cleared) answered
 
 -- after an enclave was made its private pages are asked for, and read once, by rising number, and
 -- the digest is that of its layout and these pages; nothing else is asked for or read
@@ -55,7 +57,7 @@ pub record ServesStop (s : MonitorState) (trap : Trap) (given : ControlWords)
   pub nothing_read : read ≡ []
   pub step : Interrupts (s.worlds trap.hart) (with_running s trap.hart trap.registers) trap.hart mid
   pub woken : new ≡ unmarked 4 mid
-  pub goes_on : IsAnswer new given trap.hart no_answer None (marks_of mid) answered
+  pub goes_on : IsAnswer new given trap.hart no_answer None (marks_of mid) Nothing answered
 
 -- a trap is served, by what happened; the hart goes on with these control words
 abbrev pub ServesAs : TrapEvent → MonitorState → Trap → ControlWords → List ℕ → List ℕ → List ℕ

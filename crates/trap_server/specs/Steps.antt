@@ -9,7 +9,6 @@ use Rattle.measurement.specs.Digests.{layout_of}
 use Rattle.measurement.specs.Measured.{digest_of}
 use Rattle.measurement.specs.declared.request.Create.{Create}
 use Rattle.sbi_decode.specs.Calls.{call_of}
-use Rattle.sbi_decode.specs.declared.world.World.TheVariants.{Host}
 use Rattle.monitor_core.specs.Changes.{having_digest}
 use Rattle.monitor_core.specs.Measured.{IsMade, asked_in}
 use Rattle.monitor_core.specs.States.{MonitorState}
@@ -27,11 +26,6 @@ use Rattle.trap_server.specs.declared.trap.Trap.{Trap}
 use Rattle.trap_server.specs.declared.trap.TrapEvent.{TrapEvent}
 use Rattle.trap_server.specs.declared.trap.TrapEvent.TheVariants.{Call, Stop}
 use Rattle.trap_server.specs.declared.words.ControlWords.{ControlWords}
-
--- a hart is woken by another only where both are in the host's world
-abbrev pub MayWake : MonitorState → ℕ → List Bool → Type 0
-MayWake s hart woken = (other : ℕ) → other < s.table.layout.harts
-    → slice_index_or woken other false ≡ true → (s.worlds other ≡ Host) × (s.worlds hart ≡ Host)
 
 -- bytes of a kind were written, or a part of them, where the sink failed
 abbrev pub Writes : Result (Unit {0}) ServeFault → (List ℕ → Type 0) → Option (List ℕ)

@@ -1,13 +1,24 @@
-//! The frame of an answer: with what a hart goes on.
+//! The frame of an answer: with what a hart goes on, and the lists of entries that are new.
 
-ghost use Rattle.std.specs.Prelude.{◌≡◌, ◌<◌, ◌≤◌, ◌+◌, ◌-◌, ◌++◌, length, take, replicate};
+ghost use Rattle.std.specs.Prelude.{◌≡◌, ◌<◌, ◌≤◌, ◌+◌, ◌-◌, ◌*◌, ◌++◌, length, take, replicate};
 ghost use Rattle.monitor_core.specs.Answers.{world_number};
-ghost use Rattle.trap_server.specs.Answers.{address_at, address_bytes, answer_bytes, cfg_at, cfg_bytes, control_bytes, head_bytes, pages_of, register_bytes, wake_word};
+ghost use Rattle.trap_server.specs.Answers.{address_at, address_bytes, cfg_at, cfg_bytes, control_bytes, front_bytes, head_bytes, list_bytes, list_count, pages_of, register_bytes, wake_word};
 
 use crate::ControlWords;
 use crate::frame::{AnswerBytes, TAG_ANSWER, TAG_CONTROL, put_word};
 use pmp_encoding::{Entry, PageRange};
 use sbi_decode::{Registers, World};
+
+/// Which lists of entries an answer has: those of the worlds whose views changed. Each other world keeps the list that it has.
+#[derive(Clone, Copy, Debug, PartialEq, Eq)]
+pub enum NewLists {
+    /// None.
+    Nothing,
+    /// That of the host: at boot, and after a destruction.
+    Host,
+    /// That of the host, and after it that of the enclave that was made, whose id is the value of the answer.
+    HostAndMade,
+}
 
 /// The front of an answer.
 #[derive(Clone, Copy)]
@@ -20,10 +31,25 @@ pub struct Head {
     pub status: u64,
     /// The value of it.
     pub value: u64,
+    /// How many entries the world that goes on has.
+    pub used: u64,
     /// The pages that are made zero before any hart goes on.
     pub zero: Option<PageRange>,
-    /// The other harts that load the same entries before they go on.
+    /// The other harts, which run the host and load its list before they go on.
     pub woken: [bool; 4],
+    /// Which lists come after the control words.
+    pub lists: NewLists,
+}
+
+/// How many lists an answer has.
+fn list_count(lists: NewLists) -> u64
+    ensures { result ≡ list_count lists }
+{
+    match lists {
+        NewLists::Nothing => 0,
+        NewLists::Host => 1,
+        NewLists::HostAndMade => 2,
+    }
 }
 
 /// The number of a world: 0 is the host.
@@ -58,8 +84,8 @@ fn pages_of(zero: Option<PageRange>) -> PageRange
 
 /// Writes the words before the registers.
 #[inline(always)]
-fn put_head(frame: &mut AnswerBytes, head: &Head, used: u64)
-    ensures { take 72 frame.new ≡ head_bytes head.now used }
+fn put_head(frame: &mut AnswerBytes, head: &Head)
+    ensures { take 80 frame.new ≡ head_bytes head.now }
 {
     let pages = pages_of(head.zero);
     put_word(frame, 0, TAG_ANSWER);
@@ -67,25 +93,25 @@ fn put_head(frame: &mut AnswerBytes, head: &Head, used: u64)
     put_word(frame, 2, world_number(head.world));
     put_word(frame, 3, head.status);
     put_word(frame, 4, head.value);
-    put_word(frame, 5, used);
+    put_word(frame, 5, head.used);
     put_word(frame, 6, pages.first);
     put_word(frame, 7, pages.count);
     put_word(frame, 8, wake_word(&head.woken));
+    put_word(frame, 9, list_count(head.lists));
 }
 
 /// Writes the program counter and x1 to x31 after them.
 #[inline(always)]
 fn put_registers(frame: &mut AnswerBytes, registers: &Registers)
-    ensures { take 328 frame.new ≡ take 72 frame.old ++ register_bytes registers.now 32 }
+    ensures { take 336 frame.new ≡ take 80 frame.old ++ register_bytes registers.now 32 }
 {
-    put_word(frame, 9, registers.pc());
+    put_word(frame, 10, registers.pc());
     for n in 1..32 {
-        put_word(frame, n + 9, registers.get(n));
+        put_word(frame, n + 10, registers.get(n));
     }
 }
 
 /// The configuration byte of entry i, and zero past the entries.
-#[inline(always)]
 fn cfg_at(entries: &[Entry], i: usize) -> u8
     ensures { result ≡ cfg_at entries.now i }
 {
@@ -97,7 +123,6 @@ fn cfg_at(entries: &[Entry], i: usize) -> u8
 }
 
 /// The address register of entry i, and zero past the entries.
-#[inline(always)]
 fn address_at(entries: &[Entry], i: usize) -> u64
     ensures { result ≡ address_at entries.now i }
 {
@@ -109,72 +134,80 @@ fn address_at(entries: &[Entry], i: usize) -> u64
 }
 
 /// Makes the bytes from one on and before another zero. Those before them stay.
-#[inline(always)]
 fn clear(frame: &mut AnswerBytes, from: usize, end: usize)
     requires order { from ≤ end }
-    requires inside { end ≤ 984 }
+    requires inside { end ≤ 1584 }
     ensures { take end frame.new ≡ take from frame.old ++ replicate (end - from) 0 }
 {
     frame[from..end].fill(0);
 }
 
-/// Writes the configuration bytes of 64 entries after them, zero past the entries. As words they are pmpcfg0, pmpcfg2, ..
-/// pmpcfg14. All are made zero first, which takes eight stores; from the last entry on it would take more.
-#[inline(always)]
-fn put_configuration(frame: &mut AnswerBytes, entries: &[Entry])
-    requires { length entries.now ≤ 64 }
-    ensures { take 392 frame.new ≡ take 328 frame.old ++ cfg_bytes entries.now 64 }
+/// Writes the configuration bytes of 64 entries from a byte on, zero past the entries. As words they are pmpcfg0, pmpcfg2, ..
+/// pmpcfg14.
+fn put_configuration(frame: &mut AnswerBytes, from: usize, entries: &[Entry])
+    requires few { length entries.now ≤ 64 }
+    requires inside { from + 64 ≤ 1584 }
+    ensures { take (from + 64) frame.new ≡ take from frame.old ++ cfg_bytes entries.now 64 }
 {
-    clear(frame, 328, 392);
+    clear(frame, from, from + 64);
     for i in 0..entries.len() {
-        frame[328 + i] = cfg_at(entries, i);
+        frame[from + i] = cfg_at(entries, i);
     }
 }
 
-/// Writes the address registers of 64 entries after them, zero past the entries.
-#[inline(always)]
-fn put_addresses(frame: &mut AnswerBytes, entries: &[Entry])
-    requires { length entries.now ≤ 64 }
-    ensures { take 904 frame.new ≡ take 392 frame.old ++ address_bytes entries.now 64 }
+/// Writes the address registers of 64 entries from a word on, zero past the entries.
+fn put_addresses(frame: &mut AnswerBytes, from: usize, entries: &[Entry])
+    requires few { length entries.now ≤ 64 }
+    requires inside { from + 64 ≤ 198 }
+    ensures { take (8 * from + 512) frame.new
+        ≡ take (8 * from) frame.old ++ address_bytes entries.now 64 }
 {
     for i in 0..entries.len() {
-        put_word(frame, 49 + i, address_at(entries, i));
+        put_word(frame, from + i, address_at(entries, i));
     }
-    clear(frame, 392 + 8 * entries.len(), 904);
+    clear(frame, 8 * from + 8 * entries.len(), 8 * from + 512);
 }
 
-/// Writes the control words after them, below a tag of their own.
+/// Writes the control words after the registers, below a tag of their own.
 #[inline(always)]
 fn put_control(frame: &mut AnswerBytes, control: &ControlWords)
-    ensures { frame.new ≡ take 904 frame.old ++ control_bytes control.now }
+    ensures { take 416 frame.new ≡ take 336 frame.old ++ control_bytes control.now }
 {
-    put_word(frame, 113, TAG_CONTROL);
-    put_word(frame, 114, control.status);
-    put_word(frame, 115, control.satp);
-    put_word(frame, 116, control.mie);
-    put_word(frame, 117, control.scounteren);
-    put_word(frame, 118, control.senvcfg);
-    put_word(frame, 119, control.hstatus);
-    put_word(frame, 120, control.medeleg);
-    put_word(frame, 121, control.mideleg);
-    put_word(frame, 122, control.mode);
+    put_word(frame, 42, TAG_CONTROL);
+    put_word(frame, 43, control.status);
+    put_word(frame, 44, control.satp);
+    put_word(frame, 45, control.mie);
+    put_word(frame, 46, control.scounteren);
+    put_word(frame, 47, control.senvcfg);
+    put_word(frame, 48, control.hstatus);
+    put_word(frame, 49, control.medeleg);
+    put_word(frame, 50, control.mideleg);
+    put_word(frame, 51, control.mode);
 }
 
-/// Writes the frame with what a hart goes on: its registers, the entries that it loads, at most 64, and its control words.
+/// Writes the front of the frame, with what a hart goes on: its registers and its control words.
 #[inline(always)]
-pub fn put_answer(
+pub fn put_front(
     frame: &mut AnswerBytes,
     head: &Head,
     registers: &Registers,
-    entries: &[Entry],
     control: &ControlWords,
 )
-    requires { length entries.now ≤ 64 }
-    ensures { frame.new ≡ answer_bytes head.now registers.now entries.now control.now }
+    ensures { take 416 frame.new ≡ front_bytes head.now registers.now control.now }
 {
-    put_head(frame, head, entries.len() as u64);
+    put_head(frame, head);
     put_registers(frame, registers);
-    put_configuration(frame, entries);
-    put_addresses(frame, entries);
     put_control(frame, control);
+}
+
+/// Writes a list of entries from a word on, at most 64. It is not inlined: few answers have one.
+#[inline(never)]
+pub fn put_list(frame: &mut AnswerBytes, from: usize, entries: &[Entry])
+    requires few { length entries.now ≤ 64 }
+    requires inside { from + 73 ≤ 198 }
+    ensures { take (8 * from + 584) frame.new ≡ take (8 * from) frame.old ++ list_bytes entries.now }
+{
+    put_word(frame, from, entries.len() as u64);
+    put_configuration(frame, 8 * from + 8, entries);
+    put_addresses(frame, from + 9, entries);
 }

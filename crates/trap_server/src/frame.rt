@@ -30,8 +30,8 @@ pub(crate) const TAG_MEASURE: u64 = 0x0065_7275_7361_656d;
 /// `end`
 pub(crate) const TAG_END: u64 = 0x0064_6e65;
 
-/// The bytes of an answer: nine words, the registers, the entries, and the control words after their tag.
-pub type AnswerBytes = [u8; 984];
+/// The bytes of an answer: ten words, the registers, the control words after their tag, and at most two lists of entries.
+pub type AnswerBytes = [u8; 1584];
 
 /// The bytes of a trap: its tag, the hart, the registers, and the control words after a tag of their own.
 pub type TrapBytes = [u8; 352];

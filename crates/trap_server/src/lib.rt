@@ -1,9 +1,9 @@
 //! The loop that serves the traps of a hart.
 //!
 //! It works between two devices. What comes from the first are frames: the platform, then the traps of its harts one after
-//! another. What goes to the second is, for each trap, with what the hart goes on: its registers, the answer, the world, the
-//! PMP registers and control registers to load, the pages to make zero, and which other harts are to load the same entries.
-//! `docs/FORMATS.md` has the layouts, under "Frames".
+//! another. What goes to the second is, for each trap, with what the hart goes on: its registers, the answer, the world, its
+//! control registers, the pages to make zero, which other harts are to load the host's entries, and the entries of each world
+//! whose view changed. `docs/FORMATS.md` has the layouts, under "Frames".
 //!
 //! For the layer above: each trap that is served is one step of the monitor (`monitor_core`), and its answer is written
 //! before the next is read. The control words of the host of each hart are kept here while an enclave runs, and each world
@@ -35,8 +35,8 @@
 //!
 //! A frame is words of 64 bits, the lowest byte first. Its first word is a tag, which says what the others are;
 //! `docs/FORMATS.md` has the layouts, under "Frames". Read are the platform ([`read_platform`]), then the traps of its harts
-//! ([`read_trap`]), and the pages that are asked for ([`digest_of`]). Written are answers ([`put_answer`]), questions for
-//! pages, and why the end has come ([`end_frame`]).
+//! ([`read_trap`]), and the pages that are asked for ([`digest_of`]). Written are answers ([`put_front`], [`put_list`]),
+//! questions for pages, and why the end has come ([`end_frame`]).
 //!
 //! For the layer above: what is read is consumed whole, and what is not a frame is distinct from a failed device. Nothing here
 //! takes memory.
@@ -61,7 +61,7 @@ mod trap;
 mod trap_loop;
 mod words;
 
-pub use answer::{Head, put_answer};
+pub use answer::{Head, NewLists, put_front, put_list};
 pub use control_laws::control_words_law;
 pub use end::{EndReason, end_frame};
 pub use fault::ServeFault;

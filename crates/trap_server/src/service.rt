@@ -1,6 +1,6 @@
 //! How a trap is served, and its answer written.
 
-ghost use Rattle.std.specs.Prelude.{◌≡◌, ◌<◌, ℕ, List, Option, IfNone, IfSome, is_some};
+ghost use Rattle.std.specs.Prelude.{◌≡◌, ◌<◌, ◌≤◌, ℕ, List, Option, IfNone, IfSome, is_some, take};
 ghost use Rattle.sbi_decode.specs.Calls.{call_of};
 ghost use Rattle.measurement.specs.declared.request.Create.{Create as CreateParts};
 ghost use Rattle.enclave_table.specs.Enclaves.{Live};
@@ -9,15 +9,19 @@ ghost use Rattle.monitor_core.specs.Measured.{IsMade, asked_in};
 ghost use Rattle.monitor_core.specs.Monitors.{state_by};
 ghost use Rattle.monitor_core.specs.Changes.{without_mark};
 ghost use Rattle.trap_server.specs.Given.{host_words, keeping};
-ghost use Rattle.trap_server.specs.Answered.{AreAwake, IsAnswer, given_on, marks_of, status_word, unmarked};
+ghost use Rattle.trap_server.specs.declared.answer.NewLists.{NewLists};
+ghost use Rattle.trap_server.specs.declared.answer.NewLists.TheVariants as NewLists;
+ghost use Rattle.trap_server.specs.Answered.{AreAwake, IsAnswer, PutsLists, given_on, marks_of, new_lists, status_word, unmarked};
 ghost use Rattle.trap_server.specs.Ends.{CountsReads, CountsWrites};
 ghost use Rattle.trap_server.specs.PageDigest.{HasParts};
-ghost use Rattle.trap_server.specs.Steps.{MayWake, MeasuresMade, Serves, Writes};
+ghost use Rattle.trap_server.specs.Steps.{MeasuresMade, Serves, Writes};
 
 use crate::fault::{ServeFault, end};
-use crate::{AnswerBytes, Head, HostWords, Trap, TrapEvent, digest_of, put_answer};
+use crate::{
+    AnswerBytes, Head, HostWords, NewLists, Trap, TrapEvent, digest_of, put_front, put_list,
+};
 use byte_streams::{Sink, Source, write_whole};
-use monitor_core::{Answer, Create, Monitor, TakenDigest};
+use monitor_core::{Answer, Create, Monitor, Served, TakenDigest};
 use pmp_encoding::PageRange;
 use sbi_decode::{Call, Registers, decode};
 
@@ -61,7 +65,35 @@ fn status_word(answer: &Answer) -> u64
     u64::MAX - (-1 - status) as u64
 }
 
-/// Puts together the frame with which a hart goes on, and the harts that load the same entries with it.
+/// Puts the lists of entries that are new behind the front of an answer, which made an enclave of this id where its list is
+/// new, and says where they end.
+#[inline(always)]
+fn put_lists(frame: &mut AnswerBytes, monitor: &Monitor, lists: NewLists, id: u64) -> usize
+    requires made { lists ≡ NewLists.HostAndMade
+        → (e : Enclave) × Live (state_by monitor.now).table id e }
+    ensures inside { result ≤ 1584 }
+    ensures lists { PutsLists (state_by monitor.now).table id lists (take 416 frame.old)
+        (take result frame.new) }
+{
+    match lists {
+        NewLists::Nothing => 416,
+        NewLists::Host => {
+            put_list(frame, 52, monitor.table().host_entries());
+            1000
+        }
+        NewLists::HostAndMade => {
+            put_list(frame, 52, monitor.table().host_entries());
+            let Some(entries) = monitor.table().enclave_entries(id) else {
+                unreachable!();
+            };
+            put_list(frame, 125, entries);
+            1584
+        }
+    }
+}
+
+/// Puts together the frame with which a hart goes on, and the harts that load the host's list with it. It says where the
+/// frame ends.
 #[inline(always)]
 fn put_frame(
     frame: &mut AnswerBytes,
@@ -71,11 +103,15 @@ fn put_frame(
     answer: &Answer,
     zero: Option<PageRange>,
     woken: [bool; 4],
-)
+    lists: NewLists,
+) -> usize
     requires hart { hart < 4 }
-    requires woken { MayWake (state_by monitor.now) hart woken }
-    ensures { let s = state_by monitor.now in
-        IsAnswer s (given_on s (host_words hosts.now) hart) hart answer.now zero woken frame.new }
+    requires made { lists ≡ NewLists.HostAndMade
+        → (e : Enclave) × Live (state_by monitor.now).table answer.now.value e }
+    ensures inside { result ≤ 1584 }
+    ensures answer { let s = state_by monitor.now in
+        IsAnswer s (given_on s (host_words hosts.now) hart) hart answer.now zero woken lists
+        (take result frame.new) }
 {
     let world = monitor.world(hart);
     let head = Head {
@@ -83,17 +119,14 @@ fn put_frame(
         world,
         status: status_word(answer),
         value: answer.value,
+        used: monitor.used(hart),
         zero,
         woken,
+        lists,
     };
     let control = hosts.words_for(hart, world);
-    put_answer(
-        frame,
-        &head,
-        monitor.registers(hart),
-        monitor.entries(hart),
-        &control,
-    );
+    put_front(frame, &head, monitor.registers(hart), &control);
+    put_lists(frame, monitor, lists, answer.value)
 }
 
 /// Writes with what a hart goes on, in a frame that is lent, and whose bytes before decide nothing.
@@ -105,20 +138,22 @@ pub(crate) fn write_answer<W: Sink>(
     answer: Answer,
     zero: Option<PageRange>,
     woken: [bool; 4],
+    lists: NewLists,
     frame: &mut AnswerBytes,
     sink: &mut W,
 ) -> Result<(), ServeFault>
     requires hart { hart < 4 }
-    requires woken { MayWake (state_by monitor.now) hart woken }
+    requires made { lists ≡ NewLists.HostAndMade
+        → (e : Enclave) × Live (state_by monitor.now).table answer.value e }
     ensures bytes { let s = state_by monitor.now in Writes result
-        (IsAnswer s (given_on s (host_words hosts.now) hart) hart answer zero woken)
+        (IsAnswer s (given_on s (host_words hosts.now) hart) hart answer zero woken lists)
         (W.contents sink.old) (W.contents sink.new) }
     ensures reads { (n : ℕ) → CountsReads result n n }
     ensures writes { CountsWrites result (W.failures sink.old) (W.failures sink.new)
         (W.stalls sink.old) (W.stalls sink.new) }
 {
-    put_frame(frame, monitor, hosts, hart, &answer, zero, woken);
-    match write_whole(sink, frame) {
+    let end = put_frame(frame, monitor, hosts, hart, &answer, zero, woken, lists);
+    match write_whole(sink, &frame[..end]) {
         Ok(()) => Ok(()),
         Err(_) => Err(ServeFault::Write),
     }
@@ -139,6 +174,22 @@ fn is_creation(registers: &Registers) -> bool
     ensures { result ≡ is_some (asked_in (call_of registers.now)) }
 {
     matches!(decode(registers), Ok(Call::Create { .. }))
+}
+
+/// Which lists are new after a call: the host's after a destruction, which leaves pages to be made zero, and two after a creation
+/// that was done.
+#[inline(always)]
+fn new_lists(registers: &Registers, served: &Served) -> NewLists
+    ensures { result
+        ≡ new_lists (asked_in (call_of registers.now)) served.now.answer served.now.zero }
+{
+    if served.zero.is_some() {
+        return NewLists::Host;
+    }
+    if served.answer.status == 0 && is_creation(registers) {
+        return NewLists::HostAndMade;
+    }
+    NewLists::Nothing
 }
 
 /// The parts of an enclave that a call made, if it made one. It is not inlined: so a trap is in memory, and its registers are
@@ -209,6 +260,7 @@ fn serve_call<R: Source, W: Sink>(
     let served = monitor.serve(trap.hart, &TakenDigest { bytes: [0; 32] });
     monitor.cite_invariant();
     let woken = wake_all(monitor);
+    let lists = new_lists(&trap.registers, &served);
     match write_answer(
         monitor,
         hosts,
@@ -216,6 +268,7 @@ fn serve_call<R: Source, W: Sink>(
         served.answer,
         served.zero,
         woken,
+        lists,
         frame,
         sink,
     ) {
@@ -257,7 +310,17 @@ fn serve_stop<W: Sink>(
     monitor.put_registers(trap.hart, &trap.registers);
     let _load = monitor.interrupt(trap.hart);
     let woken = wake_all(monitor);
-    write_answer(monitor, hosts, trap.hart, NOTHING, None, woken, frame, sink)
+    write_answer(
+        monitor,
+        hosts,
+        trap.hart,
+        NOTHING,
+        None,
+        woken,
+        NewLists::Nothing,
+        frame,
+        sink,
+    )
 }
 
 /// Serves a trap.

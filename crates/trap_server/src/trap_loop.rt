@@ -12,7 +12,7 @@ ghost use Rattle.trap_server.specs.Runs.{EndsEarly, Ran};
 
 use crate::fault::{ServeFault, end, refuse};
 use crate::service::{NOTHING, serve_trap, write_answer};
-use crate::{EndReason, HostWords, Trap, read_platform, read_trap};
+use crate::{EndReason, HostWords, NewLists, Trap, read_platform, read_trap};
 use byte_streams::{Sink, Source};
 use monitor_core::Monitor;
 use platforms::{BootFault, Platform};
@@ -117,7 +117,7 @@ fn serve_booted<R: Source, W: Sink>(
 {
     let harts = monitor.harts();
     let mut hosts = HostWords::new();
-    let mut frame = [0; 984];
+    let mut frame = [0; 1584];
     match write_answer(
         monitor,
         &hosts,
@@ -125,6 +125,7 @@ fn serve_booted<R: Source, W: Sink>(
         NOTHING,
         None,
         others(harts),
+        NewLists::Host,
         &mut frame,
         sink,
     ) {

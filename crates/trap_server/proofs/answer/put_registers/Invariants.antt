@@ -3,4 +3,4 @@ use Rattle.trap_server.specs.Answers.{register_bytes}
 use Rattle.trap_server.proofs.answer.put_registers.Given as goal
 
 abbrev pub invariant-loop-n : goal.invariant-loop-n
-invariant-loop-n l = take (72 + 8 * l.n) l.frame ≡ take 72 l.fn.frame ++ register_bytes l.registers l.n
+invariant-loop-n l = take (80 + 8 * l.n) l.frame ≡ take 80 l.fn.frame ++ register_bytes l.registers l.n

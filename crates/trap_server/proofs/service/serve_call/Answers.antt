@@ -1,14 +1,17 @@
 use Rattle.std.proofs.Common.{◌∙◌, ◌<◌, ap, sym, subst}
 use Rattle.sbi_decode.specs.Calls.{call_of}
+use Rattle.enclave_table.specs.Enclaves.{Live}
 use Rattle.monitor_core.specs.Changes.{past_call, with_running}
+use Rattle.monitor_core.specs.Measured.{asked_in}
 use Rattle.monitor_core.specs.Monitors.{state_by}
 use Rattle.monitor_core.specs.States.{MonitorState}
 use Rattle.monitor_core.proofs.Running.{call_there}
 use Rattle.trap_server.specs.Answered.{IsAnswer, given_on}
 use Rattle.trap_server.specs.Given.{host_words}
 use Rattle.trap_server.proofs.Answering.{call_answered, call_unanswered, made_measured, made_to_measure, none_asked, nothing_made}
-use Rattle.trap_server.proofs.Served.{may_wake, writes_then}
-use Rattle.trap_server.proofs.Waking.{marks_in_host}
+use Rattle.trap_server.proofs.ListsKept.{made_by_lists}
+use Rattle.trap_server.proofs.Remeasured.{call_remeasured}
+use Rattle.trap_server.proofs.Served.{writes_then}
 use Rattle.trap_server.proofs.service.serve_call.Goals as goal
 
 pub serve-served-requires-clause-hart : goal.serve-served-requires-clause-hart
@@ -19,22 +22,18 @@ pub serve-served-requires-clause-awake : goal.serve-served-requires-clause-awake
 serve-served-requires-clause-awake g c = ap (λ (s : MonitorState). s.marked c.args.trap.now.hart) c.put_registers.ensures.state
     ∙ c.requires.awake c.args.trap.now.hart c.requires.hart
 
-pub write_answer-requires-clause-woken : goal.write_answer-requires-clause-woken
-write_answer-requires-clause-woken g c =
+pub write_answer-requires-clause-made : goal.write_answer-requires-clause-made
+write_answer-requires-clause-made g c = λ is.
     let s = state_by c.args.monitor.now in
     let mid = state_by c.serve-served.new.self in
-    let hart = c.args.trap.now.hart in
-    let file = past_call c.args.trap.now.registers in
+    let trap = c.args.trap.now in
+    let file = past_call trap.registers in
     let said = c.serve-served.result in
-    let put = c.put_registers.ensures.state in
-    let step = call_there s (state_by c.put_registers.new.self) mid hart c.args.trap.now.registers _ said.answer said.zero put c.serve-served.ensures.step in
-    may_wake mid (state_by c.wake_all-woken.new.monitor) hart c.wake_all-woken.result c.wake_all-woken.ensures.state c.wake_all-woken.ensures.marks
-    (λ other known marked.
-    let platform = c.serve-served.ensures.platform ∙ ap (λ (x : MonitorState). x.table.layout) {y = with_running s hart c.args.trap.now.registers} put in
-    let before = subst (λ t. other < t.harts) {y = s.table.layout} platform known in (
-      c.cite_invariant.ensures.worlds.marked other known marked,
-      marks_in_host (call_of file) _ (with_running s hart file) hart said.answer said.zero mid other (c.requires.awake other before) step marked,
-    ))
+    let step = call_there s (state_by c.put_registers.new.self) mid trap.hart trap.registers _ said.answer said.zero c.put_registers.ensures.state
+    c.serve-served.ensures.step in
+    let m = made_by_lists (asked_in (call_of trap.registers)) said.answer said.zero (sym c.new_lists-lists.ensures ∙ is) in
+    let r = call_remeasured (call_of file) _ (with_running s trap.hart file) trap.hart said.answer said.zero mid m.0 c.cite_invariant.ensures.table step m.1 in
+    (r.0, subst (λ (y : MonitorState). Live y.table said.answer.value r.0) (sym c.wake_all-woken.ensures.state) r.1)
 
 pub returns-in-Err-clause-served : goal.returns-in-Err-clause-served
 returns-in-Err-clause-served g c =
@@ -43,12 +42,13 @@ returns-in-Err-clause-served g c =
     let trap = c.args.trap.now in
     let said = c.serve-served.result in
     let kept = host_words c.keep_words.new.hosts in
-    call_unanswered c.in-Err.fault (IsAnswer now (given_on now kept trap.hart) trap.hart said.answer said.zero c.wake_all-woken.result) trap said.answer s now
+    call_unanswered c.in-Err.fault (IsAnswer now (given_on now kept trap.hart) trap.hart said.answer said.zero c.wake_all-woken.result c.new_lists-lists.result)
+    trap said.answer s now
     (host_words c.args.hosts.now) kept _ _ _
     (λ bytes is. call_answered s (state_by c.put_registers.new.self) (state_by c.serve-served.new.self) now (host_words c.args.hosts.now) kept trap _
-    said.answer said.zero c.wake_all-woken.result c.harts-most.result bytes c.requires.call c.put_registers.ensures.state c.serve-served.ensures.step
+    said.answer said.zero c.wake_all-woken.result c.new_lists-lists.result c.harts-most.result bytes c.requires.call c.put_registers.ensures.state c.serve-served.ensures.step
     c.serve-served.ensures.platform c.cite_invariant.ensures.table c.harts-most.ensures.value c.harts-most.ensures.most c.wake_all-woken.ensures.state
-    c.wake_all-woken.ensures.marks c.keep_words.ensures is) c.in-Err.ensures.bytes
+    c.wake_all-woken.ensures.marks c.keep_words.ensures c.new_lists-lists.ensures is) c.in-Err.ensures.bytes
 
 pub returns-then-not-is_creation-clause-served : goal.returns-then-not-is_creation-clause-served
 returns-then-not-is_creation-clause-served g c =
@@ -57,9 +57,9 @@ returns-then-not-is_creation-clause-served g c =
     c.args.trap.now c.serve-served.result.answer wrote.0 _ _ _
     (call_answered (state_by c.args.monitor.now) (state_by c.put_registers.new.self) (state_by c.serve-served.new.self) (state_by c.wake_all-woken.new.monitor)
     (host_words c.args.hosts.now) (host_words c.keep_words.new.hosts) c.args.trap.now _ c.serve-served.result.answer c.serve-served.result.zero
-    c.wake_all-woken.result c.harts-most.result wrote.0 c.requires.call c.put_registers.ensures.state c.serve-served.ensures.step
+    c.wake_all-woken.result c.new_lists-lists.result c.harts-most.result wrote.0 c.requires.call c.put_registers.ensures.state c.serve-served.ensures.step
     c.serve-served.ensures.platform c.cite_invariant.ensures.table c.harts-most.ensures.value c.harts-most.ensures.most c.wake_all-woken.ensures.state
-    c.wake_all-woken.ensures.marks c.keep_words.ensures wrote.1) (none_asked _ _ (sym c.is_creation.ensures ∙ c.if-not-is_creation.true)) wrote.2
+    c.wake_all-woken.ensures.marks c.keep_words.ensures c.new_lists-lists.ensures wrote.1) (none_asked _ _ (sym c.is_creation.ensures ∙ c.if-not-is_creation.true)) wrote.2
 
 pub returns-in_default-clause-served : goal.returns-in_default-clause-served
 returns-in_default-clause-served g c =
@@ -68,9 +68,9 @@ returns-in_default-clause-served g c =
     c.args.trap.now c.serve-served.result.answer wrote.0 _ _ _
     (call_answered (state_by c.args.monitor.now) (state_by c.put_registers.new.self) (state_by c.serve-served.new.self) (state_by c.wake_all-woken.new.monitor)
     (host_words c.args.hosts.now) (host_words c.keep_words.new.hosts) c.args.trap.now _ c.serve-served.result.answer c.serve-served.result.zero
-    c.wake_all-woken.result c.harts-most.result wrote.0 c.requires.call c.put_registers.ensures.state c.serve-served.ensures.step
+    c.wake_all-woken.result c.new_lists-lists.result c.harts-most.result wrote.0 c.requires.call c.put_registers.ensures.state c.serve-served.ensures.step
     c.serve-served.ensures.platform c.cite_invariant.ensures.table c.harts-most.ensures.value c.harts-most.ensures.most c.wake_all-woken.ensures.state
-    c.wake_all-woken.ensures.marks c.keep_words.ensures wrote.1) c.in_default.ensures.none wrote.2
+    c.wake_all-woken.ensures.marks c.keep_words.ensures c.new_lists-lists.ensures wrote.1) c.in_default.ensures.none wrote.2
 
 pub measure_made-requires-clause-live : goal.measure_made-requires-clause-live
 measure_made-requires-clause-live g c =
@@ -79,9 +79,9 @@ measure_made-requires-clause-live g c =
     c.args.trap.now c.serve-served.result.answer wrote.0 c.in-Some.parts
     (call_answered (state_by c.args.monitor.now) (state_by c.put_registers.new.self) (state_by c.serve-served.new.self) (state_by c.wake_all-woken.new.monitor)
     (host_words c.args.hosts.now) (host_words c.keep_words.new.hosts) c.args.trap.now _ c.serve-served.result.answer c.serve-served.result.zero
-    c.wake_all-woken.result c.harts-most.result wrote.0 c.requires.call c.put_registers.ensures.state c.serve-served.ensures.step
+    c.wake_all-woken.result c.new_lists-lists.result c.harts-most.result wrote.0 c.requires.call c.put_registers.ensures.state c.serve-served.ensures.step
     c.serve-served.ensures.platform c.cite_invariant.ensures.table c.harts-most.ensures.value c.harts-most.ensures.most c.wake_all-woken.ensures.state
-    c.wake_all-woken.ensures.marks c.keep_words.ensures wrote.1) c.in-Some.ensures.some).0
+    c.wake_all-woken.ensures.marks c.keep_words.ensures c.new_lists-lists.ensures wrote.1) c.in-Some.ensures.some).0
 
 pub measure_made-requires-clause-parts : goal.measure_made-requires-clause-parts
 measure_made-requires-clause-parts g c =
@@ -90,9 +90,9 @@ measure_made-requires-clause-parts g c =
     c.args.trap.now c.serve-served.result.answer wrote.0 c.in-Some.parts
     (call_answered (state_by c.args.monitor.now) (state_by c.put_registers.new.self) (state_by c.serve-served.new.self) (state_by c.wake_all-woken.new.monitor)
     (host_words c.args.hosts.now) (host_words c.keep_words.new.hosts) c.args.trap.now _ c.serve-served.result.answer c.serve-served.result.zero
-    c.wake_all-woken.result c.harts-most.result wrote.0 c.requires.call c.put_registers.ensures.state c.serve-served.ensures.step
+    c.wake_all-woken.result c.new_lists-lists.result c.harts-most.result wrote.0 c.requires.call c.put_registers.ensures.state c.serve-served.ensures.step
     c.serve-served.ensures.platform c.cite_invariant.ensures.table c.harts-most.ensures.value c.harts-most.ensures.most c.wake_all-woken.ensures.state
-    c.wake_all-woken.ensures.marks c.keep_words.ensures wrote.1) c.in-Some.ensures.some).1
+    c.wake_all-woken.ensures.marks c.keep_words.ensures c.new_lists-lists.ensures wrote.1) c.in-Some.ensures.some).1
 
 pub returns-clause-served : goal.returns-clause-served
 returns-clause-served g c =
@@ -101,9 +101,9 @@ returns-clause-served g c =
     (host_words c.args.hosts.now) (host_words c.keep_words.new.hosts) c.args.trap.now c.serve-served.result.answer wrote.0 c.in-Some.parts _ _ _ _ _
     (call_answered (state_by c.args.monitor.now) (state_by c.put_registers.new.self) (state_by c.serve-served.new.self) (state_by c.wake_all-woken.new.monitor)
     (host_words c.args.hosts.now) (host_words c.keep_words.new.hosts) c.args.trap.now _ c.serve-served.result.answer c.serve-served.result.zero
-    c.wake_all-woken.result c.harts-most.result wrote.0 c.requires.call c.put_registers.ensures.state c.serve-served.ensures.step
+    c.wake_all-woken.result c.new_lists-lists.result c.harts-most.result wrote.0 c.requires.call c.put_registers.ensures.state c.serve-served.ensures.step
     c.serve-served.ensures.platform c.cite_invariant.ensures.table c.harts-most.ensures.value c.harts-most.ensures.most c.wake_all-woken.ensures.state
-    c.wake_all-woken.ensures.marks c.keep_words.ensures wrote.1)
+    c.wake_all-woken.ensures.marks c.keep_words.ensures c.new_lists-lists.ensures wrote.1)
     c.in-Some.ensures.some wrote.2 c.measure_made.ensures.measured
 
 pub returns-clause-writes : goal.returns-clause-writes

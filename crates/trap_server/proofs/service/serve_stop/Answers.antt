@@ -4,6 +4,7 @@ use Rattle.monitor_core.specs.States.{MonitorState}
 use Rattle.monitor_core.specs.Steps.{Interrupts}
 use Rattle.trap_server.specs.Given.{host_words}
 use Rattle.trap_server.specs.Answered.{IsAnswer, given_on, no_answer}
+use Rattle.trap_server.specs.declared.answer.NewLists.TheVariants as lists
 use Rattle.trap_server.proofs.Answering.{stop_served}
 use Rattle.trap_server.proofs.Served.{quiet}
 use Rattle.trap_server.proofs.service.serve_stop.Goals as goal
@@ -28,7 +29,7 @@ returns-clause-served g c =
     let hosts = host_words c.args.hosts.now in
     let kept = host_words c.keep_words.new.hosts in
     let given = given_on new kept trap.hart in
-    λ before. stop_served c.write_answer.result (IsAnswer new given trap.hart no_answer None c.wake_all-woken.result) trap s new hosts kept given before _ _
+    λ before. stop_served c.write_answer.result (IsAnswer new given trap.hart no_answer None c.wake_all-woken.result lists.Nothing) trap s new hosts kept given before _ _
     c.requires.stop (record { keeps = c.keep_words.ensures; gives = refl })
     (λ bytes is. record {
       mid = mid;
@@ -36,7 +37,7 @@ returns-clause-served g c =
       nothing_read = refl;
       step = subst (λ (m : MonitorState). Interrupts (m.worlds trap.hart) m trap.hart mid) put c.interrupt-load.ensures.step;
       woken = c.wake_all-woken.ensures.state;
-      goes_on = subst (λ (w : List Bool). IsAnswer new given trap.hart no_answer None w bytes) c.wake_all-woken.ensures.marks is;
+      goes_on = subst (λ (w : List Bool). IsAnswer new given trap.hart no_answer None w lists.Nothing bytes) c.wake_all-woken.ensures.marks is;
     })
     (quiet mid new c.wake_all-woken.ensures.state few) (ap (λ (x : MonitorState). x.table.layout) c.wake_all-woken.ensures.state ∙ platform)
     c.write_answer.ensures.bytes
