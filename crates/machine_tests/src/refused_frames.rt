@@ -5,7 +5,10 @@ use std::alloc::Global;
 use std::process::Abort;
 use trap_server::{EndReason, ServeFault, serve_traps};
 
-const ANSWER: usize = 984;
+/// The bytes of an answer before its lists, of which byte 72 says how many there are, and those of a list.
+const FRONT: usize = 416;
+
+const LIST: usize = 584;
 
 const END: &[u8] = b"end\0\0\0\0\0\x01\0\0\0\0\0\0\0\0\0\0\0\0\0\0\0";
 
@@ -33,8 +36,10 @@ fn ends_behind(rt: &impl Abort, alloc: Global, frames: &[u8], answers: usize) {
     assert!(rt; served == Err(ServeFault::Refused(EndReason::NotUnderstood)));
     let mut written = sink.written();
     for _ in 0..answers {
-        assert!(rt; written.len() > ANSWER && written.starts_with(b"answer"));
-        written = &written[ANSWER..];
+        assert!(rt; written.len() > FRONT && written.starts_with(b"answer"));
+        let bytes = FRONT + LIST * usize::from(written[72]);
+        assert!(rt; written.len() > bytes);
+        written = &written[bytes..];
     }
     assert!(rt; written == END);
 }

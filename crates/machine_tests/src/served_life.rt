@@ -7,8 +7,10 @@ use byteorder::{ByteOrder, LittleEndian};
 use std::alloc::Global;
 use std::process::Abort;
 
-/// The bytes of an answer.
-const ANSWER: usize = 984;
+/// The words of an answer before its lists, and those of a list.
+const FRONT: u64 = 52;
+
+const LIST: u64 = 73;
 
 /// The monitor's extension, in a7.
 const EXTENSION: u64 = 0x0845_4E43;
@@ -104,26 +106,28 @@ fn after<'a>(rt: &impl Abort, alloc: Global, written: &'a [u8], words: &[u64]) -
     &written[front.len()..]
 }
 
-/// Takes an answer: its hart, its world, the status and the value, how many entries there are, the pages to make zero, and
-/// the harts that are woken.
-fn after_answer<'a>(rt: &impl Abort, alloc: Global, written: &'a [u8], head: [u64; 8]) -> &'a [u8] {
+/// Takes an answer: its hart, its world, the status and the value, how many entries there are, the pages to make zero, the
+/// harts that are woken, and how many lists of entries are new, at most two.
+fn after_answer<'a>(rt: &impl Abort, alloc: Global, written: &'a [u8], head: [u64; 9]) -> &'a [u8] {
     let rest = after(rt, alloc, written, &[ANSWER_TAG]);
     let rest = after(rt, alloc, rest, &head);
-    assert!(rt; rest.len() >= ANSWER - 72);
-    &rest[ANSWER - 72..]
+    assert!(rt; head[8] <= 2);
+    let bytes = (8 * (FRONT - 10 + LIST * head[8])) as usize;
+    assert!(rt; rest.len() >= bytes);
+    &rest[bytes..]
 }
 
-/// The answers in turn. The pages of the creation are asked for once, after its answer, and those of the destruction named
-/// once.
+/// The answers in turn. The host's list is new at boot, after the creation, with the enclave's, and after the destruction. The
+/// pages of the creation are asked for once, after its answer, and those of the destruction named once.
 fn answers_a_life(rt: &impl Abort, alloc: Global, written: &[u8]) {
-    let rest = after_answer(rt, alloc, written, [0, 0, 0, 0, 3, 0, 0, 2]);
-    let rest = after_answer(rt, alloc, rest, [0, 0, 0, 1, 4, 0, 0, 2]);
+    let rest = after_answer(rt, alloc, written, [0, 0, 0, 0, 3, 0, 0, 2, 1]);
+    let rest = after_answer(rt, alloc, rest, [0, 0, 0, 1, 4, 0, 0, 2, 2]);
     let rest = after(rt, alloc, rest, &[MEASURE_TAG, PAGE, 1]);
-    let rest = after_answer(rt, alloc, rest, [0, 1, 0, 0, 1, 0, 0, 0]);
-    let rest = after_answer(rt, alloc, rest, [0, 0, 0, 0, 4, 0, 0, 0]);
-    let rest = after_answer(rt, alloc, rest, [1, 1, 0, 0, 1, 0, 0, 0]);
-    let rest = after_answer(rt, alloc, rest, [1, 0, 0, 7, 4, 0, 0, 0]);
-    let rest = after_answer(rt, alloc, rest, [0, 0, 0, 0, 3, PAGE, 1, 2]);
+    let rest = after_answer(rt, alloc, rest, [0, 1, 0, 0, 1, 0, 0, 0, 0]);
+    let rest = after_answer(rt, alloc, rest, [0, 0, 0, 0, 4, 0, 0, 0, 0]);
+    let rest = after_answer(rt, alloc, rest, [1, 1, 0, 0, 1, 0, 0, 0, 0]);
+    let rest = after_answer(rt, alloc, rest, [1, 0, 0, 7, 4, 0, 0, 0, 0]);
+    let rest = after_answer(rt, alloc, rest, [0, 0, 0, 0, 3, PAGE, 1, 2, 1]);
     assert!(rt; rest.is_empty());
 }
 
