@@ -38,6 +38,8 @@ mod ownership;
 mod parts;
 mod refused;
 mod register_sets;
+mod set_changes;
+mod steps;
 
 pub use answer::{Answer, Served};
 pub use enclave_table::{Table, World};
@@ -47,3 +49,5 @@ pub use monitor::Monitor;
 pub use platforms::{BootFault, Platform};
 pub use pmp_encoding::{Entry, PageRange};
 pub use sbi_decode::Registers;
+pub use set_changes::{ChangeKind, SetChange, SetChanges};
+pub use steps::Core;
