@@ -8,6 +8,6 @@ use Rattle.monitor_core.proofs.monitor.Monitor.boot.Goals as goal
 pub returns-clause-state : goal.returns-clause-state
 unfolding state_by
 returns-clause-state c =
-    let sets = c.in-Ok.registers in
-    c.in-Ok-core.ensures.state (registers_in sets)
-    ∙ ap (λ f. record (opening_monitor c.args.platform) { registers = f }) (same_sets c.in-Ok.ensures)
+    let sets = c.in-Ok-new.registers in
+    c.in-Ok.ensures.state (registers_in sets)
+    ∙ ap (λ f. record (opening_monitor c.args.platform) { registers = f }) (same_sets c.in-Ok-new.ensures)
