@@ -1,5 +1,5 @@
 -- What is said of register sets is what becomes of the state.
-use Rattle.std.proofs.Common.{◌≡◌, ◌∙◌, ◌==◌, ◌≤◌, ◌<◌, ℕ, zero, suc, Bool, true, false, length, if◌then◌else◌, refl, ap, sym, arith}
+use Rattle.std.proofs.Common.{◌≡◌, ◌∙◌, ◌≤◌, ℕ, zero, suc, Bool, true, false, length, if◌then◌else◌, refl, ap, sym, arith}
 use Rattle.std.proofs.lemmas.Bool.{eq-eqb}
 use Rattle.enclave_table.specs.Enclaves.{EnclaveTable}
 use Rattle.enclave_table.specs.Tables.{IsCurrent}
@@ -69,7 +69,7 @@ pub back_said : (s : MonitorState) (hart first second : ℕ) (x : SetChange)
     → record (in_world s hart Host) { registers = change hart x s.registers } ≡ back_to_host s hart first second
 back_said s hart first second x is =
     let back : (w : World) → MonitorState = λ w. with_registers (in_world s hart Host) (runner_of hart w)
-        (with_x (with_x (s.registers (runner_of hart w)) 10 first) 11 second) in
+    (with_x (with_x (s.registers (runner_of hart w)) 10 first) 11 second) in
     ap (λ sets. record (in_world s hart Host) { registers = sets }) (answered_is hart x s.registers (HostOf hart) 0 first second is refl)
     ∙ ap back (ap (λ b. if b then Host else s.worlds hart) (sym (eq-eqb hart hart refl)))
 

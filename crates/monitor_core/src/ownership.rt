@@ -108,13 +108,7 @@ impl MonitorParts {
     }
 
     /// A word of an enclave's digest.
-    pub(crate) fn measure(
-        &mut self,
-        hart: u8,
-        id: u64,
-        k: u64,
-        changes: &mut SetChanges,
-    ) -> Served
+    pub(crate) fn measure(&mut self, hart: u8, id: u64, k: u64, changes: &mut SetChanges) -> Served
         requires on { IsOn self.old hart }
         ensures frame { KeepsFrame self.old self.new }
         ensures said { SaysLater changes.old changes.new }

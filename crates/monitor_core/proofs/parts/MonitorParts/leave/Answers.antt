@@ -1,4 +1,4 @@
-use Rattle.std.proofs.Common.{◌≡◌, ◌∙◌, ℕ, ap, sym, subst}
+use Rattle.std.proofs.Common.{◌∙◌, ℕ, ap, sym, subst}
 use Rattle.enclave_table.specs.Lives.{Leaves, state_after}
 use Rattle.sbi_decode.specs.Registers.{zeros}
 use Rattle.sbi_decode.specs.declared.world.World.TheVariants.{Host}

@@ -1,7 +1,6 @@
 use Rattle.std.proofs.Common.{◌∙◌, ap}
-use Rattle.sbi_decode.specs.Registers.{zeros}
 use Rattle.sbi_decode.specs.Runners.{EnclaveOf, runner_of}
-use Rattle.monitor_core.specs.Changes.{answering, with_registers}
+use Rattle.monitor_core.specs.Changes.{answering}
 use Rattle.monitor_core.specs.Parts.{state_in, world_in}
 use Rattle.monitor_core.specs.SetChanges.{change, owner_of}
 use Rattle.monitor_core.proofs.Said.{answered_is, cleared_is, owner_is}
