@@ -45,7 +45,8 @@ impl MonitorParts {
     ghost use Rattle.monitor_core.specs.Steps.{DoesCall, DoesEnter, Interrupts};
     ghost use Rattle.sbi_decode.specs.declared.calls.Call.TheVariants as calls;
 
-    /// Run and resume: an enclave goes on on a hart.
+    /// Run and resume: an enclave goes on on a hart. It is inlined, so that its answer is no block that goes byte by byte.
+    #[inline(always)]
     pub(crate) fn enter(
         &mut self,
         hart: u8,

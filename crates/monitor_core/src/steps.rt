@@ -170,7 +170,7 @@ impl Core {
         requires awake { marks_of self.old hart ≡ false }
         ensures step { (sets : Runner → RegisterFile) → let s = state_of self.old sets in
             let file = past_call (running_registers s hart) in
-            call_of file ≡ call_of asked.now
+            call_of (running_registers s hart) ≡ call_of asked.now
             → DoesCall (call_of file) (D.digest_of digests.now) (with_running s hart file) hart
             result.answer result.zero (state_of self.new (changed hart changes.new sets)) }
         ensures sets { AreOfSets changes.new }
