@@ -13,9 +13,10 @@ use Rattle.monitor_core.specs.declared.set_changes.ChangeKind.TheVariants as kin
 use Rattle.monitor_core.specs.declared.set_changes.SetChange.{SetChange}
 use Rattle.monitor_core.specs.Changes.{back_to_host, in_world, past_call, with_registers}
 use Rattle.monitor_core.specs.Frames.{LoadsAnew}
-use Rattle.monitor_core.specs.Parts.{bare, state_in}
+use Rattle.monitor_core.specs.Parts.{HoldsTogether, bare, state_in, world_in}
 use Rattle.monitor_core.specs.SetChanges.{change, changed_by, owner_of, with_set}
 use Rattle.monitor_core.specs.States.{MonitorState}
+use Rattle.monitor_core.proofs.Currents.{current_from}
 
 -- sets are the same where each one is
 pub same_sets : {these those : Runner → RegisterFile} → ((who : Runner) → these who ≡ those who) → these ≡ those
@@ -27,13 +28,20 @@ owner_is hart zero low = absurd (omega (arith, low))
 owner_is hart (suc n) low = refl
 
 -- a world that is current has a set
-pub current_world : (table : EnclaveTable) (world : World) → length table.enclaves ≡ 64 → IsCurrent table world → IsWorld world
+current_world : (table : EnclaveTable) (world : World) → length table.enclaves ≡ 64 → IsCurrent table world → IsWorld world
 current_world table Host places is = tt
 current_world table (InEnclave id) places is =
     let inside = live_inside table.enclaves id is.0 is.1 in (
       live_above table.enclaves id is.0 is.1,
       omega (arith, inside, places),
     )
+
+-- so does the world on each hart
+pub world_has_set : (parts : MonitorParts) (hart : ℕ) → length parts.table.table.enclaves ≡ 64 → HoldsTogether parts.table parts.worlds parts.marked
+    → IsWorld (world_in parts.worlds hart)
+world_has_set parts hart places w =
+    let world = world_in parts.worlds hart in
+    current_world parts.table.table world places (current_from parts.table.table world (w.current hart))
 
 -- one kind of change after another
 pub nothing_is : (hart : ℕ) (x : SetChange) (sets : Runner → RegisterFile) → x.kind ≡ kinds.Nothing → change hart x sets ≡ sets

@@ -22,8 +22,8 @@ pub record KeepsFrame (old new : MonitorParts) : Type 0 where
   pub layout : new.table.table.layout ≡ old.table.table.layout
   pub lists : new.table.table ≡ old.table.table → new.table ≡ old.table
 
--- after the first of three changes was said, so were the others: it stays, and they are of sets that
--- there are
+-- the second change and the third were said: the first stays as it was said before, and they are of
+-- sets that there are
 pub record SaysLater (old new : SetChanges) : Type 0 where
   pub first : new.first ≡ old.first
   pub second : new.second.enclave ≤ 64
