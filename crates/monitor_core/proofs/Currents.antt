@@ -6,6 +6,8 @@ use Rattle.enclave_table.specs.Tables.{IsCurrent}
 use Rattle.enclave_table.specs.declared.enclave.Enclave.{Enclave}
 use Rattle.enclave_table.specs.declared.enclave.Stage.{Stage}
 use Rattle.enclave_table.specs.declared.enclave.Stage.TheVariants.{Fresh, Running, Stopped, Exited}
+use Rattle.sbi_decode.specs.Registers.{RegisterFile}
+use Rattle.sbi_decode.specs.Runners.{Runner}
 use Rattle.sbi_decode.specs.declared.world.World.{World}
 use Rattle.sbi_decode.specs.declared.world.World.TheVariants.{Host, Enclave as InEnclave}
 use Rattle.enclave_table.proofs.Places.{live_place, set_other}
@@ -59,8 +61,8 @@ current_other table id slot Host above other is = tt
 current_other table id slot (InEnclave k) above other is = (is.0, set_other table.enclaves id k slot above (λ e. other (ap InEnclave e)) ∙ is.1, is.2)
 
 -- each hart of the parts is where it may be
-pub placed_from : (parts : MonitorParts) → HoldsTogether parts.table parts.worlds parts.marked → ArePlaced (state_in parts)
-placed_from parts w = record {
+pub placed_from : (parts : MonitorParts) (sets : Runner → RegisterFile) → HoldsTogether parts.table parts.worlds parts.marked → ArePlaced (state_in parts sets)
+placed_from parts sets w = record {
   current = λ i low. current_from parts.table.table (world_in parts.worlds i) (w.current i);
   alone = λ i j id low also at there. w.alone i j id at there;
   held = held_from parts.table.table (world_in parts.worlds) w.held;

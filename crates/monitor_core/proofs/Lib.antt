@@ -18,6 +18,7 @@ pub mod Framed
 pub mod Marks
 pub mod Blank
 pub mod Put
+pub mod Said
 pub mod Running
 pub mod Switched
 pub mod Loaded

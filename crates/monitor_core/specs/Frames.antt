@@ -4,6 +4,7 @@ use Rattle.pmp_encoding.specs.Views.{in_range, SameView}
 use Rattle.pmp_encoding.specs.declared.pages.PageRange.{PageRange}
 use Rattle.platforms.specs.Platform.{PlatformLayout, is_ram}
 use Rattle.monitor_core.specs.declared.parts.MonitorParts.{MonitorParts}
+use Rattle.monitor_core.specs.declared.set_changes.SetChanges.{SetChanges}
 use Rattle.monitor_core.specs.Parts.{HoldsTogether}
 use Rattle.monitor_core.specs.States.{MonitorState}
 use Rattle.enclave_table.specs.Views.{current_view}
@@ -20,6 +21,13 @@ pub record KeepsFrame (old new : MonitorParts) : Type 0 where
   pub whole : HoldsTogether new.table new.worlds new.marked
   pub layout : new.table.table.layout ≡ old.table.table.layout
   pub lists : new.table.table ≡ old.table.table → new.table ≡ old.table
+
+-- the second change and the third were said: the first stays as it was said before, and they are of
+-- sets that there are
+pub record SaysLater (old new : SetChanges) : Type 0 where
+  pub first : new.first ≡ old.first
+  pub second : new.second.enclave ≤ 64
+  pub third : new.third.enclave ≤ 64
 
 -- the entries of a hart are to be loaded anew exactly where the table changed, or the world on the
 -- hart

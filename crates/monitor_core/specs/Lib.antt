@@ -1,10 +1,12 @@
 pub mod States
 pub mod Changes
+pub mod SetChanges
 pub mod Answers
 pub mod Steps
 pub mod Switches
 pub mod RegisterSets
 pub mod Parts
+pub mod Cores
 pub mod Frames
 pub mod Loads
 pub mod Measured

@@ -1,4 +1,4 @@
--- The parts of the monitor: the state that they show, and what is true of them together.
+-- The parts of the core: the state that they show, and what is true of them together.
 use Rattle.std.specs.Prelude.{◌≡◌, ℕ, zero, suc, ◌≤◌, Bool, true, false, ◌||◌, ◌==◌, List, Option}
 use Rattle.std.specs.Prelude.{None, Some, slice_index_or}
 use Rattle.enclave_table.specs.Tables.{Kept}
@@ -8,9 +8,10 @@ use Rattle.enclave_table.specs.declared.enclave.Stage.{Stage}
 use Rattle.enclave_table.specs.declared.enclave.Stage.TheVariants.{Running}
 use Rattle.sbi_decode.specs.declared.world.World.{World}
 use Rattle.sbi_decode.specs.declared.world.World.TheVariants.{Host, Enclave as InEnclave}
+use Rattle.sbi_decode.specs.Registers.{RegisterFile, zeros}
+use Rattle.sbi_decode.specs.Runners.{Runner}
 use Rattle.monitor_core.specs.declared.parts.MonitorParts.{MonitorParts}
 use Rattle.monitor_core.specs.Changes.{is_host}
-use Rattle.monitor_core.specs.RegisterSets.{registers_in}
 use Rattle.monitor_core.specs.States.{MonitorState}
 
 -- the world on a hart, and whether it is marked
@@ -20,14 +21,18 @@ world_in worlds hart = slice_index_or worlds hart Host
 abbrev pub mark_in : List Bool → ℕ → Bool
 mark_in marked hart = slice_index_or marked hart false
 
--- the state that the parts show
-abbrev pub state_in : MonitorParts → MonitorState
-state_in parts = record {
+-- the state that the parts and these register sets are
+abbrev pub state_in : MonitorParts → (Runner → RegisterFile) → MonitorState
+state_in parts sets = record {
   table = parts.table.table;
   worlds = world_in parts.worlds;
-  registers = registers_in parts.registers;
+  registers = sets;
   marked = mark_in parts.marked;
 }
+
+-- the same with every set zero, for what does not speak of sets
+abbrev pub bare : MonitorParts → MonitorState
+bare parts = state_in parts (λ who. zeros)
 
 -- the host, or an enclave that is Running, as truth values
 abbrev pub is_run : Stage → Bool

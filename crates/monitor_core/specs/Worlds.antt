@@ -1,12 +1,17 @@
 -- In which world each hart is.
-use Rattle.std.specs.Prelude.{◌≡◌, ℕ, ◌<◌, true}
-use Rattle.enclave_table.specs.Enclaves.{EnclaveTable, Live}
+use Rattle.std.specs.Prelude.{◌≡◌, ℕ, ◌<◌, true, None}
+use Rattle.enclave_table.specs.Enclaves.{EnclaveTable, Live, enclave_at}
 use Rattle.enclave_table.specs.Tables.{IsCurrent}
 use Rattle.enclave_table.specs.declared.enclave.Enclave.{Enclave}
 use Rattle.enclave_table.specs.declared.enclave.Stage.TheVariants.{Running}
 use Rattle.sbi_decode.specs.declared.world.World.{World}
 use Rattle.sbi_decode.specs.declared.world.World.TheVariants.{Host, Enclave as InEnclave}
 use Rattle.monitor_core.specs.States.{MonitorState}
+
+-- the world of an enclave that is not live
+abbrev pub IsNoWorld : EnclaveTable → World → Type 0
+IsNoWorld table Host = ⊥
+IsNoWorld table (InEnclave id) = enclave_at table.enclaves id ≡ None
 
 -- each enclave that is Running runs on a hart of the platform
 abbrev pub AreHeld : EnclaveTable → (ℕ → World) → Type 0

@@ -1,7 +1,6 @@
-//! The monitor as it is at boot.
+//! The core as it is at boot.
 
 use crate::parts::MonitorParts;
-use crate::register_sets::RegisterSets;
 use enclave_table::{Table, World};
 use platforms::{BootFault, Platform};
 use std::alloc::Global;
@@ -11,12 +10,12 @@ impl MonitorParts {
     ghost use Rattle.enclave_table.specs.Boot.{IsBootFault, opening_table};
     ghost use Rattle.enclave_table.specs.Fewest.{FitsIn};
     ghost use Rattle.enclave_table.specs.Views.{host_view};
-    ghost use Rattle.monitor_core.specs.Parts.{HoldsTogether, state_in};
+    ghost use Rattle.monitor_core.specs.Parts.{HoldsTogether, bare};
     ghost use Rattle.monitor_core.specs.States.{opening_monitor};
 
-    /// The parts of a platform at boot: no enclave, each hart in the host's world, all registers zero, no hart marked.
+    /// The parts of a platform at boot: no enclave, each hart in the host's world, no hart marked.
     pub(crate) fn boot(alloc: Global, platform: Platform) -> Result<MonitorParts, BootFault>
-        ensures state { IfOk result (λ p. state_in p ≡ opening_monitor platform) }
+        ensures state { IfOk result (λ p. bare p ≡ opening_monitor platform) }
         ensures whole { IfOk result (λ p. HoldsTogether p.table p.worlds p.marked) }
         ensures fits { IfOk result (λ _. FitsIn platform.limit
             (host_view (opening_table platform))) }
@@ -27,13 +26,9 @@ impl MonitorParts {
             Ok(table) => table,
             Err(fault) => return Err(fault),
         };
-        let Ok(registers) = RegisterSets::new(alloc) else {
-            return Err(BootFault::Memory);
-        };
         Ok(MonitorParts {
             table,
             worlds: [World::Host; 4],
-            registers,
             marked: [false; 4],
         })
     }

@@ -13,6 +13,10 @@
 //! that means it is shorter. A hart is marked where another hart's call changed the host's view: it loads the host's
 //! entries, and [`Monitor::wake`] takes the mark away, before it goes on.
 //!
+//! [`Core`] is the same monitor without registers, for a caller that keeps the register sets itself: one for the host of
+//! each hart, and one for each enclave. A call or an interrupt says what becomes of which set ([`SetChanges`]), and that this
+//! is a step of the same machine, whatever the sets are. A [`Monitor`] is a core with its sets, which it changes so.
+//!
 //! Only boot, and a creation or a destruction that passes its other checks, take memory.
 //!
 //! ```text
@@ -23,6 +27,10 @@
 //!     load(monitor.entries(hart));
 //! }
 //! go_on(monitor.registers(hart));
+//!
+//! let mut changes = SetChanges::none();
+//! let served = core.serve(hart, &arguments, &digests, &mut changes);
+//! put_changes(hart, &changes);
 //! ```
 #![tactic(auto)]
 
@@ -38,6 +46,8 @@ mod ownership;
 mod parts;
 mod refused;
 mod register_sets;
+mod set_changes;
+mod steps;
 
 pub use answer::{Answer, Served};
 pub use enclave_table::{Table, World};
@@ -47,3 +57,5 @@ pub use monitor::Monitor;
 pub use platforms::{BootFault, Platform};
 pub use pmp_encoding::{Entry, PageRange};
 pub use sbi_decode::Registers;
+pub use set_changes::{ChangeKind, SetChange, SetChanges};
+pub use steps::Core;

@@ -1,9 +1,9 @@
 //! The monitor.
 
-ghost use Rattle.monitor_core.specs.Parts.{HoldsTogether};
-
 use crate::answer::Served;
-use crate::parts::MonitorParts;
+use crate::register_sets::RegisterSets;
+use crate::set_changes::SetChanges;
+use crate::steps::Core;
 use enclave_table::{Table, World};
 use measurement::Digests;
 use platforms::{BootFault, Platform};
@@ -14,8 +14,8 @@ use std::alloc::Global;
 /// The table of enclaves, the worlds on one to four harts with their registers, and the harts that are marked.
 #[derive(Drop)]
 pub struct Monitor {
-    pub(crate) parts: MonitorParts,
-    pub ghost whole: { HoldsTogether parts.table parts.worlds parts.marked },
+    pub(crate) core: Core,
+    pub(crate) registers: RegisterSets,
 }
 
 impl Monitor {
@@ -50,13 +50,14 @@ impl Monitor {
             (host_view (opening_table platform))) }
         ensures fault { IfErr result (λ fault. IsBootFault platform fault) }
     {
-        match MonitorParts::boot(alloc, platform) {
-            Ok(parts) => {
-                parts.table.cite_invariant();
-                Ok(Monitor { parts })
-            }
-            Err(fault) => Err(fault),
-        }
+        let core = match Core::boot(alloc, platform) {
+            Ok(core) => core,
+            Err(fault) => return Err(fault),
+        };
+        let Ok(registers) = RegisterSets::new(alloc) else {
+            return Err(BootFault::Memory);
+        };
+        Ok(Monitor { core, registers })
     }
 
     /// What is true of every monitor: its table is sound; each hart is in the host's world or in that of an enclave that is
@@ -65,7 +66,7 @@ impl Monitor {
         ensures table { IsTable (state_by self.now).table }
         ensures worlds { ArePlaced (state_by self.now) }
     {
-        self.parts.table.cite_invariant();
+        self.core.cite_invariant();
     }
 
     /// How many harts there are, 1 to 4.
@@ -75,7 +76,7 @@ impl Monitor {
         ensures some { 0 < result }
         ensures most { result ≤ 4 }
     {
-        self.parts.table.platform().harts()
+        self.core.harts()
     }
 
     /// The table of enclaves.
@@ -84,7 +85,7 @@ impl Monitor {
         ensures kept { result.now ≡ kept_by self.now }
         ensures state { result.now.table ≡ (state_by self.now).table }
     {
-        &self.parts.table
+        self.core.table()
     }
 
     /// The world that runs on a hart.
@@ -93,7 +94,7 @@ impl Monitor {
         requires { hart < 4 }
         ensures { result ≡ (state_by self.now).worlds hart }
     {
-        self.parts.world(hart)
+        self.core.world(hart)
     }
 
     /// The registers of the world that runs on a hart, as they are kept: those that went on there last, or were put since.
@@ -102,7 +103,7 @@ impl Monitor {
         requires { hart < 4 }
         ensures { result.now ≡ running_registers (state_by self.now) hart }
     {
-        self.parts.running(hart)
+        self.registers.get(hart, self.core.world(hart))
     }
 
     /// The registers of the host on a hart, or of an enclave by its id, whether it runs or not, as they are kept.
@@ -112,7 +113,7 @@ impl Monitor {
         requires world { IsWorld world }
         ensures { result.now ≡ (state_by self.now).registers (runner_of hart world) }
     {
-        self.parts.registers.get(hart, world)
+        self.registers.get(hart, world)
     }
 
     /// Whether a hart is marked: it is to load its entries, and to be woken, before it goes on.
@@ -121,7 +122,7 @@ impl Monitor {
         requires { hart < 4 }
         ensures { result ≡ (state_by self.now).marked hart }
     {
-        self.parts.is_marked(hart)
+        self.core.is_marked(hart)
     }
 
     /// The PMP entries that a hart is to have: those of the view of the world that runs there, and no list of any regions
@@ -134,7 +135,7 @@ impl Monitor {
         ensures value { result.now
             ≡ list_of (kept_by self.now) ((state_by self.now).worlds hart) }
     {
-        self.parts.entries(hart)
+        self.core.entries(hart)
     }
 
     /// How many entries the view of the world on a hart needs, which are as many as [`Monitor::entries`].
@@ -143,7 +144,7 @@ impl Monitor {
         ensures { let s = state_by self.now in
             Needs (current_view s.table (s.worlds hart)) result }
     {
-        self.parts.entries(hart).len() as u64
+        self.core.used(hart)
     }
 
     /// The mark of a hart is taken away, which loads its entries before it goes on. Nothing else changes.
@@ -153,7 +154,7 @@ impl Monitor {
         ensures state { state_by self.new ≡ without_mark (state_by self.old) hart }
         ensures kept { kept_by self.new ≡ kept_by self.old }
     {
-        self.parts.clear_mark(hart);
+        self.core.wake(hart);
     }
 
     /// The registers of the world that runs on a hart are these now. Nothing else changes.
@@ -163,7 +164,8 @@ impl Monitor {
         ensures state { state_by self.new ≡ with_running (state_by self.old) hart registers.now }
         ensures kept { kept_by self.new ≡ kept_by self.old }
     {
-        self.parts.put_running(hart, registers);
+        let world = self.core.world(hart);
+        self.registers.set(hart, world, registers);
     }
 
     /// A register of the world that runs on a hart is set, by its number below 32. Nothing else changes.
@@ -174,7 +176,8 @@ impl Monitor {
             state_by self.new ≡ with_running s hart (with_x (running_registers s hart) n value) }
         ensures kept { kept_by self.new ≡ kept_by self.old }
     {
-        self.parts.set_register(hart, n, value);
+        let world = self.core.world(hart);
+        self.registers.set_one(hart, world, n, value);
     }
 
     /// The call that the world on a hart made, by its registers ([`Monitor::put_registers`]). The caller then makes the pages
@@ -199,8 +202,12 @@ impl Monitor {
             IsRefusedByNeed (call_of (running_registers s hart)) s.table (s.worlds hart)
             (λ refusal. result.answer.status ≡ below_zero (refusal_number refusal)) }
     {
-        self.parts.table.cite_invariant();
-        self.parts.serve(hart, digests)
+        self.core.cite_invariant();
+        let mut changes = SetChanges::none();
+        let asked = self.registers.get(hart, self.core.world(hart));
+        let served = self.core.serve(hart, asked, digests, &mut changes);
+        self.registers.apply(hart, &changes);
+        served
     }
 
     /// An enclave that is live has this digest now, where its pages are measured after it was made. Nothing else changes.
@@ -210,7 +217,7 @@ impl Monitor {
         ensures { (e : Enclave) → Live (state_by self.old).table id e
             → state_by self.new ≡ having_digest (state_by self.old) id e digest.now }
     {
-        self.parts.give_digest(id, digest);
+        self.core.give_digest(id, digest);
     }
 
     /// The timer's interrupt on a hart: an enclave is stopped, with the registers that it has, and the host goes on there. In
@@ -227,6 +234,10 @@ impl Monitor {
         ensures lists { (state_by self.new).table ≡ (state_by self.old).table
             → kept_by self.new ≡ kept_by self.old }
     {
-        self.parts.pause(hart)
+        self.core.cite_invariant();
+        let mut changes = SetChanges::none();
+        let load = self.core.interrupt(hart, &mut changes);
+        self.registers.apply(hart, &changes);
+        load
     }
 }

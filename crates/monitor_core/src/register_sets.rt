@@ -1,9 +1,12 @@
 //! The registers of every host and enclave, those that run too.
 
-ghost use Rattle.std.specs.Prelude.{◌≡◌, IfOk, length, replicate};
+ghost use Rattle.std.specs.Prelude.{◌≡◌, ◌≤◌, ℕ, IfOk, length, replicate};
 ghost use Rattle.sbi_decode.specs.Registers.{zeros};
+ghost use Rattle.sbi_decode.specs.Runners.{IsWorld, runner_of};
+ghost use Rattle.monitor_core.specs.SetChanges.{owner_of};
 
-use crate::call_registers::{go_past_call, put_answer};
+use crate::call_registers::{first_registers, go_past_call, put_answer};
+use crate::set_changes::{ChangeKind, SetChange, SetChanges};
 use sbi_decode::{Registers, World};
 use std::alloc::{AllocError, Global};
 
@@ -28,11 +31,24 @@ fn enclave_sets(alloc: Global) -> Result<Vec<Registers>, AllocError>
     Ok(sets)
 }
 
+/// The world whose set a number names: 0 the host's, any other that of the enclave of this id.
+fn world_of(enclave: u64) -> World
+    requires { enclave ≤ 64 }
+    ensures owner { (hart : ℕ) → runner_of hart result ≡ owner_of hart enclave }
+    ensures world { IsWorld result }
+{
+    if enclave == 0 {
+        return World::Host;
+    }
+    World::Enclave(enclave)
+}
+
 impl RegisterSets {
     ghost use Rattle.std.specs.Prelude.{◌<◌, if◌then◌else◌};
-    ghost use Rattle.sbi_decode.specs.Runners.{Runner, runner_of, IsWorld};
+    ghost use Rattle.sbi_decode.specs.Runners.{Runner};
     ghost use Rattle.monitor_core.specs.Changes.{is_same, past_call, with_x};
     ghost use Rattle.monitor_core.specs.RegisterSets.{registers_in};
+    ghost use Rattle.monitor_core.specs.SetChanges.{AreOfSets, change, changed};
 
     /// Every set zero.
     pub(crate) fn new(alloc: Global) -> Result<RegisterSets, AllocError>
@@ -116,5 +132,36 @@ impl RegisterSets {
             World::Host => put_answer(&mut self.hosts[hart as usize], first, second),
             World::Enclave(id) => put_answer(&mut self.enclaves[id as usize - 1], first, second),
         }
+    }
+
+    /// One set changes by what a core said.
+    fn change(&mut self, hart: u8, told: &SetChange)
+        requires hart { hart < 4 }
+        requires set { told.now.enclave ≤ 64 }
+        ensures { (who : Runner) → registers_in self.new who
+            ≡ change hart told.now (registers_in self.old) who }
+    {
+        let world = world_of(told.enclave);
+        match told.kind {
+            ChangeKind::Nothing => {}
+            ChangeKind::PastCall => self.pass_call(hart, world),
+            ChangeKind::Answer => self.answer(hart, world, told.first, told.second),
+            ChangeKind::Begin => {
+                self.set(hart, world, &first_registers(told.first, told.enclave))
+            }
+            ChangeKind::Clear => self.set(hart, world, &Registers::new()),
+        }
+    }
+
+    /// The sets change by what a core said, one change after another.
+    pub(crate) fn apply(&mut self, hart: u8, changes: &SetChanges)
+        requires hart { hart < 4 }
+        requires sets { AreOfSets changes.now }
+        ensures { (who : Runner) → registers_in self.new who
+            ≡ changed hart changes.now (registers_in self.old) who }
+    {
+        self.change(hart, &changes.first);
+        self.change(hart, &changes.second);
+        self.change(hart, &changes.third);
     }
 }

@@ -1,11 +1,13 @@
-use Rattle.std.proofs.Common.{subst, ap}
-use Rattle.platforms.specs.Platform.{IsLayout}
+use Rattle.std.proofs.Common.{◌∙◌, ap}
 use Rattle.monitor_core.specs.Monitors.{state_by}
+use Rattle.monitor_core.specs.RegisterSets.{registers_in}
+use Rattle.monitor_core.specs.States.{opening_monitor}
+use Rattle.monitor_core.proofs.Said.{same_sets}
 use Rattle.monitor_core.proofs.monitor.Monitor.boot.Goals as goal
 
-pub returns-in-Ok-clause-state : goal.returns-in-Ok-clause-state
+pub returns-clause-state : goal.returns-clause-state
 unfolding state_by
-returns-in-Ok-clause-state c = c.in-Ok.ensures.state
-
-pub returns-in-Ok-clause-rules : goal.returns-in-Ok-clause-rules
-returns-in-Ok-clause-rules c = subst (λ t. IsLayout t.layout) (ap (λ s. s.table) c.in-Ok.ensures.state) c.cite_invariant.ensures.table.layout
+returns-clause-state c =
+    let sets = c.in-Ok-new.registers in
+    c.in-Ok.ensures.state (registers_in sets)
+    ∙ ap (λ f. record (opening_monitor c.args.platform) { registers = f }) (same_sets c.in-Ok-new.ensures)

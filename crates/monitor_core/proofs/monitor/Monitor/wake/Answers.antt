@@ -1,17 +1,11 @@
-use Rattle.std.proofs.Common.{◌==◌, ◌∙◌, refl, ap, sym}
-use Rattle.monitor_core.specs.Parts.{mark_in}
-use Rattle.monitor_core.proofs.Framed.{whole_same}
-use Rattle.monitor_core.proofs.Marks.{was_marked}
-use Rattle.monitor_core.proofs.Moved.{whole_marked}
+use Rattle.monitor_core.specs.Monitors.{state_by, kept_by}
+use Rattle.monitor_core.specs.RegisterSets.{registers_in}
 use Rattle.monitor_core.proofs.monitor.Monitor.wake.Goals as goal
 
-pub invariant_of-self : goal.invariant_of-self
-invariant_of-self c =
-    let old = c.args.self.now.parts in
-    let whole = c.args.self.now.whole in
-    let new = c.clear_mark.new.self in
-    record {
-      whole = whole_same old.table new.table old.worlds new.worlds new.marked new.marked c.clear_mark.ensures.table c.clear_mark.ensures.worlds refl
-          (whole_marked old.table old.worlds old.marked new.marked whole
-          (λ i on. whole.hosted i (was_marked (i == c.args.hart) (mark_in old.marked i) (sym (ap (λ s. s.marked i) c.clear_mark.ensures.state) ∙ on))));
-    }
+pub returns-clause-state : goal.returns-clause-state
+unfolding state_by
+returns-clause-state c = c.wake.ensures.state (registers_in c.args.self.now.registers)
+
+pub returns-clause-kept : goal.returns-clause-kept
+unfolding kept_by
+returns-clause-kept c = c.wake.ensures.kept

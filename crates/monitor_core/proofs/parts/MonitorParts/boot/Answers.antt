@@ -1,4 +1,4 @@
-use Rattle.std.proofs.Common.{◌≡◌, ◌∙◌, ◌≤◌, ap, sym, subst, arith}
+use Rattle.std.proofs.Common.{◌≡◌, ◌∙◌, ◌≤◌, ap, sym, subst, arith, refl}
 use Rattle.enclave_table.specs.Enclaves.{Live}
 use Rattle.sbi_decode.specs.declared.world.World.TheVariants.{Host, Enclave as InEnclave}
 use Rattle.monitor_core.specs.Changes.{is_host}
@@ -12,7 +12,7 @@ pub returns-clause-state : goal.returns-clause-state
 returns-clause-state c = equal (record {
   table = c.in-Ok.ensures.opening;
   worlds = λ hart. at_host 4 hart;
-  registers = λ who. c.in-Ok-new.ensures who;
+  registers = λ who. refl;
   marked = λ hart. no_mark 4 hart;
 })
 

@@ -1,38 +1,44 @@
-use Rattle.std.proofs.Common.{◌≡◌, ◌∙◌, inl, inr, refl, ap, sym, subst}
-use Rattle.enclave_table.specs.Lives.{Leaves}
-use Rattle.enclave_table.specs.declared.refusal.Refusal.TheVariants.{NotEnclave}
-use Rattle.enclave_table.specs.declared.enclave.Stage.TheVariants.{Exited}
-use Rattle.sbi_decode.specs.declared.world.World.TheVariants.{Host, Enclave as InEnclave}
-use Rattle.sbi_decode.specs.Runners.{EnclaveOf}
+use Rattle.std.proofs.Common.{◌∙◌, inl, inr, refl, ap, subst}
+use Rattle.enclave_table.specs.Refusals.{refusal_number}
 use Rattle.sbi_decode.specs.Registers.{zeros}
-use Rattle.monitor_core.specs.Changes.{back_to_host, with_registers}
-use Rattle.monitor_core.specs.Parts.{state_in, world_in}
-use Rattle.monitor_core.proofs.Moved.{same_id}
+use Rattle.sbi_decode.specs.Runners.{EnclaveOf, runner_of}
+use Rattle.sbi_decode.specs.declared.world.World.TheVariants.{Host}
+use Rattle.monitor_core.specs.Changes.{in_world, with_registers}
+use Rattle.monitor_core.specs.Parts.{state_in}
+use Rattle.monitor_core.specs.SetChanges.{change, later, owner_of}
+use Rattle.monitor_core.specs.Steps.{Refuses}
+use Rattle.monitor_core.proofs.Said.{back_said, cleared_is}
 use Rattle.monitor_core.proofs.parts.MonitorParts.exit.Goals as goal
 
-pub returns-in-Host-clause-step : goal.returns-in-Host-clause-step
-returns-in-Host-clause-step c =
-    let at : world_in c.args.self.now.worlds c.args.hart ≡ Host = sym c.world.ensures ∙ c.in-Host.is in
-    inr (NotEnclave, inl (refl, λ p. let z : Host ≡ InEnclave p.0 = sym at ∙ p.1 in absurd cc), c.refuse_for.ensures.step)
-
 pub returns-in-Ok-clause-step : goal.returns-in-Ok-clause-step
-returns-in-Ok-clause-step c =
+returns-in-Ok-clause-step c = λ sets.
     let old = c.args.self.now in
-    let mid = c.drop_registers.new.self in
-    let now = c.leave.new.self.table.table in
+    let hart = c.args.hart in
     let d = c.in-Ok.ensures.done in
-    let still : world_in mid.worlds c.args.hart ≡ world_in old.worlds c.args.hart = ap (λ ws. world_in ws c.args.hart) c.drop_registers.ensures.worlds in
-    let left = subst (λ k. Leaves k.table (world_in mid.worlds c.args.hart) Exited d.0 now) c.drop_registers.ensures.table d.1 in
-    let there = subst (λ w. Leaves old.table.table w Exited d.0 now) still left in
-    let same : c.in-Enclave.id ≡ d.0 = same_id d.0 c.in-Enclave.id (sym there.left ∙ sym c.world.ensures ∙ c.in-Enclave.is) in
+    let now = c.leave.new.self.table.table in
+    let second = c.clear.new.self in
+    let third = c.answer.new.self in
+    let own = cleared_is hart second sets (EnclaveOf d.0) c.clear.ensures.kind
+    (ap (owner_of hart) c.clear.ensures.enclave ∙ c.running-enclave.ensures.owner ∙ ap (runner_of hart) d.1.left) in
     inl (
       d.0,
       now,
-      there,
+      d.1,
       record {
-        state = d.2 ∙ ap (λ s. back_to_host (record s { table = now }) c.args.hart 0 c.args.value) c.drop_registers.ensures.state
-            ∙ ap (λ id. back_to_host (with_registers (record (state_in old) { table = now }) (EnclaveOf id) zeros) c.args.hart 0 c.args.value) same;
+        state = c.in-Ok.ensures.state (change hart third (change hart second sets))
+            ∙ ap (λ f. in_world (record (state_in old (change hart third f)) { table = now }) hart Host) own
+            ∙ back_said (with_registers (record (state_in old sets) { table = now }) (EnclaveOf d.0) zeros) hart 0 c.args.value third c.answer.ensures;
         told = c.done.ensures;
         zeroes = refl;
       },
+    )
+
+pub returns-in-Err-clause-step : goal.returns-in-Err-clause-step
+returns-in-Err-clause-step c = λ sets.
+    let said = c.refuse_for.result in
+    inr (
+      c.in-Err.refusal,
+      c.in-Err.ensures.refused,
+      subst (λ p. Refuses (refusal_number c.in-Err.refusal) (state_in p sets) c.args.hart said.answer said.zero
+          (state_in c.refuse_for.new.self (later c.args.hart c.refuse_for.new.changes sets))) c.in-Err.ensures.kept (c.refuse_for.ensures.step sets),
     )

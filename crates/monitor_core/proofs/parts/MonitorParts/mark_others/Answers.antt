@@ -1,7 +1,6 @@
 use Rattle.std.proofs.Common.{◌≡◌, ◌∙◌, ◌==◌, ◌&&◌, ◌||◌, nat_lt, if◌then◌else◌, refl, ap, sym, arith, rules}
 use Rattle.monitor_core.specs.Changes.{is_host}
 use Rattle.monitor_core.specs.Parts.{mark_in, world_in}
-use Rattle.monitor_core.specs.RegisterSets.{registers_in}
 use Rattle.monitor_core.proofs.Equal.{equal}
 use Rattle.monitor_core.proofs.Framed.{whole_same}
 use Rattle.monitor_core.proofs.Marks.{hosted, mark_is}
@@ -12,7 +11,7 @@ pub returns-clause-table : goal.returns-clause-table
 returns-clause-table c = c.loop-other.invariant.table
 
 pub returns-clause-state : goal.returns-clause-state
-returns-clause-state c =
+returns-clause-state c = λ sets.
     let old = c.args.self.now in
     let inv = c.loop-other.invariant in
     let many : c.harts-harts.result ≡ old.table.table.layout.harts = c.harts-harts.ensures.value ∙ ap (λ l. l.harts) c.platform.ensures in
@@ -20,7 +19,7 @@ returns-clause-state c =
     equal (record {
       table = ap (λ k. k.table) inv.table;
       worlds = λ h. ap (λ ws. world_in ws h) inv.worlds;
-      registers = λ who. ap (λ sets. registers_in sets who) inv.registers;
+      registers = λ who. refl;
       marked = λ h. inv.marks h ∙ mark_is (nat_lt h c.loop-other.other) (h == c.args.hart) (is_host (world_in old.worlds h)) (mark_in old.marked h)
           ∙ ap (λ k. if h == c.args.hart then mark_in old.marked h else (nat_lt h k && is_host (world_in old.worlds h) || mark_in old.marked h)) (end ∙ many);
     })

@@ -7,7 +7,6 @@ abbrev pub invariant-loop-other : goal.invariant-loop-other
 invariant-loop-other l = record {
   table : l.self.table ≡ l.fn.self.table;
   worlds : l.self.worlds ≡ l.fn.self.worlds;
-  registers : l.self.registers ≡ l.fn.self.registers;
   marks : (h : ℕ) → mark_in l.self.marked h ≡ (if nat_lt h l.other && not (h == l.hart) && is_host
       (world_in l.fn.self.worlds h) then true else mark_in l.fn.self.marked h);
 }

@@ -1,0 +1,30 @@
+-- The core of the monitor as its caller sees it, who keeps the register sets.
+use Rattle.std.specs.Prelude.{ℕ, Bool}
+use Rattle.enclave_table.specs.Tables.{Kept}
+use Rattle.sbi_decode.specs.Registers.{RegisterFile}
+use Rattle.sbi_decode.specs.Runners.{Runner}
+use Rattle.sbi_decode.specs.declared.world.World.{World}
+use Rattle.monitor_core.specs.declared.steps.Core.{Core}
+use Rattle.monitor_core.specs.Parts.{mark_in, world_in}
+use Rattle.monitor_core.specs.States.{MonitorState}
+
+-- its table of enclaves, with the list of entries that is kept for each view
+unfoldable pub kept_of : Core → Kept
+kept_of core = core.parts.table
+
+-- the world on each hart
+unfoldable pub worlds_of : Core → ℕ → World
+worlds_of core = world_in core.parts.worlds
+
+-- which harts are marked
+unfoldable pub marks_of : Core → ℕ → Bool
+marks_of core = mark_in core.parts.marked
+
+-- the state of the monitor where these are the register sets
+abbrev pub state_of : Core → (Runner → RegisterFile) → MonitorState
+state_of core sets = record {
+  table = (kept_of core).table;
+  worlds = worlds_of core;
+  registers = sets;
+  marked = marks_of core;
+}

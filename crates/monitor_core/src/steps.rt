@@ -1,0 +1,225 @@
+//! The core of the monitor, which keeps no registers.
+
+ghost use Rattle.monitor_core.specs.Parts.{HoldsTogether};
+
+use crate::answer::Served;
+use crate::parts::MonitorParts;
+use crate::set_changes::SetChanges;
+use enclave_table::{Table, World};
+use measurement::Digests;
+use platforms::{BootFault, Platform};
+use pmp_encoding::Entry;
+use sbi_decode::Registers;
+use std::alloc::Global;
+
+/// The table of enclaves, the worlds on one to four harts, and the harts that are marked. The register set of each hart's
+/// host and of each enclave lies with the caller: it is told what becomes of which.
+#[derive(Drop)]
+pub struct Core {
+    pub(crate) parts: MonitorParts,
+    pub ghost whole: { HoldsTogether parts.table parts.worlds parts.marked },
+}
+
+impl Core {
+    ghost use Rattle.std.specs.Prelude.{◌≡◌, ◌<◌, ◌≤◌, ℕ, List, false, length, IfOk, IfErr, IfNone, IfSome};
+    ghost use Rattle.pmp_encoding.specs.Limits.{limit_number};
+    ghost use Rattle.pmp_match.specs.Meaning.{IsFewest, Needs};
+    ghost use Rattle.enclave_table.specs.Boot.{IsBootFault, opening_table};
+    ghost use Rattle.enclave_table.specs.Enclaves.{Live};
+    ghost use Rattle.enclave_table.specs.declared.enclave.Enclave.{Enclave};
+    ghost use Rattle.enclave_table.specs.Fewest.{FitsIn};
+    ghost use Rattle.platforms.specs.Platform.{IsLayout};
+    ghost use Rattle.enclave_table.specs.Tables.{IsTable};
+    ghost use Rattle.enclave_table.specs.Views.{host_view, current_view};
+    ghost use Rattle.sbi_decode.specs.Calls.{call_of};
+    ghost use Rattle.sbi_decode.specs.Registers.{RegisterFile};
+    ghost use Rattle.sbi_decode.specs.Runners.{IsWorld, Runner};
+    ghost use Rattle.monitor_core.specs.Changes.{having_digest, past_call, with_running, without_mark};
+    ghost use Rattle.monitor_core.specs.Cores.{kept_of, marks_of, state_of, worlds_of};
+    ghost use Rattle.monitor_core.specs.Frames.{LoadsAnew, KeepsOthers, ClearsMemory};
+    ghost use Rattle.monitor_core.specs.Monitors.{list_of};
+    ghost use Rattle.monitor_core.specs.SetChanges.{AreOfSets, changed};
+    ghost use Rattle.monitor_core.specs.States.{opening_monitor, running_registers};
+    ghost use Rattle.monitor_core.specs.Steps.{DoesCall, Interrupts};
+    ghost use Rattle.monitor_core.specs.Worlds.{ArePlaced, IsNoWorld};
+    ghost use Rattle.monitor_core.specs.Wants.{IsRefusedByNeed};
+    ghost use Rattle.monitor_core.specs.Answers.{below_zero};
+    ghost use Rattle.enclave_table.specs.Refusals.{refusal_number};
+
+    /// The core of a platform: no enclave, each hart in the host's world, no hart marked. Each register set is to be zero. It
+    /// is refused where the host's view needs more entries than the platform has, and where memory is.
+    pub fn boot(alloc: Global, platform: Platform) -> Result<Core, BootFault>
+        ensures state { IfOk result (λ core. (sets : Runner → RegisterFile)
+            → state_of core sets ≡ record (opening_monitor platform) { registers = sets }) }
+        ensures rules { IfOk result (λ _. IsLayout platform) }
+        ensures fits { IfOk result (λ _. FitsIn platform.limit
+            (host_view (opening_table platform))) }
+        ensures fault { IfErr result (λ fault. IsBootFault platform fault) }
+    {
+        match MonitorParts::boot(alloc, platform) {
+            Ok(parts) => {
+                parts.table.cite_invariant();
+                Ok(Core { parts })
+            }
+            Err(fault) => Err(fault),
+        }
+    }
+
+    /// What is true of every core, with any register sets: its table is sound; each hart is in the host's world or in that
+    /// of an enclave that is Running; no enclave runs on two, and each that is Running runs on one; and a marked hart is in
+    /// the host's world.
+    pub fn cite_invariant(&self)
+        ensures table { IsTable (kept_of self.now).table }
+        ensures worlds { (sets : Runner → RegisterFile) → ArePlaced (state_of self.now sets) }
+    {
+        self.parts.table.cite_invariant();
+    }
+
+    /// How many harts there are, 1 to 4.
+    #[tactic(auto, unfolding(crate::specs::Cores::kept_of))]
+    pub fn harts(&self) -> u8
+        ensures value { result ≡ (kept_of self.now).table.layout.harts }
+        ensures some { 0 < result }
+        ensures most { result ≤ 4 }
+    {
+        self.parts.table.platform().harts()
+    }
+
+    /// The table of enclaves.
+    #[tactic(auto, unfolding(crate::specs::Cores::kept_of))]
+    pub fn table(&self) -> &Table
+        ensures { result.now ≡ kept_of self.now }
+    {
+        &self.parts.table
+    }
+
+    /// The world that runs on a hart.
+    #[tactic(auto, unfolding(crate::specs::Cores::worlds_of))]
+    pub fn world(&self, hart: u8) -> World
+        requires { hart < 4 }
+        ensures value { result ≡ worlds_of self.now hart }
+        ensures is_world { IsWorld result }
+    {
+        self.parts.table.cite_invariant();
+        self.parts.world(hart)
+    }
+
+    /// Whether a hart is marked: it is to load its entries, and to be woken, before it goes on.
+    #[tactic(auto, unfolding(crate::specs::Cores::marks_of))]
+    pub fn is_marked(&self, hart: u8) -> bool
+        requires { hart < 4 }
+        ensures { result ≡ marks_of self.now hart }
+    {
+        self.parts.is_marked(hart)
+    }
+
+    /// The PMP entries that a hart is to have: those of the view of the world that runs there, and no list of any regions
+    /// in any order that means that view is shorter.
+    pub fn entries(&self, hart: u8) -> &[Entry]
+        requires { hart < 4 }
+        ensures fewest { IsFewest (current_view (kept_of self.now).table (worlds_of self.now hart))
+            result.now }
+        ensures room { length result.now ≤ limit_number (kept_of self.now).table.layout.limit }
+        ensures value { result.now ≡ list_of (kept_of self.now) (worlds_of self.now hart) }
+    {
+        self.parts.entries(hart)
+    }
+
+    /// The PMP entries of the host's view, or of that of an enclave that is live, whether it runs or not.
+    pub fn entries_of(&self, world: World) -> Option<&[Entry]>
+        ensures none { IfNone result (IsNoWorld (kept_of self.now).table world) }
+        ensures fewest { IfSome result (λ entries.
+            IsFewest (current_view (kept_of self.now).table world) entries.now) }
+        ensures room { IfSome result (λ entries.
+            length entries.now ≤ limit_number (kept_of self.now).table.layout.limit) }
+        ensures value { IfSome result (λ entries. entries.now ≡ list_of (kept_of self.now) world) }
+    {
+        self.parts.entries_of(world)
+    }
+
+    /// How many entries the view of the world on a hart needs, which are as many as [`Core::entries`].
+    pub fn used(&self, hart: u8) -> u64
+        requires { hart < 4 }
+        ensures { Needs (current_view (kept_of self.now).table (worlds_of self.now hart)) result }
+    {
+        self.parts.entries(hart).len() as u64
+    }
+
+    /// The mark of a hart is taken away, which loads its entries before it goes on. Nothing else changes.
+    pub fn wake(&mut self, hart: u8)
+        requires { hart < 4 }
+        ensures state { (sets : Runner → RegisterFile)
+            → state_of self.new sets ≡ without_mark (state_of self.old sets) hart }
+        ensures kept { kept_of self.new ≡ kept_of self.old }
+    {
+        self.parts.clear_mark(hart);
+    }
+
+    /// The call of the world on a hart, which these registers name; of them a0 to a7 alone are read. It says what becomes of
+    /// the register sets, whatever they are. The caller then makes the pages in `zero` zero, loads the entries of the hart
+    /// where it is asked to, and stops every other hart that is marked now until it was woken; then the hart goes on with the
+    /// set of its world.
+    pub fn serve<D: Digests>(
+        &mut self,
+        hart: u8,
+        asked: &Registers,
+        digests: &D,
+        changes: &mut SetChanges,
+    ) -> Served
+        requires hart { hart < (kept_of self.old).table.layout.harts }
+        requires awake { marks_of self.old hart ≡ false }
+        ensures step { (sets : Runner → RegisterFile) → let s = state_of self.old sets in
+            let file = past_call (running_registers s hart) in
+            call_of (running_registers s hart) ≡ call_of asked.now
+            → DoesCall (call_of file) (D.digest_of digests.now) (with_running s hart file) hart
+            result.answer result.zero (state_of self.new (changed hart changes.new sets)) }
+        ensures sets { AreOfSets changes.new }
+        ensures load { (before after : Runner → RegisterFile)
+            → LoadsAnew result.load (state_of self.old before) (state_of self.new after) hart }
+        ensures others { (before after : Runner → RegisterFile)
+            → KeepsOthers (state_of self.old before) (state_of self.new after) hart }
+        ensures zeroed { IfSome result.zero (λ range.
+            ClearsMemory (kept_of self.old).table.layout range) }
+        ensures awake { marks_of self.new hart ≡ false }
+        ensures platform { (kept_of self.new).table.layout ≡ (kept_of self.old).table.layout }
+        ensures lists { (kept_of self.new).table ≡ (kept_of self.old).table
+            → kept_of self.new ≡ kept_of self.old }
+        ensures need { IsRefusedByNeed (call_of asked.now) (kept_of self.old).table
+            (worlds_of self.old hart)
+            (λ refusal. result.answer.status ≡ below_zero (refusal_number refusal)) }
+    {
+        self.parts.table.cite_invariant();
+        self.parts.serve(hart, asked, digests, changes)
+    }
+
+    /// An enclave that is live has this digest now, where its pages are measured after it was made. Nothing else changes.
+    pub fn give_digest(&mut self, id: u64, digest: &[u8; 32])
+        requires { (e : Enclave) × Live (kept_of self.old).table id e }
+        ensures { (e : Enclave) (sets : Runner → RegisterFile) → Live (kept_of self.old).table id e
+            → state_of self.new sets ≡ having_digest (state_of self.old sets) id e digest.now }
+    {
+        self.parts.give_digest(id, digest);
+    }
+
+    /// The timer's interrupt on a hart: an enclave is stopped, with the registers that it has, and the host goes on there. In
+    /// the host's world nothing changes. It says what becomes of the register sets, whatever they are, and answers whether
+    /// the hart's entries are to be loaded anew before it goes on.
+    pub fn interrupt(&mut self, hart: u8, changes: &mut SetChanges) -> bool
+        requires hart { hart < (kept_of self.old).table.layout.harts }
+        requires awake { marks_of self.old hart ≡ false }
+        ensures step { (sets : Runner → RegisterFile) → let s = state_of self.old sets in
+            Interrupts (s.worlds hart) s hart
+            (state_of self.new (changed hart changes.new sets)) }
+        ensures sets { AreOfSets changes.new }
+        ensures load { (before after : Runner → RegisterFile)
+            → LoadsAnew result (state_of self.old before) (state_of self.new after) hart }
+        ensures others { (before after : Runner → RegisterFile)
+            → KeepsOthers (state_of self.old before) (state_of self.new after) hart }
+        ensures awake { marks_of self.new hart ≡ false }
+        ensures platform { (kept_of self.new).table.layout ≡ (kept_of self.old).table.layout }
+        ensures lists { (kept_of self.new).table ≡ (kept_of self.old).table
+            → kept_of self.new ≡ kept_of self.old }
+    {
+        self.parts.pause(hart, changes)
+    }
+}
