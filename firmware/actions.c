@@ -1,11 +1,11 @@
 /* What was decided of a trap of the host, done. A call of it is answered: a0 is the error, a1 the value, and it goes on after it. */
-#include "decisions.h"
+#include "board.h"
 
 #define SBI_ERR_FAILED (~0ul)
 
-static void interrupt_harts(uint64_t set)
+static __attribute__((noinline)) void interrupt_harts(uint64_t set)
 {
-    for (unsigned hart = 0; set; hart++, set >>= 1)
+    for (uint64_t hart = 0; set; hart++, set >>= 1)
         if (set & 1)
             interrupt_supervisor(hart);
 }
@@ -17,12 +17,13 @@ static void fence(struct action *action, uint32_t kind)
         action->error = SBI_ERR_FAILED;
 }
 
-void act(struct world *world, struct action *action)
+void act(struct world *world)
 {
+    struct action *action = &world->action;
     switch (action->kind) {
     case GO_ON:
-        take_requests();
-        load_changes();
+        take_requests(world);
+        load_changes(world);
         return;
     case TICK:
         host_timer_came();
@@ -59,18 +60,18 @@ static void start_hart(const struct action *action)
     world->x[10] = action->subject;
     world->x[11] = action->opaque;
     is_stale[action->subject] = 1;
-    unpark((unsigned)action->subject);
+    unpark(action->subject);
 }
 
-void act_with_lock(struct world *world, struct action *action)
+void act_with_lock(struct world *world)
 {
-    switch (action->kind) {
+    switch (world->action.kind) {
     case GO_ON:
         return;
     case START_HART:
-        start_hart(action);
+        start_hart(&world->action);
         break;
-    case STOP_HART: /* it does not come back: next_trap parks it */
+    case STOP_HART: /* it does not come back: serve_with_lock parks it */
         control_at_start();
         return;
     case SHUT_DOWN:
@@ -80,5 +81,5 @@ void act_with_lock(struct world *world, struct action *action)
     case REBOOT:
         begin_anew();
     }
-    act(world, action);
+    act(world);
 }

@@ -22,7 +22,7 @@ static uint64_t highest(void)
 /* Each register gets each bit and its opposite. */
 static int are_there(void)
 {
-    static struct bank given, got;
+    static struct bank given = {.used = ENTRIES}, got;
     uint64_t all = highest();
     if (!IS_THERE(0x3b0 + ENTRIES - 1))
         return 0;

@@ -8,7 +8,12 @@
 struct floats {
     uint64_t f[32], fcsr;
 };
-static struct floats of_hosts[MOST_HARTS], of_enclaves[MOST_ENCLAVES];
+static struct floats sets[MOST_HARTS + MOST_ENCLAVES];
+
+static struct floats *set_of(uint64_t hart, uint64_t world)
+{
+    return &sets[world ? MOST_HARTS - 1 + world : hart];
+}
 
 /* What a hart has of them. Where floats are in its integer registers (Zfinx) it has fcsr alone, which no FS closes. */
 static enum { NONE, FCSR_ALONE, SINGLES, DOUBLES } kinds[MOST_HARTS];
@@ -24,53 +29,45 @@ void load_doubles(const uint64_t *f);
 void keep_singles(uint64_t *f);
 void load_singles(const uint64_t *f);
 
-static void keep(unsigned hart, struct floats *set)
+static void keep(int kind, struct floats *set)
 {
-    if (kinds[hart] == DOUBLES)
+    if (kind == DOUBLES)
         keep_doubles(set->f);
-    else if (kinds[hart] == SINGLES)
+    else if (kind == SINGLES)
         keep_singles(set->f);
 }
 
-static void load(unsigned hart, const struct floats *set)
+static void load(int kind, const struct floats *set)
 {
     WRITE(fcsr, set->fcsr);
-    if (kinds[hart] == DOUBLES)
+    if (kind == DOUBLES)
         load_doubles(set->f);
-    else if (kinds[hart] == SINGLES)
+    else if (kind == SINGLES)
         load_singles(set->f);
 }
 
-/* An enclave goes on with FS Initial. Where it is not Dirty at its next trap, f0 to f31 are those that it was given. */
-void floats_came(unsigned hart, uint64_t status)
-{
-    uint64_t world = world_number[hart];
-    struct floats *set;
-    if (!world || !kinds[hart] || LEAVE_FLOATS == ENCLAVES_SET)
-        return;
-    set = &of_enclaves[world - 1];
-    set->fcsr = READ(fcsr);
-    if ((status & FLOATS_DIRTY) == FLOATS_DIRTY)
-        keep(hart, set);
-}
-
-/* The host's set is kept whatever its FS says: it may have changed that itself. FS is then as the next world's status word has it. */
+/* An enclave goes on with FS Initial. Where it is not Dirty when another world follows, f0 to f31 are those that it was given. The
+   host's set is kept whatever its FS says: it may have changed that itself. FS is then as the next world's status word has it. */
 void floats_change(unsigned hart, uint64_t world)
 {
-    if (!kinds[hart])
+    struct floats *left = set_of(hart, world_number[hart]), *next = set_of(hart, world);
+    int is_enclaves = world_number[hart] != 0, kind = kinds[hart];
+    uint64_t status = READ(mstatus);
+    if (!kind)
         return;
     SET(mstatus, FLOATS_DIRTY);
-    if (!world_number[hart] && LEAVE_FLOATS != HOSTS_SET) {
-        of_hosts[hart].fcsr = READ(fcsr);
-        keep(hart, &of_hosts[hart]);
+    if (LEAVE_FLOATS != (is_enclaves ? ENCLAVES_SET : HOSTS_SET)) {
+        left->fcsr = READ(fcsr);
+        if (!is_enclaves || (status & FLOATS_DIRTY) == FLOATS_DIRTY)
+            keep(kind, left);
     }
-    load(hart, world ? &of_enclaves[world - 1] : &of_hosts[hart]);
+    load(kind, next);
 }
 
 void floats_begin(uint64_t enclave)
 {
     if (LEAVE_FLOATS != ZEROS)
-        memset(&of_enclaves[enclave - 1], 0, sizeof of_enclaves[0]);
+        memset(set_of(0, enclave), 0, sizeof(struct floats));
 }
 
 /* What a hart has is found by trying. Its host begins with zeros. */
@@ -86,7 +83,7 @@ void floats_at_start(unsigned hart)
         kinds[hart] = FCSR_ALONE;
     else
         kinds[hart] = DOES(".option push\n .option arch, +d\n fmv.x.d t1, f0\n .option pop\n") ? DOUBLES : SINGLES;
-    memset(&of_hosts[hart], 0, sizeof of_hosts[hart]);
+    memset(set_of(hart, 0), 0, sizeof(struct floats));
     if (kinds[hart])
-        load(hart, &of_hosts[hart]);
+        load(kinds[hart], set_of(hart, 0));
 }

@@ -2,12 +2,15 @@
  * The entries of a hart, in the words of a struct bank. ENTRIES is how many the platform says; pmpcfg0 is 0x3a0, and pmpaddr0 0x3b0
  * (Privileged Architecture, "Physical Memory Protection CSRs").
  */
-    .macro  each_word what
-    .set    n, 0
+    .equ    USED, 72 * 8        # of a struct bank
+    .macro  each_address what
+    .set    n, ENTRIES
     .rept   ENTRIES
+    .set    n, n - 1
     \what   (64 + 8 * n), 0x3b0 + n
-    .set    n, n + 1
     .endr
+    .endm
+    .macro  each_configuration what
     .set    n, 0
     .rept   ENTRIES / 8
     \what   (8 * n), 0x3a0 + 2 * n
@@ -24,14 +27,23 @@
     .endm
 
 /*
- * void load_bank(const struct bank *): the addresses first, then the configuration, so that no entry is in force with
- * another's address; in machine mode none of them binds meanwhile, since none is locked. Translations that may hold the old
- * permissions are dropped, those of a guest too where the hart has guests.
+ * void load_bank(const struct bank *): the addresses of the entries that are used first, the highest first, then the configuration, which
+ * has all others off. So no entry is in force with another's address; in machine mode none of them binds meanwhile, since none is locked.
+ * Translations that may hold the old permissions are dropped, those of a guest too where the hart has guests.
  */
     .text
     .globl  load_bank
 load_bank:
-    each_word put
+    ld      t0, USED(a0)
+    la      t1, 1f
+    slli    t0, t0, 3           # an address takes two instructions of four bytes
+    sub     t1, t1, t0
+    jr      t1
+    .option push
+    .option norvc
+    each_address put
+    .option pop
+1:  each_configuration put
     sfence.vma
     csrr    t0, misa
     andi    t0, t0, 1 << 7      # H
@@ -42,7 +54,8 @@ load_bank:
 /* void read_bank(struct bank *): what the registers have. */
     .globl  read_bank
 read_bank:
-    each_word get
+    each_address get
+    each_configuration get
     ret
 
 /*

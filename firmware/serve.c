@@ -46,7 +46,6 @@ static int64_t read_trap(void *to)
     copy_words(frame->x, worlds[hart].x + 1, 31);
     frame->control_tag = TAG_CONTROL;
     control_read(&frame->control);
-    floats_came(hart, frame->control.status);
     if (!is_aligned(to))
         memcpy(to, frame, sizeof *frame);
     return sizeof *frame;
@@ -99,6 +98,7 @@ static void keep_bank(unsigned hart, const struct answer_frame *answer)
         return;
     copy_words(bank->cfg, answer->cfg, ENTRIES / 8);
     copy_words(bank->addr, answer->addr, ENTRIES);
+    bank->used = answer->used;
     is_stale[hart] = 1;
 }
 
@@ -134,11 +134,11 @@ static int64_t written_answer(const struct answer_frame *answer)
         change_others(others, answer);
     if (world_number[hart] != answer->world) {
         floats_change((unsigned)hart, answer->world);
+        control_write(&answer->control);
         is_stale[hart] = 1;
     }
     world->pc = answer->pc;
     copy_words(world->x + 1, answer->x, 31);
-    control_write(&answer->control);
     world_number[hart] = answer->world;
     answered(answer);
     return sizeof *answer;
