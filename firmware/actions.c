@@ -59,7 +59,7 @@ static void start_hart(const struct action *action)
     world->pc = action->address;
     world->x[10] = action->subject;
     world->x[11] = action->opaque;
-    is_stale[action->subject] = 1;
+    world->is_stale = 1;
     unpark(action->subject);
 }
 

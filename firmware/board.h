@@ -39,18 +39,29 @@ enum {
     ENCLAVE_TICK
 };
 
-/* What there is of each hart: a stack of its own; above it its world as trap.S enters and leaves it, which is its registers (x[0]'s place
-   is free), where it goes on and what the last trap told; whether the hart is out of the monitor, or halted; whether it is wanted where
-   it is parked; what is asked of it (harts.c); who calls, and what was decided of its last trap. */
+/* The entries of a hart: the words of configuration, the addresses, and how many are used. */
+struct bank {
+    uint64_t cfg[8], addr[64], used;
+};
+
+/* What there is of each hart. */
 struct world {
-    uint8_t stack[1648];
-    uint64_t x[32], pc, cause, value;
-    volatile uint32_t is_out, is_wanted;
-    uint32_t requests, fences_asked, fences_made;
+    uint8_t stack[1040];            /* its own, which ends where the registers begin */
+    uint64_t x[32];                 /* of its world; x[0]'s place is free */
+    uint64_t pc, cause, value;      /* where its world goes on, and what the last trap told */
+    volatile uint32_t is_out;       /* the hart is not halted: its world may run */
+    volatile uint32_t is_wanted;    /* it is to leave the place where it is parked */
+    uint32_t requests, fences_asked, fences_made; /* harts.c */
+    uint16_t floats_kind;           /* what it has of floating point, and the place of its world's (floats.c) */
+    uint16_t is_stale;              /* its world, its entries or pages are others than when it last ran one */
+    struct floats *floats;
+    uint64_t number;                /* of its world: 0 is the host, others are enclaves */
     struct caller caller;
-    struct action action;
+    struct action action;           /* what was decided of its last trap */
+    struct bank bank;
 } __attribute__((aligned(16)));
-_Static_assert(sizeof(struct world) == 1 << 11 && offsetof(struct world, x) == 1648 && offsetof(struct world, is_out) == 1648 + 35 * 8,
+extern struct world worlds[MOST_HARTS];
+_Static_assert(sizeof(struct world) == 1 << 11 && offsetof(struct world, x) == 1040 && offsetof(struct world, is_out) == 1040 + 35 * 8,
                "trap.S counts on it");
 
 /* trap.S: the hart that calls lets go of the monitor and runs its world until a trap needs the monitor, or is parked until another hart
@@ -63,22 +74,13 @@ void take_lock(struct world *self);
 extern struct world *volatile lock_owner;
 
 /* pmp.S: the addresses of as many entries as are used and the words of configuration are loaded, then sfence.vma. */
-struct bank {
-    uint64_t cfg[8], addr[64], used;
-};
 void load_bank(const struct bank *bank);
 void read_bank(struct bank *bank);
 uint64_t clear_beyond(void);
 /* entries.c: the board ends where the hart that calls has not the entries of the platform. */
 void check_entries(void);
 
-/* serve.c: what the loop of the monitor has of the board, by hart. */
-extern struct world worlds[MOST_HARTS];
-extern struct bank banks[MOST_HARTS];
-extern uint64_t world_number[MOST_HARTS];
-/* Whether a hart's world, its entries or pages are others than when it last ran one. Then it loads its entries, and executes
-   sfence.vma and fence.i, before it goes on. */
-extern uint8_t is_stale[MOST_HARTS];
+/* serve.c */
 int differ(const uint64_t *a, const uint64_t *b, unsigned count);
 /* Makes pages of memory that are not the monitor's zero. */
 void make_zero(uint64_t first, uint64_t count);
@@ -116,8 +118,8 @@ void control_to_handler(struct world *world);
 
 /* floats.c, on the hart that calls: another world goes on; and the hart begins. An enclave that is new begins with zeros. */
 #define FLOATS_DIRTY (3ul << 13) /* FS of mstatus */
-void floats_change(unsigned hart, uint64_t world);
-void floats_at_start(unsigned hart);
+void floats_change(struct world *self, uint64_t world);
+void floats_at_start(struct world *self);
 void floats_begin(uint64_t enclave);
 
 /* harts.c, with the states of the harts, hart h in bit h: one that is in neither word is stopped. They change with the lock. */
@@ -154,7 +156,8 @@ static inline void fence_here(uint32_t kinds)
 }
 /* Does what other harts asked this one for. */
 void take_requests(struct world *self);
-/* Before this hart runs its world: it stands still while it is stopped, does what was asked for, and loads what is stale. */
+/* Before this hart runs its world: it stands still while it is stopped, and does what was asked for. Where something is stale it loads its
+   entries, and executes sfence.vma and fence.i. */
 void load_changes(struct world *self);
 void start_others(void);
 void unpark(uint64_t hart);

@@ -161,7 +161,7 @@ void control_to_handler(struct world *world)
 void control_at_start(void)
 {
     find_registers(this_hart());
-    floats_at_start(this_hart());
+    floats_at_start(&worlds[this_hart()]);
     WRITE(mcounteren, COUNTERS);
     if (IS_THERE(0x30a)) /* menvcfg */
         WRITE(0x30a, STCE | PBMTE | CBZE | CBCFE | CBIE_FLUSH);

@@ -16,7 +16,7 @@ static struct floats *set_of(uint64_t hart, uint64_t world)
 }
 
 /* What a hart has of them. Where floats are in its integer registers (Zfinx) it has fcsr alone, which no FS closes. */
-static enum { NONE, FCSR_ALONE, SINGLES, DOUBLES } kinds[MOST_HARTS];
+enum { NONE, FCSR_ALONE, SINGLES, DOUBLES };
 
 /* Tests leave one of these out, and see that it is missed. */
 enum { HOSTS_SET = 1, ENCLAVES_SET, ZEROS };
@@ -29,39 +29,39 @@ void load_doubles(const uint64_t *f);
 void keep_singles(uint64_t *f);
 void load_singles(const uint64_t *f);
 
-static void keep(int kind, struct floats *set)
+static void keep(const struct world *self, struct floats *set)
 {
-    if (kind == DOUBLES)
+    if (self->floats_kind == DOUBLES)
         keep_doubles(set->f);
-    else if (kind == SINGLES)
+    else if (self->floats_kind == SINGLES)
         keep_singles(set->f);
 }
 
-static void load(int kind, const struct floats *set)
+static void load(const struct world *self)
 {
-    WRITE(fcsr, set->fcsr);
-    if (kind == DOUBLES)
-        load_doubles(set->f);
-    else if (kind == SINGLES)
-        load_singles(set->f);
+    WRITE(fcsr, self->floats->fcsr);
+    if (self->floats_kind == DOUBLES)
+        load_doubles(self->floats->f);
+    else if (self->floats_kind == SINGLES)
+        load_singles(self->floats->f);
 }
 
 /* An enclave goes on with FS Initial. Where it is not Dirty when another world follows, f0 to f31 are those that it was given. The
    host's set is kept whatever its FS says: it may have changed that itself. FS is then as the next world's status word has it. */
-void floats_change(unsigned hart, uint64_t world)
+void floats_change(struct world *self, uint64_t world)
 {
-    struct floats *left = set_of(hart, world_number[hart]), *next = set_of(hart, world);
-    int is_enclaves = world_number[hart] != 0, kind = kinds[hart];
+    struct floats *left = self->floats;
     uint64_t status = READ(mstatus);
-    if (!kind)
+    if (!self->floats_kind)
         return;
     SET(mstatus, FLOATS_DIRTY);
-    if (LEAVE_FLOATS != (is_enclaves ? ENCLAVES_SET : HOSTS_SET)) {
+    if (LEAVE_FLOATS != (self->number ? ENCLAVES_SET : HOSTS_SET)) {
         left->fcsr = READ(fcsr);
-        if (!is_enclaves || (status & FLOATS_DIRTY) == FLOATS_DIRTY)
-            keep(kind, left);
+        if (!self->number || (status & FLOATS_DIRTY) == FLOATS_DIRTY)
+            keep(self, left);
     }
-    load(kind, next);
+    self->floats = set_of(this_hart(), world);
+    load(self);
 }
 
 void floats_begin(uint64_t enclave)
@@ -72,18 +72,19 @@ void floats_begin(uint64_t enclave)
 
 /* What a hart has is found by trying. Its host begins with zeros. */
 #define QUADS (1ul << 16) /* of misa: the upper half of each register would stay for the next world */
-void floats_at_start(unsigned hart)
+void floats_at_start(struct world *self)
 {
     if (READ(misa) & QUADS)
-        end_because("a hart has floats of 128 bits: hart ", hart);
+        end_because("a hart has floats of 128 bits: hart ", this_hart());
     SET(mstatus, FLOATS_DIRTY);
     if (!IS_THERE(fcsr))
-        kinds[hart] = NONE;
+        self->floats_kind = NONE;
     else if (!(READ(mstatus) & FLOATS_DIRTY))
-        kinds[hart] = FCSR_ALONE;
+        self->floats_kind = FCSR_ALONE;
     else
-        kinds[hart] = DOES(".option push\n .option arch, +d\n fmv.x.d t1, f0\n .option pop\n") ? DOUBLES : SINGLES;
-    memset(set_of(hart, 0), 0, sizeof(struct floats));
-    if (kinds[hart])
-        load(kinds[hart], set_of(hart, 0));
+        self->floats_kind = DOES(".option push\n .option arch, +d\n fmv.x.d t1, f0\n .option pop\n") ? DOUBLES : SINGLES;
+    self->floats = set_of(this_hart(), 0);
+    memset(self->floats, 0, sizeof(struct floats));
+    if (self->floats_kind)
+        load(self);
 }

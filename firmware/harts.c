@@ -76,14 +76,12 @@ static __attribute__((noinline)) void stand_still(struct world *self)
 
 void load_changes(struct world *self)
 {
-    uint64_t hart;
     if (!goes_out(self))
         stand_still(self);
-    hart = this_hart();
-    if (!is_stale[hart])
+    if (!self->is_stale)
         return;
-    is_stale[hart] = 0;
-    load_bank(&banks[hart]);
+    self->is_stale = 0;
+    load_bank(&self->bank);
     fence_here(FENCE_I); /* pages may have other bytes than when this hart last ran a world */
 }
 

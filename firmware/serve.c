@@ -5,10 +5,6 @@
 #include "board.h"
 
 struct world worlds[MOST_HARTS];
-struct bank banks[MOST_HARTS];
-uint64_t world_number[MOST_HARTS];
-uint8_t is_stale[MOST_HARTS] = {1, 1, 1, 1};
-_Static_assert(MOST_HARTS == 4, "a hart begins with entries and fences");
 
 static enum { PLATFORM, TRAP, PAGES } next = PLATFORM;
 static uint64_t next_page, pages_left;
@@ -93,13 +89,13 @@ int differ(const uint64_t *a, const uint64_t *b, unsigned count)
    may have been code. */
 static void keep_bank(unsigned hart, const struct answer_frame *answer)
 {
-    struct bank *bank = &banks[hart];
+    struct bank *bank = &worlds[hart].bank;
     if (!answer->zero_count && !differ(bank->cfg, answer->cfg, ENTRIES / 8) && !differ(bank->addr, answer->addr, ENTRIES))
         return;
     copy_words(bank->cfg, answer->cfg, ENTRIES / 8);
     copy_words(bank->addr, answer->addr, ENTRIES);
     bank->used = answer->used;
-    is_stale[hart] = 1;
+    worlds[hart].is_stale = 1;
 }
 
 void make_zero(uint64_t first, uint64_t count)
@@ -132,14 +128,14 @@ static int64_t written_answer(const struct answer_frame *answer)
     keep_bank((unsigned)hart, answer);
     if (others)
         change_others(others, answer);
-    if (world_number[hart] != answer->world) {
-        floats_change((unsigned)hart, answer->world);
+    if (world->number != answer->world) {
+        floats_change(world, answer->world);
         control_write(&answer->control);
-        is_stale[hart] = 1;
+        world->is_stale = 1;
     }
     world->pc = answer->pc;
     copy_words(world->x + 1, answer->x, 31);
-    world_number[hart] = answer->world;
+    world->number = answer->world;
     answered(answer);
     return sizeof *answer;
 }

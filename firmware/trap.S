@@ -6,7 +6,7 @@
  * with the monitor where the last one left it: it returns from that call of run_world, with its struct world. A trap that changes nothing of the monitor's a hart serves alone, without the lock and on a stack of its own
  * (serve_alone). mscratch has the hart's struct world while that runs, and zero while the hart is in the monitor.
  */
-    .equ    X, 1648             # of a struct world: the end of the hart's own stack, and its registers
+    .equ    X, 1040             # of a struct world: the end of the hart's own stack, and its registers
     .equ    PC, X + 32 * 8
     .equ    CAUSE, PC + 8
     .equ    VALUE, PC + 16

@@ -20,6 +20,7 @@ static void begin(struct world *world)
     if (has_begun[hart])
         return;
     has_begun[hart] = 1;
+    world->is_stale = 1;
     world->caller = (struct caller){hart, READ(mvendorid), READ(marchid), READ(mimpid), 0, 0};
     check_entries();
     control_at_start();
@@ -27,8 +28,7 @@ static void begin(struct world *world)
 
 static void decide(struct world *world, struct harts *states)
 {
-    uint64_t hart = this_hart();
-    pmpmon_decide(world_number[hart], world->cause, world->x + 10, &world->caller, &banks[hart], states, &world->action);
+    pmpmon_decide(world->number, world->cause, world->x + 10, &world->caller, &world->bank, states, &world->action);
 }
 
 /* Another hart may start or stop one meanwhile, so the states are a copy, and what changes them is decided anew with the lock. */

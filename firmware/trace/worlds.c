@@ -74,7 +74,7 @@ static uint64_t page_of_host(void)
 /* A place for two instructions that the world on this hart may execute, apart from what it accesses. */
 static uint64_t place_apart(uint64_t address, uint64_t size)
 {
-    uint64_t id = world_number[this_hart()], place = id ? enclaves[id].base : page_of_host();
+    uint64_t id = worlds[this_hart()].number, place = id ? enclaves[id].base : page_of_host();
     while (address < place + 8 && place < address + size)
         place += 8;
     return place;
@@ -88,7 +88,7 @@ static void execute(struct world *world, uint64_t place, uint64_t mode)
     copy_words(self->x, world->x, 32);
     self->pc = place;
     WRITE(mstatus, (status & ~MODE) | mode);
-    is_stale[this_hart()] = 1; /* what it executes was written just now */
+    self->is_stale = 1; /* what it executes was written just now */
     load_changes(self);
     run_world(self);
     WRITE(mstatus, status);
@@ -195,7 +195,7 @@ static uint64_t one_instruction(uint32_t instruction)
 void do_ecall(void)
 {
     uint64_t cause = one_instruction(ECALL_WORD);
-    if (cause != (world_number[this_hart()] ? CAUSE_CALL_OF_USER : CAUSE_CALL_OF_SUPERVISOR))
+    if (cause != (worlds[this_hart()].number ? CAUSE_CALL_OF_USER : CAUSE_CALL_OF_SUPERVISOR))
         wrong("a call trapped otherwise:", cause);
 }
 

@@ -37,9 +37,10 @@ LINES = {
         r" +__atomic_store_n\(&self->fences_made, asked, __ATOMIC_RELEASE\);\n",
         r"software_interrupt\[this_hart\(\)\] = 0;\n.*\"fence\" .*\n +make_fences\(self\);\n +if \(__atomic_fetch_and\(&self->requests, FENCES, __ATOMIC_SEQ_CST\) ",
         r"self->is_out = 1;\n.*\"fence rw, rw\" .*\n +if \(__atomic_load_n\(&self->requests, __ATOMIC_ACQUIRE\) \|\| self->fences_asked != self->fences_made\)\n +take_requests\(self\);\n"
-        r" +if \(!is_to_stop\(this_hart\(\)\)\)\n +return;\n +self->is_out = 0;\n +while \(is_to_stop\(this_hart\(\)\)\)\n +;\n +}\n",
+        r" +return !is_to_stop\(this_hart\(\)\);\n",
+        r"do {\n +self->is_out = 0;\n +while \(is_to_stop\(this_hart\(\)\)\)\n +;\n +} while \(!goes_out\(self\)\);\n",
         r"return __atomic_load_n\(&stopping, __ATOMIC_ACQUIRE\) >> hart & 1;\n",
-        r"go_out\(self\);\n +if \(!is_stale\[hart\]\)\n +return;\n +is_stale\[hart\] = 0;\n +load_bank\(&banks\[hart\]\);\n",
+        r"if \(!goes_out\(self\)\)\n +stand_still\(self\);\n +if \(!self->is_stale\)\n +return;\n +self->is_stale = 0;\n +load_bank\(&self->bank\);\n",
         r"while \(other->is_out && .*&other->fences_made, __ATOMIC_ACQUIRE\) - number\) < 0\) {\n +make_fences\(&worlds\[this_hart\(\)\]\);\n",
         r"fetch_or\(&worlds\[hart\].requests, kinds, __ATOMIC_SEQ_CST\);\n.*add_fetch\(&worlds\[hart\].fences_asked, 1, __ATOMIC_SEQ_CST\);\n +interrupt\(hart\);\n",
         r"store_n\(&stopping, set, __ATOMIC_RELEASE\);\n.*\"fence rw, rw\" .*\n.*\n +if \(is_other\(set, hart\) && worlds\[hart\]\.is_out\)\n +interrupt\(hart\);\n"
@@ -47,7 +48,7 @@ LINES = {
         r"worlds\[hart\]\.is_wanted = 1;\n.*\"fence\" .*\n +software_interrupt\[hart\] = 1;\n",
     ),
     "firmware/serve.c": (
-        r" +copy_words\(bank->addr, .*\n +bank->used = .*\n +is_stale\[hart\] = 1;\n",
+        r" +copy_words\(bank->addr, .*\n +bank->used = .*\n +worlds\[hart\]\.is_stale = 1;\n",
         r"if \(!stop_harts\(set\)\)\n.*\n.*\n +if \(set & 1\)\n +keep_bank\(hart, answer\);\n +stop_harts\(0\);",
     ),
     "firmware/actions.c": (r"case GO_ON:\n +take_requests\(world\);\n +load_changes\(world\);\n",),
