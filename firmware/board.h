@@ -13,31 +13,14 @@ struct caller {
     uint64_t hart, vendor, architecture, implementation, stop_cause, stop_value;
 };
 
-/* What is done at a trap, as the proved core decides it (crates/sbi_calls): its number, the answer in a0 and a1, and what it is done
-   with. Those before START_HART need no lock. Those from MONITOR on are the monitor's. */
+/* What is done at a trap, as the proved core decides it (crates/sbi_calls): its number, the answer in a0 and a1, and what it is
+   done with. Those before START_HART need no lock. Those from MONITOR on are the monitor's. */
 struct action {
     uint64_t kind, error, value, subject, address, opaque;
 };
-enum {
-    GO_ON,
-    TICK,
-    TO_HANDLER,
-    ANSWER,
-    SET_TIMER,
-    INTERRUPT_HARTS,
-    FENCE_INSTRUCTIONS,
-    FENCE_TRANSLATIONS,
-    PUT_BYTE,
-    START_HART,
-    STOP_HART,
-    SHUT_DOWN,
-    FAIL,
-    REBOOT,
-    MONITOR,
-    ENCLAVE_CALL,
-    ENCLAVE_STOP,
-    ENCLAVE_TICK
-};
+enum { GO_ON, TICK, TO_HANDLER, ANSWER, SET_TIMER, INTERRUPT_HARTS, FENCE_INSTRUCTIONS, FENCE_TRANSLATIONS, PUT_BYTE };
+enum { START_HART = PUT_BYTE + 1, STOP_HART, SHUT_DOWN, FAIL, REBOOT };
+enum { MONITOR = REBOOT + 1, ENCLAVE_CALL, ENCLAVE_STOP, ENCLAVE_TICK };
 
 /* The entries of a hart: the words of configuration, the addresses, and how many are used. */
 struct bank {
@@ -46,26 +29,27 @@ struct bank {
 
 /* What there is of each hart. */
 struct world {
-    uint8_t stack[1040];            /* its own, which ends where the registers begin */
-    uint64_t x[32];                 /* of its world; x[0]'s place is free */
-    uint64_t pc, cause, value;      /* where its world goes on, and what the last trap told */
-    volatile uint32_t is_out;       /* the hart is not halted: its world may run */
-    volatile uint32_t is_wanted;    /* it is to leave the place where it is parked */
+    uint8_t stack[1040];         /* its own, which ends where the registers begin */
+    uint64_t x[32];              /* of its world; x[0]'s place is free */
+    uint64_t pc, cause, value;   /* where its world goes on, and what the last trap told */
+    volatile uint32_t is_out;    /* the hart is not halted: its world may run */
+    volatile uint32_t is_wanted; /* it is to leave the place where it is parked */
     uint32_t requests, fences_asked, fences_made; /* harts.c */
-    uint16_t floats_kind;           /* what it has of floating point, and the place of its world's (floats.c) */
-    uint16_t is_stale;              /* its world, its entries or pages are others than when it last ran one */
+    uint16_t is_stale;           /* its world, its entries or pages are others than when it last ran one */
+    uint16_t floats_kind;        /* what it has of floating point, and where its world's are kept (floats.c) */
     struct floats *floats;
-    uint64_t number;                /* of its world: 0 is the host, others are enclaves */
+    uint64_t number; /* of its world: 0 is the host, others are enclaves */
     struct caller caller;
-    struct action action;           /* what was decided of its last trap */
+    struct action action; /* what was decided of its last trap */
     struct bank bank;
 } __attribute__((aligned(16)));
 extern struct world worlds[MOST_HARTS];
-_Static_assert(sizeof(struct world) == 1 << 11 && offsetof(struct world, x) == 1040 && offsetof(struct world, is_out) == 1040 + 35 * 8,
-               "trap.S counts on it");
+_Static_assert(sizeof(struct world) == 1 << 11 && offsetof(struct world, x) == 1040, "trap.S counts on it");
+_Static_assert(offsetof(struct world, is_out) == 1040 + 35 * 8, "trap.S counts on it");
 
-/* trap.S: the hart that calls lets go of the monitor and runs its world until a trap needs the monitor, or is parked until another hart
-   wants it. The monitor goes on as the next hart does then, whose struct world it says. `instructions` counts since the hart was reset. */
+/* trap.S: the hart that calls lets go of the monitor and runs its world until a trap needs the monitor, or is parked until another
+   hart wants it. The monitor goes on as the next hart that comes, whose struct world is told. `instructions` counts since the hart
+   was reset. */
 struct world *run_world(struct world *world);
 struct world *park(struct world *world);
 uint64_t instructions(void);
@@ -156,8 +140,8 @@ static inline void fence_here(uint32_t kinds)
 }
 /* Does what other harts asked this one for. */
 void take_requests(struct world *self);
-/* Before this hart runs its world: it stands still while it is stopped, and does what was asked for. Where something is stale it loads its
-   entries, and executes sfence.vma and fence.i. */
+/* Before this hart runs its world: it stands still while it is stopped, and does what was asked for. Where something is stale it
+   loads its entries, and executes sfence.vma and fence.i. */
 void load_changes(struct world *self);
 void start_others(void);
 void unpark(uint64_t hart);

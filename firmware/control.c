@@ -31,8 +31,8 @@
 #define MPP_SUPERVISOR (1ul << 11)
 #define MPV (1ul << 39)
 
-/* The word of a frame, its register (a number, where the assembler may not know the name), and which bits of it travel. Two words beside
-   these are of mstatus: status has the bits of STATUS, and mode MPP and MPV. */
+/* The word of a frame, its register (a number, where the assembler may not know the name), and which bits of it travel. Two words
+   beside these are of mstatus: status has the bits of STATUS, and mode has MPP and MPV. */
 #define CONTROL_REGISTERS(X)                                                                                           \
     X(satp, satp, TABLE_OF_PAGES)                                                                                      \
     X(mie, mie, INTERRUPTS)                                                                                            \
@@ -145,10 +145,11 @@ void control_write(const struct control_words *words)
 void control_to_handler(struct world *world)
 {
     uint64_t status = READ(mstatus), handler = READ(stvec);
+    uint64_t before = (status & SIE ? SPIE : 0) | (status & MPP_SUPERVISOR ? SPP : 0);
     WRITE(sepc, world->pc);
     WRITE(scause, world->cause);
     WRITE(stval, world->value);
-    WRITE(mstatus, (status & ~(SIE | SPIE | SPP | MPP | MPV)) | (status & SIE ? SPIE : 0) | (status & MPP_SUPERVISOR ? SPP : 0) | MPP_SUPERVISOR);
+    WRITE(mstatus, (status & ~(SIE | SPIE | SPP | MPP | MPV)) | before | MPP_SUPERVISOR);
     if (!lacks[this_hart()][NUMBER_hstatus])
         WRITE(0x600, (READ(0x600) & ~SPV) | (status & MPV ? SPV : 0));
     world->pc = handler & ~3ul;
@@ -156,8 +157,8 @@ void control_to_handler(struct world *world)
         world->pc += 4 * (world->cause & ~INTERRUPT);
 }
 
-/* The hart has run no world, or the host stopped it: the host will be the next, in supervisor mode. mstatus is the last: a look at a
-   register that there is not changes it. */
+/* The hart has run no world, or the host stopped it: the host will be the next, in supervisor mode. mstatus comes last: a look at a
+   register that there is not is a trap, which changes it. */
 void control_at_start(void)
 {
     find_registers(this_hart());

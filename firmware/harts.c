@@ -18,8 +18,8 @@ static volatile uint32_t *const software_interrupt = (volatile uint32_t *)0x2000
 
 struct harts harts = {.started = 1};
 
-/* What is asked of a hart, in its requests. fences_asked counts how often it was asked for fences, and fences_made how often before it
-   last made them. */
+/* What is asked of a hart (requests). Beside it is counted how often it was asked for fences, and how often before it last made
+   them. */
 #define FENCES 3u /* a bit for each kind */
 #define INTERRUPT_OF_HOST 4u
 /* Which harts are to stand still, hart h in bit h. The hart with the lock writes it. */

@@ -3,18 +3,11 @@
  * (Privileged Architecture, "Physical Memory Protection CSRs").
  */
     .equ    USED, 72 * 8        # of a struct bank
-    .macro  each_address what
-    .set    n, ENTRIES
-    .rept   ENTRIES
+    .macro  each what, csr, step, at, many  # the highest first
+    .set    n, \many
+    .rept   \many
     .set    n, n - 1
-    \what   (64 + 8 * n), 0x3b0 + n
-    .endr
-    .endm
-    .macro  each_configuration what
-    .set    n, 0
-    .rept   ENTRIES / 8
-    \what   (8 * n), 0x3a0 + 2 * n
-    .set    n, n + 1
+    \what   (\at + 8 * n), \csr + \step * n
     .endr
     .endm
     .macro  put at, csr
@@ -27,9 +20,9 @@
     .endm
 
 /*
- * void load_bank(const struct bank *): the addresses of the entries that are used first, the highest first, then the configuration, which
- * has all others off. So no entry is in force with another's address; in machine mode none of them binds meanwhile, since none is locked.
- * Translations that may hold the old permissions are dropped, those of a guest too where the hart has guests.
+ * void load_bank(const struct bank *): the addresses of the entries that are used, then the configuration, which has the others off.
+ * So no entry is in force with another's address; in machine mode none of them binds meanwhile, since none is locked. Translations
+ * that may hold the old permissions are dropped, those of a guest too where the hart has guests.
  */
     .text
     .globl  load_bank
@@ -41,9 +34,9 @@ load_bank:
     jr      t1
     .option push
     .option norvc
-    each_address put
+    each    put, 0x3b0, 1, 64, ENTRIES
     .option pop
-1:  each_configuration put
+1:  each    put, 0x3a0, 2, 0, ENTRIES / 8
     sfence.vma
     csrr    t0, misa
     andi    t0, t0, 1 << 7      # H
@@ -54,8 +47,8 @@ load_bank:
 /* void read_bank(struct bank *): what the registers have. */
     .globl  read_bank
 read_bank:
-    each_address get
-    each_configuration get
+    each    get, 0x3b0, 1, 64, ENTRIES
+    each    get, 0x3a0, 2, 0, ENTRIES / 8
     ret
 
 /*

@@ -3,8 +3,9 @@
  *
  * The monitor is one thread of control with one stack. A hart that runs it has the lock, and lets go of it in run_world,
  * once its registers of protection are loaded. The hart whose world traps next, or the next to come by the lock, goes on
- * with the monitor where the last one left it: it returns from that call of run_world, with its struct world. A trap that changes nothing of the monitor's a hart serves alone, without the lock and on a stack of its own
- * (serve_alone). mscratch has the hart's struct world while that runs, and zero while the hart is in the monitor.
+ * with the monitor where the last one left it: it returns from that call of run_world, with its own struct world. A trap that
+ * changes nothing of the monitor's a hart serves alone, without the lock and on a stack of its own (serve_alone). mscratch has the
+ * hart's struct world while its world runs, and zero otherwise: so a trap of the monitor itself is told from a world's.
  */
     .equ    X, 1040             # of a struct world: the end of the hart's own stack, and its registers
     .equ    PC, X + 32 * 8
@@ -39,8 +40,8 @@
     .endm
 
 /*
- * The lock is two numbers: who comes takes the next, and goes in when it is called. So each comes in before who came later. a0 is the
- * hart's struct world.
+ * The lock is two numbers: who comes takes the next, and goes in when it is called. So each comes in before who came later. a0 is
+ * the hart's struct world.
  */
     .macro  lock
     la      t0, tickets
@@ -170,8 +171,8 @@ take_lock:
     ret
 
 /*
- * Who has waited for some microseconds sleeps until it is called, and says so: another hart may need its core. It makes its word of the
- * CLINT zero before it looks.
+ * Who has waited for some microseconds sleeps until it is called, and says so: another hart may need its core. It makes its word of
+ * the CLINT zero before it looks.
  */
 wait_for_call:
     li      t5, 1000
@@ -216,8 +217,8 @@ wake_called:
     .section .sdata, "aw"
     .balign 8
     .globl  lock_owner
-/* Hart 0 has the monitor first: the next number, the one that is called, the harts that sleep by the last two bits of their numbers, each
-   plus 1, who has the lock, and the monitor's stack. */
+/* Hart 0 has the monitor first: the next number, the one that is called, four bytes for the harts that sleep, each plus 1 and at the
+   last two bits of its number; who has the lock; and where the monitor's stack is. */
 tickets:
     .word   1, 0, 0, 0
 lock_owner:

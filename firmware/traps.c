@@ -59,8 +59,8 @@ static inline struct world *run(struct world *world)
     return run_world(world);
 }
 
-/* Does what the monitor has not to know of. A hart that is not started was parked, with no decision that holds, or comes for the first
-   time: no interrupt is left from before it starts. */
+/* Does what the monitor has not to know of. A hart that is not started was parked, with no decision that holds, or comes for the
+   first time: no interrupt is left from before it starts. */
 static __attribute__((noinline)) struct world *serve_with_lock(struct world *world)
 {
     if (!is_started(this_hart())) {
@@ -78,7 +78,7 @@ uint64_t next_trap(void)
 {
     struct world *world;
     check_stack();
-    world = run(&worlds[this_hart()]);
+    world = run(lock_owner); /* the hart that calls */
     while (world->action.kind < MONITOR)
         world = serve_with_lock(world);
     if (world->action.kind == MONITOR)
