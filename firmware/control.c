@@ -7,20 +7,14 @@
 #include "board.h"
 
 #define ALL (~0ul)
-/* Three of the registers can be left as the host has them, so that tests/on_hart sees that each of them is missed. */
-#ifdef LEAVE_UXL
-#define UXL 0ul
-#else
+/* Builds of tests/on_hart leave these bits of three registers as the host has them, and see that each is missed. */
+#ifndef UXL
 #define UXL (3ul << 32)
 #endif
-#ifdef LEAVE_GUESTS
-#define INTERRUPTS (~(1ul << 2 | 1ul << 6 | 1ul << 10 | 1ul << 12))
-#else
+#ifndef INTERRUPTS
 #define INTERRUPTS ALL
 #endif
-#ifdef LEAVE_SATP
-#define TABLE_OF_PAGES 0ul
-#else
+#ifndef TABLE_OF_PAGES
 #define TABLE_OF_PAGES ALL
 #endif
 /* Of mstatus: SIE, SPIE, UBE, SPP, VS, FS, XS, SUM, MXR, UXL. */
@@ -46,10 +40,8 @@
 /* Machine mode's interrupts: software and timer. */
 #define MONITORS_INTERRUPTS (1ul << 3 | 1ul << 7)
 #define HOSTS_INTERRUPTS (SOFTWARE_OF_SUPERVISOR | TIMER_OF_SUPERVISOR | EXTERNAL_OF_SUPERVISOR)
-/* The host's own handler gets every exception of the host but its calls. A test has it handed on by machine mode. */
-#ifdef LEAVE_DELEGATION
-#define HOSTS_EXCEPTIONS 0ul
-#else
+/* The host's own handler gets every exception of the host but its calls. A test has them handed on by machine mode. */
+#ifndef HOSTS_EXCEPTIONS
 #define HOSTS_EXCEPTIONS 0xf0b5fful
 #endif
 
