@@ -34,6 +34,7 @@ struct world {
     uint64_t pc, cause, value;   /* where its world goes on, and what the last trap told */
     volatile uint32_t is_out;    /* the hart is not halted: its world may run */
     volatile uint32_t is_wanted; /* it is to leave the place where it is parked */
+    uint32_t last_number;        /* of the lock */
     uint32_t requests, fences_asked, fences_made; /* harts.c */
     uint16_t is_stale;           /* its world, its entries or pages are others than when it last ran one */
     uint16_t floats_kind;        /* what it has of floating point, and where its world's are kept (floats.c) */
@@ -53,9 +54,9 @@ _Static_assert(offsetof(struct world, is_out) == 1040 + 35 * 8, "trap.S counts o
 struct world *run_world(struct world *world);
 struct world *park(struct world *world);
 uint64_t instructions(void);
-/* Waits for the monitor's lock. Who has it. */
+/* Waits for the monitor's lock, whose next number and the one that is called are the first of its words. */
 void take_lock(struct world *self);
-extern struct world *volatile lock_owner;
+extern volatile uint32_t tickets[2];
 
 /* pmp.S: the addresses of as many entries as are used and the words of configuration are loaded, then sfence.vma. */
 void load_bank(const struct bank *bank);

@@ -58,7 +58,7 @@ void forget(void)
     static uint8_t is_ending;
     struct world *self = &worlds[this_hart()];
     self->is_out = 0;
-    if (lock_owner != self) /* a hart that the monitor traps on may have it */
+    if (tickets[1] != self->last_number) /* a hart that the monitor traps on may have it */
         take_lock(self);
     if (is_ending)
         return;

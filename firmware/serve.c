@@ -4,7 +4,8 @@
  */
 #include "board.h"
 
-struct world worlds[MOST_HARTS];
+/* A hart begins with entries and fences, and hart 0 alone with the lock. */
+struct world worlds[MOST_HARTS] = {{.is_stale = 1}, [1 ... MOST_HARTS - 1] = {.is_stale = 1, .last_number = ~0u}};
 
 static enum { PLATFORM, TRAP, PAGES } next = PLATFORM;
 static uint64_t next_page, pages_left;

@@ -13,10 +13,10 @@
     .equ    VALUE, PC + 16
     .equ    IS_OUT, PC + 24
     .equ    IS_WANTED, PC + 28
+    .equ    NUMBER, PC + 32
     .equ    CALLED, 4           # of the lock
     .equ    SLEEPERS, 8
-    .equ    OWNER, 16
-    .equ    MONITOR_SP, 24
+    .equ    MONITOR_SP, 16
     .equ    SAVED, 14 * 8
     .equ    CLINT, 0x2000000    # its first words: a software interrupt for each hart
 
@@ -51,7 +51,7 @@
     beq     t1, t3, 9f
     jal     t6, wait_for_call
 9:  fence   r, rw
-    sd      a0, OWNER(t0)
+    sw      t1, NUMBER(a0)      # a hart has the lock while its last number is the one that is called
     .endm
 
 /*
@@ -63,7 +63,6 @@
     callee_saved sd
     la      t0, tickets
     sd      sp, MONITOR_SP(t0)
-    sd      zero, OWNER(t0)
     fence
     lw      t1, CALLED(t0)
     addiw   t1, t1, 1
@@ -216,10 +215,8 @@ wake_called:
 
     .section .sdata, "aw"
     .balign 8
-    .globl  lock_owner
-/* Hart 0 has the monitor first: the next number, the one that is called, four bytes for the harts that sleep, each plus 1 and at the
-   last two bits of its number; who has the lock; and where the monitor's stack is. */
+    .globl  tickets
+/* Hart 0 has the monitor first, with number 0: the next number, the one that is called, four bytes for the harts that sleep, each
+   plus 1 and at the last two bits of its number, and where the monitor's stack is. */
 tickets:
-    .word   1, 0, 0, 0
-lock_owner:
-    .dword  worlds, 0
+    .word   1, 0, 0, 0, 0, 0

@@ -20,7 +20,6 @@ static void begin(struct world *world)
     if (has_begun[hart])
         return;
     has_begun[hart] = 1;
-    world->is_stale = 1;
     world->caller = (struct caller){hart, READ(mvendorid), READ(marchid), READ(mimpid), 0, 0};
     check_entries();
     control_at_start();
@@ -78,7 +77,7 @@ uint64_t next_trap(void)
 {
     struct world *world;
     check_stack();
-    world = run(lock_owner); /* the hart that calls */
+    world = run(&worlds[this_hart()]);
     while (world->action.kind < MONITOR)
         world = serve_with_lock(world);
     if (world->action.kind == MONITOR)
