@@ -87,9 +87,6 @@ _Noreturn void begin_anew(void);
 uint64_t next_trap(void);
 /* Whether the trap of this hart's world is served, without the monitor: trap.S calls it on the hart's own stack. */
 int serve_alone(struct world *world);
-/* actions.c: does what was decided and needs no lock, and what needs it. Calls are answered. */
-void act(struct world *world);
-void act_with_lock(struct world *world);
 /* What is done with an answer, and with the end, beside loading it. */
 void answered(const struct answer_frame *answer);
 _Noreturn void ended(const struct end_frame *end);

@@ -51,7 +51,7 @@ LINES = {
         r" +copy_words\(bank->addr, .*\n +bank->used = .*\n +worlds\[hart\]\.is_stale = 1;\n",
         r"if \(!stop_harts\(set\)\)\n.*\n.*\n +if \(set & 1\)\n +keep_bank\(hart, answer\);\n +stop_harts\(0\);",
     ),
-    "firmware/actions.c": (r"case GO_ON:\n +take_requests\(world\);\n +load_changes\(world\);\n",),
+    "firmware/traps.c": (r"case GO_ON:\n +take_requests\(world\);\n +load_changes\(world\);\n",),
 }
 
 
