@@ -88,7 +88,7 @@ run_world:
 enter_world:
     ld      t0, PC(s0)
     csrw    mepc, t0
-    sc.d    zero, zero, (s0)    # into the last word of the hart's stack, so that no reservation of another world is left
+    sc.d    zero, zero, (s0)    # into the lowest word of the hart's stack, so that no reservation of another world is left
     mv      x31, s0
     all     ld
     csrw    mscratch, x31
@@ -113,8 +113,9 @@ park:
     wfi
     j       1b
 2:  sw      zero, IS_WANTED(a0)
+    j       take_monitor
 
-/* A hart that was parked, or has run no world yet, comes in with nothing decided. */
+/* A hart that has run no world yet comes in as one that was parked. */
     .weak   enter_as_trapped
 enter_as_trapped:
     own_world a0
