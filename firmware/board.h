@@ -6,40 +6,60 @@
 #define MOST_HARTS 4
 #define MOST_ENCLAVES 64
 
-/* A world as trap.S enters and leaves it: its registers (x[0]'s place is free), where and in which mode it goes on, and
-   what the last trap told. mode has the bits of mstatus that mret takes. */
-struct world {
-    uint64_t x[32], pc, mode, cause, value;
+/* What the host of a hart can ask of it: its registers, and why an enclave stopped there last. */
+struct caller {
+    uint64_t hart, vendor, architecture, implementation, stop_cause, stop_value;
 };
-_Static_assert(sizeof(struct world) == 36 * 8, "trap.S counts on it");
 
-/* trap.S: the hart that calls lets go of the monitor and runs the world until a trap needs the monitor; the monitor goes on as
-   this hart does then. `instructions` counts since the hart was reset. */
-void run_world(struct world *world);
+/* What is done at a trap, as the proved core decides it (crates/sbi_calls): its number, the answer in a0 and a1, and what it is
+   done with. Those before START_HART need no lock. Those from MONITOR on are the monitor's. */
+struct action {
+    uint64_t kind, error, value, subject, address, opaque;
+};
+enum { GO_ON, TICK, TO_HANDLER, ANSWER, SET_TIMER, INTERRUPT_HARTS, FENCE_INSTRUCTIONS, FENCE_TRANSLATIONS, PUT_BYTE };
+enum { START_HART = PUT_BYTE + 1, STOP_HART, SHUT_DOWN, FAIL, REBOOT };
+enum { MONITOR = REBOOT + 1, ENCLAVE_CALL, ENCLAVE_STOP, ENCLAVE_TICK };
+
+/* What there is of each hart. */
+struct world {
+    uint8_t stack[1616];         /* its own, which ends where the registers begin */
+    uint64_t x[32];              /* of its world; x[0]'s place is free */
+    uint64_t pc, cause, value;   /* where its world goes on, and what the last trap told */
+    volatile uint32_t is_out;    /* the hart is not halted: its world may run */
+    volatile uint32_t is_wanted; /* it is to leave the place where it is parked */
+    uint32_t last_number;        /* of the lock */
+    uint32_t requests, fences_asked, fences_made; /* harts.c */
+    uint16_t is_stale;           /* its world, its entries or pages are others than when it last ran one */
+    uint16_t floats_kind;        /* what it has of floating point, and where its world's are kept (floats.c) */
+    struct floats *floats;
+    uint64_t number; /* of its world: 0 is the host, others are enclaves */
+    struct caller caller;
+    struct action action; /* what was decided of its last trap */
+    const struct bank *bank; /* the list of its world */
+} __attribute__((aligned(16)));
+extern struct world worlds[MOST_HARTS];
+_Static_assert(sizeof(struct world) == 1 << 11 && offsetof(struct world, x) == 1616, "trap.S counts on it");
+_Static_assert(offsetof(struct world, is_out) == 1616 + 35 * 8, "trap.S counts on it");
+
+/* trap.S: the hart that calls lets go of the monitor and runs its world until a trap needs the monitor, or is parked until another
+   hart wants it. The monitor goes on as the next hart that comes, whose struct world is told. `instructions` counts since the hart
+   was reset. */
+struct world *run_world(struct world *world);
+struct world *park(struct world *world);
 uint64_t instructions(void);
-/* Whether a hart waits for the monitor's lock, has it, is parked or stopped. take_lock waits for the lock. */
-extern volatile uint32_t halted[MOST_HARTS];
-void take_lock(void);
-/* The numbers of the lock: the one that is called is that of the hart which has it. From the last place on is each hart's last. */
-#define CALLED 1
-#define LAST_OF_HART 6
-extern volatile uint32_t tickets[LAST_OF_HART + MOST_HARTS];
+/* Waits for the monitor's lock, whose next number and the one that is called are the first of its words. */
+void take_lock(struct world *self);
+extern volatile uint32_t tickets[2];
 
-/* pmp.S: the words of a struct bank are loaded, as many addresses as the platform has entries, then sfence.vma. */
-void load_bank(const uint64_t *bank);
-void read_bank(uint64_t *bank);
+/* pmp.S: the addresses of as many entries as are used and the words of configuration are loaded, then sfence.vma. */
+void load_bank(const struct bank *bank);
+void read_bank(struct bank *bank);
 uint64_t clear_beyond(void);
 /* entries.c: the board ends where the hart that calls has not the entries of the platform. */
 void check_entries(void);
 
-/* serve.c: what the loop of the monitor has of the board, by hart. */
-extern struct world worlds[MOST_HARTS];
+/* serve.c: the list of the host. */
 extern struct bank host_bank;
-extern const uint64_t *banks[MOST_HARTS];
-extern uint64_t world_number[MOST_HARTS];
-/* Whether a hart's world, its entries or pages are others than when it last ran one. Then it loads its entries, and executes
-   sfence.vma and fence.i, before it goes on. */
-extern uint8_t is_stale[MOST_HARTS];
 int differ(const uint64_t *a, const uint64_t *b, unsigned count);
 /* Makes pages of memory that are not the monitor's zero. */
 void make_zero(uint64_t first, uint64_t count);
@@ -59,8 +79,8 @@ _Noreturn void begin_anew(void);
 
 /* traps.c: runs the hart's world until the monitor has to know of a trap, and says which it is: TAG_CALL or TAG_STOP. */
 uint64_t next_trap(void);
-/* Whether the trap of this hart's world is served, without the monitor: trap.S calls it on a small stack of the hart's own. */
-int serve_alone(void);
+/* Whether the trap of this hart's world is served, without the monitor: trap.S calls it on the hart's own stack. */
+int serve_alone(struct world *world);
 /* What is done with an answer, and with the end, beside loading it. */
 void answered(const struct answer_frame *answer);
 _Noreturn void ended(const struct end_frame *end);
@@ -72,12 +92,10 @@ void control_read(struct control_words *words);
 void control_write(const struct control_words *words);
 void control_to_handler(struct world *world);
 
-/* floats.c, on the hart that calls: a trap came from the world that runs, with this status word; another world goes on; and the
-   hart begins. An enclave that is new begins with zeros. */
+/* floats.c, on the hart that calls: another world goes on; and the hart begins. An enclave that is new begins with zeros. */
 #define FLOATS_DIRTY (3ul << 13) /* FS of mstatus */
-void floats_came(unsigned hart, uint64_t status);
-void floats_change(unsigned hart, uint64_t world);
-void floats_at_start(unsigned hart);
+void floats_change(struct world *self, uint64_t world);
+void floats_at_start(struct world *self);
 void floats_begin(uint64_t enclave);
 
 /* harts.c, with the states of the harts, hart h in bit h: one that is in neither word is stopped. They change with the lock. */
@@ -85,17 +103,21 @@ struct harts {
     uint64_t count, started, pending;
 };
 extern struct harts harts;
-static inline unsigned this_hart(void)
+static inline int is_started(uint64_t hart)
+{
+    return harts.started >> hart & 1;
+}
+static inline uint64_t this_hart(void)
 {
     uint64_t hart;
     __asm__ volatile("csrr %0, mhartid" : "=r"(hart)::"memory");
-    return (unsigned)hart;
+    return hart;
 }
 /* The harts of a set, hart h in bit h, run no world from here on, and read nothing that others write of them; those of an earlier set
    that are not in this one go on. The hart that calls has the monitor's lock, and is in no set. Whether they stopped in ten seconds. */
 int stop_harts(uint64_t set);
 /* A started hart of the host will find its software interrupt. */
-void interrupt_supervisor(unsigned hart);
+void interrupt_supervisor(uint64_t hart);
 /* The harts of a set, hart h in bit h, execute sfence.vma or fence.i, or both, before they run their worlds on: whether each has
    said so in ten seconds. */
 #define FENCE_VMA 1u
@@ -109,14 +131,12 @@ static inline void fence_here(uint32_t kinds)
         __asm__ volatile("fence.i" ::: "memory");
 }
 /* Does what other harts asked this one for. */
-void take_requests(void);
-/* Before this hart runs its world: it stands still while it is stopped, does what was asked for, and loads what is stale. */
-void load_changes(void);
+void take_requests(struct world *self);
+/* Before this hart runs its world: it stands still while it is stopped, and does what was asked for. Where something is stale it
+   loads its entries, and executes sfence.vma and fence.i. */
+void load_changes(struct world *self);
 void start_others(void);
-
-/* trap.S: this hart lets go of the monitor, and comes back as one that was interrupted once another hart asks for it. */
-void park(void);
-void unpark(unsigned hart);
+void unpark(uint64_t hart);
 
 /* timer.c: machine mode's timer, and the host's, which is stimecmp where the hart has it. */
 void timer_off(void);

@@ -1,34 +1,33 @@
 /*
  * The registers of machine and supervisor mode that decide what a world can do beside the entries. Each is read once after a
- * trap, into the frame that the proved monitor reads, and written once from the frame that it answers with: which world has
- * which words is decided there (crates/trap_server); with which words a hart begins, here alone (at_start). A reader compares
- * the table with the first one of "Control registers" in firmware/README.md.
+ * trap, into the frame that the proved monitor reads, and where another world goes on it is written once from the frame that it
+ * answers with: which world has which words is decided there (crates/trap_server); with which words a hart begins, here alone
+ * (at_start). A reader compares the table with the first one of "Control registers" in firmware/README.md.
  */
 #include "board.h"
 
 #define ALL (~0ul)
-/* Three of the registers can be left as the host has them, so that tests/on_hart sees that each of them is missed. */
-#ifdef LEAVE_UXL
-#define UXL 0ul
-#else
+/* Builds of tests/on_hart leave these bits of three registers as the host has them, and see that each is missed. */
+#ifndef UXL
 #define UXL (3ul << 32)
 #endif
-#ifdef LEAVE_GUESTS
-#define INTERRUPTS (~(1ul << 2 | 1ul << 6 | 1ul << 10 | 1ul << 12))
-#else
+#ifndef INTERRUPTS
 #define INTERRUPTS ALL
 #endif
-#ifdef LEAVE_SATP
-#define TABLE_OF_PAGES 0ul
-#else
+#ifndef TABLE_OF_PAGES
 #define TABLE_OF_PAGES ALL
 #endif
 /* Of mstatus: SIE, SPIE, UBE, SPP, VS, FS, XS, SUM, MXR, UXL. */
 #define STATUS (1ul << 1 | 1ul << 5 | 1ul << 6 | 1ul << 8 | 3ul << 9 | 3ul << 13 | 3ul << 15 | 1ul << 18 | 1ul << 19 | UXL)
 
-/* The word of a frame, its register (a number, where the assembler may not know the name), and which bits of it travel. */
+/* Of mstatus too: the mode that mret goes to, MPP and MPV. */
+#define MPP (3ul << 11)
+#define MPP_SUPERVISOR (1ul << 11)
+#define MPV (1ul << 39)
+
+/* The word of a frame, its register (a number, where the assembler may not know the name), and which bits of it travel. Two words
+   beside these are of mstatus: status has the bits of STATUS, and mode has MPP and MPV. */
 #define CONTROL_REGISTERS(X)                                                                                           \
-    X(status, mstatus, STATUS)                                                                                         \
     X(satp, satp, TABLE_OF_PAGES)                                                                                      \
     X(mie, mie, INTERRUPTS)                                                                                            \
     X(scounteren, scounteren, ALL)                                                                                     \
@@ -37,17 +36,12 @@
     X(medeleg, medeleg, ALL)                                                                                           \
     X(mideleg, mideleg, ALL)
 
-/* The ninth word, mode, has the bits of mstatus that trap.S keeps for mret: MPP and MPV. */
-#define MPP_SUPERVISOR (1ul << 11)
-
 #define WIDTH_64 (2ul << 32)
 /* Machine mode's interrupts: software and timer. */
 #define MONITORS_INTERRUPTS (1ul << 3 | 1ul << 7)
 #define HOSTS_INTERRUPTS (SOFTWARE_OF_SUPERVISOR | TIMER_OF_SUPERVISOR | EXTERNAL_OF_SUPERVISOR)
-/* The host's own handler gets every exception of the host but its calls. A test has it handed on by machine mode. */
-#ifdef LEAVE_DELEGATION
-#define HOSTS_EXCEPTIONS 0ul
-#else
+/* The host's own handler gets every exception of the host but its calls. A test has them handed on by machine mode. */
+#ifndef HOSTS_EXCEPTIONS
 #define HOSTS_EXCEPTIONS 0xf0b5fful
 #endif
 
@@ -70,47 +64,51 @@ enum {
 #undef NUMBER
         COUNT
 };
-/* Which of the registers a hart has, and whether it has them all. The others' words are zero, and not looked at. */
-static uint8_t has[MOST_HARTS][COUNT], has_all[MOST_HARTS];
+/* Which of the registers a hart lacks, and whether any lacks one. Their words are zero, and not looked at. */
+static uint8_t lacks[MOST_HARTS][COUNT], is_one_lacking;
 
-static void find_registers(unsigned hart)
+static void find_registers(uint64_t hart)
 {
-    has_all[hart] = 1;
-#define FIND(word, csr, bits) has_all[hart] &= has[hart][NUMBER_##word] = IS_THERE(csr);
+#define FIND(word, csr, bits) is_one_lacking |= lacks[hart][NUMBER_##word] = !IS_THERE(csr);
     CONTROL_REGISTERS(FIND)
 #undef FIND
 }
 
 #define TAKE(word, csr, bits) words->word = READ(csr) & (bits);
 #define TAKE_IF(word, csr, bits)                                                                                       \
-    words->word = 0;                                                                                                   \
-    if (has[hart][NUMBER_##word])                                                                                      \
+    if (lacks[this_hart()][NUMBER_##word])                                                                             \
+        words->word = 0;                                                                                               \
+    else                                                                                                               \
         TAKE(word, csr, bits)
 void control_read(struct control_words *words)
 {
-    unsigned hart = this_hart();
-    words->mode = worlds[hart].mode;
-    if (has_all[hart]) {
+    uint64_t status = READ(mstatus);
+    words->status = status & STATUS;
+    words->mode = status & (MPP | MPV);
+    if (is_one_lacking) {
+        CONTROL_REGISTERS(TAKE_IF)
+    } else {
         CONTROL_REGISTERS(TAKE)
-        return;
     }
-    CONTROL_REGISTERS(TAKE_IF)
 }
 
-/* A register is read first where not all of it travels. */
-#define GIVE(word, csr, bits) WRITE(csr, (bits) == ALL ? words->word : (READ(csr) & ~(bits)) | (words->word & (bits)));
+/* A register is read first where not all of it travels: these bits of it change. */
+static inline uint64_t mixed(uint64_t old, uint64_t word, uint64_t bits)
+{
+    return old ^ ((old ^ word) & bits);
+}
+#define GIVE(word, csr, bits) WRITE(csr, (bits) == ALL ? words->word : mixed(READ(csr), words->word, bits));
 #define GIVE_IF(word, csr, bits)                                                                                       \
-    if (has[hart][NUMBER_##word])                                                                                      \
+    if (!lacks[this_hart()][NUMBER_##word])                                                                            \
         GIVE(word, csr, bits)
 void control_write(const struct control_words *words)
 {
-    unsigned hart = this_hart();
-    worlds[hart].mode = words->mode;
-    if (has_all[hart]) {
+    WRITE(mstatus, mixed(READ(mstatus), words->status | words->mode, STATUS | MPP | MPV));
+    if (is_one_lacking) {
+        CONTROL_REGISTERS(GIVE_IF)
+    } else {
         CONTROL_REGISTERS(GIVE)
-        return;
     }
-    CONTROL_REGISTERS(GIVE_IF)
 }
 
 /*
@@ -132,7 +130,6 @@ void control_write(const struct control_words *words)
 #define SIE (1ul << 1)
 #define SPIE (1ul << 5)
 #define SPP (1ul << 8)
-#define MPV (1ul << 39)
 #define SPV (1ul << 7) /* of hstatus */
 
 /* A trap of the host that was not delegated goes on at its handler, with the registers as delegation leaves them, but for those that
@@ -140,25 +137,24 @@ void control_write(const struct control_words *words)
 void control_to_handler(struct world *world)
 {
     uint64_t status = READ(mstatus), handler = READ(stvec);
+    uint64_t before = (status & SIE ? SPIE : 0) | (status & MPP_SUPERVISOR ? SPP : 0);
     WRITE(sepc, world->pc);
     WRITE(scause, world->cause);
     WRITE(stval, world->value);
-    WRITE(mstatus, (status & ~(SIE | SPIE | SPP)) | (status & SIE ? SPIE : 0) | (world->mode & MPP_SUPERVISOR ? SPP : 0));
-    if (has[this_hart()][NUMBER_hstatus])
-        WRITE(0x600, (READ(0x600) & ~SPV) | (world->mode & MPV ? SPV : 0));
-    world->mode = MPP_SUPERVISOR;
+    WRITE(mstatus, (status & ~(SIE | SPIE | SPP | MPP | MPV)) | before | MPP_SUPERVISOR);
+    if (!lacks[this_hart()][NUMBER_hstatus])
+        WRITE(0x600, (READ(0x600) & ~SPV) | (status & MPV ? SPV : 0));
     world->pc = handler & ~3ul;
     if (handler & 1 && world->cause & INTERRUPT)
         world->pc += 4 * (world->cause & ~INTERRUPT);
 }
 
-/* The hart has run no world, or the host stopped it: the host will be the next, in supervisor mode. */
+/* The hart has run no world, or the host stopped it: the host will be the next, in supervisor mode. mstatus comes last: a look at a
+   register that there is not is a trap, which changes it. */
 void control_at_start(void)
 {
     find_registers(this_hart());
-    floats_at_start(this_hart());
-    WRITE(mstatus, at_start.status);
-    control_write(&at_start);
+    floats_at_start(&worlds[this_hart()]);
     WRITE(mcounteren, COUNTERS);
     if (IS_THERE(0x30a)) /* menvcfg */
         WRITE(0x30a, STCE | PBMTE | CBZE | CBCFE | CBIE_FLUSH);
@@ -168,4 +164,6 @@ void control_at_start(void)
     }
     CLEAR(mip, SOFTWARE_OF_SUPERVISOR | TIMER_OF_SUPERVISOR);
     host_timer_begin(IS_THERE(0x14d)); /* stimecmp */
+    WRITE(mstatus, at_start.status);
+    control_write(&at_start);
 }

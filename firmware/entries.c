@@ -22,7 +22,7 @@ static uint64_t highest(void)
 /* Each register gets each bit and its opposite. */
 static int are_there(void)
 {
-    static struct bank given, got;
+    static struct bank given = {.used = ENTRIES}, got;
     uint64_t all = highest();
     if (!IS_THERE(0x3b0 + ENTRIES - 1))
         return 0;
@@ -31,8 +31,8 @@ static int are_there(void)
             given.addr[i] = i % 2 == round ? all : LOWEST_PAGE;
             given.cfg[i / 8] = round ? OPEN : CLOSED;
         }
-        load_bank(given.cfg);
-        read_bank(got.cfg);
+        load_bank(&given);
+        read_bank(&got);
         if (differ(got.cfg, given.cfg, ENTRIES / 8) || differ(got.addr, given.addr, ENTRIES))
             return 0;
     }

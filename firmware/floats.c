@@ -8,10 +8,15 @@
 struct floats {
     uint64_t f[32], fcsr;
 };
-static struct floats of_hosts[MOST_HARTS], of_enclaves[MOST_ENCLAVES];
+static struct floats sets[MOST_HARTS + MOST_ENCLAVES];
+
+static struct floats *set_of(uint64_t hart, uint64_t world)
+{
+    return &sets[world ? MOST_HARTS - 1 + world : hart];
+}
 
 /* What a hart has of them. Where floats are in its integer registers (Zfinx) it has fcsr alone, which no FS closes. */
-static enum { NONE, FCSR_ALONE, SINGLES, DOUBLES } kinds[MOST_HARTS];
+enum { NONE, FCSR_ALONE, SINGLES, DOUBLES };
 
 /* Tests leave one of these out, and see that it is missed. */
 enum { HOSTS_SET = 1, ENCLAVES_SET, ZEROS };
@@ -24,69 +29,62 @@ void load_doubles(const uint64_t *f);
 void keep_singles(uint64_t *f);
 void load_singles(const uint64_t *f);
 
-static void keep(unsigned hart, struct floats *set)
+static void keep(const struct world *self, struct floats *set)
 {
-    if (kinds[hart] == DOUBLES)
+    if (self->floats_kind == DOUBLES)
         keep_doubles(set->f);
-    else if (kinds[hart] == SINGLES)
+    else if (self->floats_kind == SINGLES)
         keep_singles(set->f);
 }
 
-static void load(unsigned hart, const struct floats *set)
+static void load(const struct world *self)
 {
-    WRITE(fcsr, set->fcsr);
-    if (kinds[hart] == DOUBLES)
-        load_doubles(set->f);
-    else if (kinds[hart] == SINGLES)
-        load_singles(set->f);
+    WRITE(fcsr, self->floats->fcsr);
+    if (self->floats_kind == DOUBLES)
+        load_doubles(self->floats->f);
+    else if (self->floats_kind == SINGLES)
+        load_singles(self->floats->f);
 }
 
-/* An enclave goes on with FS Initial. Where it is not Dirty at its next trap, f0 to f31 are those that it was given. */
-void floats_came(unsigned hart, uint64_t status)
+/* An enclave goes on with FS Initial. Where it is not Dirty when another world follows, f0 to f31 are those that it was given. The
+   host's set is kept whatever its FS says: it may have changed that itself. FS is then as the next world's status word has it. */
+void floats_change(struct world *self, uint64_t world)
 {
-    uint64_t world = world_number[hart];
-    struct floats *set;
-    if (!world || !kinds[hart] || LEAVE_FLOATS == ENCLAVES_SET)
-        return;
-    set = &of_enclaves[world - 1];
-    set->fcsr = READ(fcsr);
-    if ((status & FLOATS_DIRTY) == FLOATS_DIRTY)
-        keep(hart, set);
-}
-
-/* The host's set is kept whatever its FS says: it may have changed that itself. FS is then as the next world's status word has it. */
-void floats_change(unsigned hart, uint64_t world)
-{
-    if (!kinds[hart])
+    struct floats *left = self->floats;
+    uint64_t status = READ(mstatus);
+    if (!self->floats_kind)
         return;
     SET(mstatus, FLOATS_DIRTY);
-    if (!world_number[hart] && LEAVE_FLOATS != HOSTS_SET) {
-        of_hosts[hart].fcsr = READ(fcsr);
-        keep(hart, &of_hosts[hart]);
+    if (LEAVE_FLOATS != (self->number ? ENCLAVES_SET : HOSTS_SET)) {
+        left->fcsr = READ(fcsr);
+        if (!self->number || (status & FLOATS_DIRTY) == FLOATS_DIRTY)
+            keep(self, left);
     }
-    load(hart, world ? &of_enclaves[world - 1] : &of_hosts[hart]);
+    self->floats = set_of(this_hart(), world);
+    load(self);
 }
 
 void floats_begin(uint64_t enclave)
 {
     if (LEAVE_FLOATS != ZEROS)
-        memset(&of_enclaves[enclave - 1], 0, sizeof of_enclaves[0]);
+        memset(set_of(0, enclave), 0, sizeof(struct floats));
 }
 
 /* What a hart has is found by trying. Its host begins with zeros. */
 #define QUADS (1ul << 16) /* of misa: the upper half of each register would stay for the next world */
-void floats_at_start(unsigned hart)
+void floats_at_start(struct world *self)
 {
     if (READ(misa) & QUADS)
-        end_because("a hart has floats of 128 bits: hart ", hart);
+        end_because("a hart has floats of 128 bits: hart ", this_hart());
     SET(mstatus, FLOATS_DIRTY);
     if (!IS_THERE(fcsr))
-        kinds[hart] = NONE;
+        self->floats_kind = NONE;
     else if (!(READ(mstatus) & FLOATS_DIRTY))
-        kinds[hart] = FCSR_ALONE;
+        self->floats_kind = FCSR_ALONE;
     else
-        kinds[hart] = DOES(".option push\n .option arch, +d\n fmv.x.d t1, f0\n .option pop\n") ? DOUBLES : SINGLES;
-    memset(&of_hosts[hart], 0, sizeof of_hosts[hart]);
-    if (kinds[hart])
-        load(hart, &of_hosts[hart]);
+        self->floats_kind = DOES(".option push\n .option arch, +d\n fmv.x.d t1, f0\n .option pop\n") ? DOUBLES : SINGLES;
+    self->floats = set_of(this_hart(), 0);
+    memset(self->floats, 0, sizeof(struct floats));
+    if (self->floats_kind)
+        load(self);
 }

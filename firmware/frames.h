@@ -47,9 +47,9 @@ struct page_frame {
     uint8_t bytes[PAGE];
 };
 
-/* The registers of 64 entries, as words: pmpcfg0, pmpcfg2, .. and pmpaddr0, pmpaddr1, .. */
+/* A list of entries: how many are used, and the registers, pmpcfg0, pmpcfg2, .. and pmpaddr0, pmpaddr1, .. */
 struct bank {
-    uint64_t cfg[8], addr[64];
+    uint64_t used, cfg[8], addr[64];
 };
 
 /* Written: with what a hart goes on, and after it the lists of entries that are new, of which it is list_count: the host's, and that
@@ -57,10 +57,7 @@ struct bank {
 struct answer_frame {
     uint64_t tag, hart, world, status, value, used, zero_first, zero_count, wake, list_count, pc, x[31], control_tag;
     struct control_words control;
-    struct {
-        uint64_t used;
-        struct bank bank;
-    } lists[2];
+    struct bank lists[2];
 };
 
 /* Written: pages to be read, one after another. */

@@ -18,16 +18,14 @@ static volatile uint32_t *const software_interrupt = (volatile uint32_t *)0x2000
 
 struct harts harts = {.started = 1};
 
-/* What is asked of a hart. */
+/* What is asked of a hart (requests). Beside it is counted how often it was asked for fences, and how often before it last made
+   them. */
 #define FENCES 3u /* a bit for each kind */
 #define INTERRUPT_OF_HOST 4u
-static uint32_t requests[MOST_HARTS];
 /* Which harts are to stand still, hart h in bit h. The hart with the lock writes it. */
 static uint64_t stopping;
-/* How often a hart was asked for fences, and how often before it last made them. */
-static uint32_t fences_asked[MOST_HARTS], fences_made[MOST_HARTS];
 
-static void interrupt(unsigned hart)
+static void interrupt(uint64_t hart)
 {
     __asm__ volatile("fence" ::: "memory");
     if (!LEAVE_RUNNING)
@@ -35,66 +33,68 @@ static void interrupt(unsigned hart)
 }
 
 /* They are counted before they are made, so that no request is counted that comes later. */
-static void make_fences(unsigned self)
+static void make_fences(struct world *self)
 {
-    uint32_t asked = __atomic_load_n(&fences_asked[self], __ATOMIC_ACQUIRE);
-    fence_here(__atomic_fetch_and(&requests[self], ~FENCES, __ATOMIC_SEQ_CST));
-    __atomic_store_n(&fences_made[self], asked, __ATOMIC_RELEASE);
+    uint32_t asked = __atomic_load_n(&self->fences_asked, __ATOMIC_ACQUIRE);
+    fence_here(__atomic_fetch_and(&self->requests, ~FENCES, __ATOMIC_SEQ_CST));
+    __atomic_store_n(&self->fences_made, asked, __ATOMIC_RELEASE);
 }
 
-void take_requests(void)
+void take_requests(struct world *self)
 {
-    unsigned self = this_hart();
-    software_interrupt[self] = 0;
+    software_interrupt[this_hart()] = 0;
     __asm__ volatile("fence" ::: "memory"); /* a later wish of another hart comes after this */
     make_fences(self);
-    if (__atomic_fetch_and(&requests[self], FENCES, __ATOMIC_SEQ_CST) & INTERRUPT_OF_HOST && harts.started >> self & 1)
+    if (__atomic_fetch_and(&self->requests, FENCES, __ATOMIC_SEQ_CST) & INTERRUPT_OF_HOST && is_started(this_hart()))
         SET(mip, SOFTWARE_OF_SUPERVISOR);
 }
 
-static int is_to_stop(unsigned hart)
+static int is_to_stop(uint64_t hart)
 {
     return __atomic_load_n(&stopping, __ATOMIC_ACQUIRE) >> hart & 1;
 }
 
 /* Who stops this hart or asks it for a fence waits for it from here on, or has said so before and is heard here. Once the hart is let
    go it looks again: another stop may have begun, which took it as halted. */
-static void go_out(unsigned self)
+static inline int goes_out(struct world *self)
 {
-    for (;;) {
-        halted[self] = 0;
-        __asm__ volatile("fence rw, rw" ::: "memory");
-        if (__atomic_load_n(&requests[self], __ATOMIC_ACQUIRE) || fences_asked[self] != fences_made[self])
-            take_requests();
-        if (!is_to_stop(self))
-            return;
-        halted[self] = 1;
-        while (is_to_stop(self))
-            ;
-    }
+    self->is_out = 1;
+    __asm__ volatile("fence rw, rw" ::: "memory");
+    if (__atomic_load_n(&self->requests, __ATOMIC_ACQUIRE) || self->fences_asked != self->fences_made)
+        take_requests(self);
+    return !is_to_stop(this_hart());
 }
 
-void load_changes(void)
+static __attribute__((noinline)) void stand_still(struct world *self)
 {
-    unsigned self = this_hart();
-    go_out(self);
-    if (!is_stale[self])
+    do {
+        self->is_out = 0;
+        while (is_to_stop(this_hart()))
+            ;
+    } while (!goes_out(self));
+}
+
+void load_changes(struct world *self)
+{
+    if (!goes_out(self))
+        stand_still(self);
+    if (!self->is_stale)
         return;
-    is_stale[self] = 0;
-    load_bank(banks[self]);
+    self->is_stale = 0;
+    load_bank(self->bank);
     fence_here(FENCE_I); /* pages may have other bytes than when this hart last ran a world */
 }
 
-static int is_other(uint64_t set, unsigned hart)
+static int is_other(uint64_t set, uint64_t hart)
 {
     return hart != this_hart() && (set >> hart & 1);
 }
 
 /* It makes its own fences meanwhile: the other may wait for them. */
-static int has_fenced(unsigned hart, uint32_t number, uint64_t last)
+static int has_fenced(const struct world *other, uint32_t number, uint64_t last)
 {
-    while (!halted[hart] && (int32_t)(__atomic_load_n(&fences_made[hart], __ATOMIC_ACQUIRE) - number) < 0) {
-        make_fences(this_hart());
+    while (other->is_out && (int32_t)(__atomic_load_n(&other->fences_made, __ATOMIC_ACQUIRE) - number) < 0) {
+        make_fences(&worlds[this_hart()]);
         if (timer_now() > last)
             return 0;
     }
@@ -103,19 +103,19 @@ static int has_fenced(unsigned hart, uint32_t number, uint64_t last)
 
 int fence_harts(uint64_t set, uint32_t kinds)
 {
-    uint64_t last = timer_now() + TEN_SECONDS;
+    uint64_t self = 1ul << this_hart(), others = set & ~self, last = timer_now() + TEN_SECONDS;
     uint32_t number[MOST_HARTS];
     int is_made = 1;
-    for (unsigned hart = 0; hart < hart_count(); hart++)
-        if (is_other(set, hart)) {
-            __atomic_fetch_or(&requests[hart], kinds, __ATOMIC_SEQ_CST);
-            number[hart] = __atomic_add_fetch(&fences_asked[hart], 1, __ATOMIC_SEQ_CST);
+    for (uint64_t hart = 0; others >> hart; hart++)
+        if (others >> hart & 1) {
+            __atomic_fetch_or(&worlds[hart].requests, kinds, __ATOMIC_SEQ_CST);
+            number[hart] = __atomic_add_fetch(&worlds[hart].fences_asked, 1, __ATOMIC_SEQ_CST);
             interrupt(hart);
         }
-    if (set >> this_hart() & 1)
+    if (set & self)
         fence_here(kinds);
-    for (unsigned hart = 0; hart < hart_count(); hart++)
-        is_made &= !is_other(set, hart) || has_fenced(hart, number[hart], last);
+    for (uint64_t hart = 0; others >> hart; hart++)
+        is_made &= !(others >> hart & 1) || has_fenced(&worlds[hart], number[hart], last);
     return is_made;
 }
 
@@ -127,39 +127,37 @@ int stop_harts(uint64_t set)
 #endif
     __atomic_store_n(&stopping, set, __ATOMIC_RELEASE);
     __asm__ volatile("fence rw, rw" ::: "memory");
-    for (unsigned hart = 0; hart < hart_count(); hart++)
-        if (is_other(set, hart) && !halted[hart])
+    for (uint64_t hart = 0; hart < hart_count(); hart++)
+        if (is_other(set, hart) && worlds[hart].is_out)
             interrupt(hart);
-    for (unsigned hart = 0; hart < hart_count(); hart++)
-        while (is_other(set, hart) && !halted[hart])
+    for (uint64_t hart = 0; hart < hart_count(); hart++)
+        while (is_other(set, hart) && worlds[hart].is_out)
             if (timer_now() > last)
                 return 0;
     __asm__ volatile("fence rw, rw" ::: "memory");
     return 1;
 }
 
-void interrupt_supervisor(unsigned hart)
+void interrupt_supervisor(uint64_t hart)
 {
     if (hart == this_hart()) {
         SET(mip, SOFTWARE_OF_SUPERVISOR);
         return;
     }
-    __atomic_fetch_or(&requests[hart], INTERRUPT_OF_HOST, __ATOMIC_SEQ_CST);
+    __atomic_fetch_or(&worlds[hart].requests, INTERRUPT_OF_HOST, __ATOMIC_SEQ_CST);
     interrupt(hart);
 }
 
 /* trap.S waits for it. */
-volatile uint32_t is_wanted[MOST_HARTS];
-
-void unpark(unsigned hart)
+void unpark(uint64_t hart)
 {
-    is_wanted[hart] = 1;
+    worlds[hart].is_wanted = 1;
     __asm__ volatile("fence" ::: "memory");
     software_interrupt[hart] = 1;
 }
 
 /* A platform that names a hart which the board has not would wait for it at the first stop. */
-static void wait_for(unsigned hart)
+static void wait_for(uint64_t hart)
 {
     uint64_t last = timer_now() + TEN_SECONDS;
     while (!arrived[hart])
@@ -169,7 +167,7 @@ static void wait_for(unsigned hart)
 
 void start_others(void)
 {
-    for (unsigned hart = 1; hart < hart_count(); hart++)
+    for (uint64_t hart = 1; hart < hart_count(); hart++)
         wait_for(hart);
     __asm__ volatile("fence rw, rw" ::: "memory");
     harts_run = hart_count();

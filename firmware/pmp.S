@@ -2,16 +2,11 @@
  * The entries of a hart, in the words of a struct bank. ENTRIES is how many the platform says; pmpcfg0 is 0x3a0, and pmpaddr0 0x3b0
  * (Privileged Architecture, "Physical Memory Protection CSRs").
  */
-    .macro  each_word what
-    .set    n, 0
-    .rept   ENTRIES
-    \what   (64 + 8 * n), 0x3b0 + n
-    .set    n, n + 1
-    .endr
-    .set    n, 0
-    .rept   ENTRIES / 8
-    \what   (8 * n), 0x3a0 + 2 * n
-    .set    n, n + 1
+    .macro  each what, csr, step, at, many  # the highest first
+    .set    n, \many
+    .rept   \many
+    .set    n, n - 1
+    \what   (\at + 8 * n), \csr + \step * n
     .endr
     .endm
     .macro  put at, csr
@@ -24,14 +19,23 @@
     .endm
 
 /*
- * void load_bank(const uint64_t *): the addresses first, then the configuration, so that no entry is in force with
- * another's address; in machine mode none of them binds meanwhile, since none is locked. Translations that may hold the old
- * permissions are dropped, those of a guest too where the hart has guests.
+ * void load_bank(const struct bank *): the addresses of the entries that are used, then the configuration, which has the others off.
+ * So no entry is in force with another's address; in machine mode none of them binds meanwhile, since none is locked. Translations
+ * that may hold the old permissions are dropped, those of a guest too where the hart has guests.
  */
     .text
     .globl  load_bank
 load_bank:
-    each_word put
+    ld      t0, (a0)
+    la      t1, 1f
+    slli    t0, t0, 3           # an address takes two instructions of four bytes
+    sub     t1, t1, t0
+    jr      t1
+    .option push
+    .option norvc
+    each    put, 0x3b0, 1, 72, ENTRIES
+    .option pop
+1:  each    put, 0x3a0, 2, 8, ENTRIES / 8
     sfence.vma
     csrr    t0, misa
     andi    t0, t0, 1 << 7      # H
@@ -39,10 +43,11 @@ load_bank:
     .insn   r 0x73, 0, 0x31, x0, x0, x0 # hfence.gvma
 1:  ret
 
-/* void read_bank(uint64_t *): what the registers have. */
+/* void read_bank(struct bank *): what the registers have. */
     .globl  read_bank
 read_bank:
-    each_word get
+    each    get, 0x3b0, 1, 72, ENTRIES
+    each    get, 0x3a0, 2, 8, ENTRIES / 8
     ret
 
 /*

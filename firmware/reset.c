@@ -52,19 +52,14 @@ void forget_private(void)
     }
 }
 
-/* A hart that the monitor traps on may have the lock or not. */
-static int has_lock(void)
-{
-    return tickets[CALLED] == tickets[LAST_OF_HART + this_hart()];
-}
-
 /* No enclave writes meanwhile, and no other hart has the monitor. A trap of the monitor in here ends the board at once. */
 void forget(void)
 {
     static uint8_t is_ending;
-    halted[this_hart()] = 1;
-    if (!has_lock())
-        take_lock();
+    struct world *self = &worlds[this_hart()];
+    self->is_out = 0;
+    if (tickets[1] != self->last_number) /* a hart that the monitor traps on may have it */
+        take_lock(self);
     if (is_ending)
         return;
     is_ending = 1;

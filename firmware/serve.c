@@ -4,16 +4,13 @@
  */
 #include "board.h"
 
-/* The entries of the host, and of each enclave by its number: the words of a struct bank that a hart has. */
+/* The list of the host, and of each enclave by its number the first words of one: a hart has no more entries. */
 struct bank host_bank;
-static uint64_t enclave_banks[MOST_ENCLAVES + 1][8 + ENTRIES];
-_Static_assert(MOST_HARTS == 4, "a hart begins with the host's entries");
-const uint64_t *banks[MOST_HARTS] = {host_bank.cfg, host_bank.cfg, host_bank.cfg, host_bank.cfg};
+static uint64_t enclave_banks[MOST_ENCLAVES + 1][9 + ENTRIES];
 
-struct world worlds[MOST_HARTS];
-uint64_t world_number[MOST_HARTS];
-uint8_t is_stale[MOST_HARTS] = {1, 1, 1, 1};
-_Static_assert(MOST_HARTS == 4, "a hart begins with entries and fences");
+/* A hart begins with the host's entries and with fences, and hart 0 alone with the lock. */
+struct world worlds[MOST_HARTS] = {{.is_stale = 1, .bank = &host_bank},
+                                   [1 ... MOST_HARTS - 1] = {.is_stale = 1, .bank = &host_bank, .last_number = ~0u}};
 
 static enum { PLATFORM, TRAP, PAGES } next = PLATFORM;
 static uint64_t next_page, pages_left;
@@ -51,7 +48,6 @@ static int64_t read_trap(void *to)
     copy_words(frame->x, worlds[hart].x + 1, 31);
     frame->control_tag = TAG_CONTROL;
     control_read(&frame->control);
-    floats_came(hart, frame->control.status);
     if (!is_aligned(to))
         memcpy(to, frame, sizeof *frame);
     return sizeof *frame;
@@ -102,41 +98,40 @@ void make_zero(uint64_t first, uint64_t count)
             memset((void *)(page * PAGE), 0, PAGE);
 }
 
-/* The harts that run the host are this one and the woken: they stand still while its entries change, and no longer. An enclave that is
-   new runs nowhere. */
-static void change_lists(uint64_t woken, const struct answer_frame *answer)
+/* The harts that run the host are the one that goes on and those that are woken, which stand still while its list changes, and no
+   longer. An enclave whose list is new runs nowhere. */
+static void change_lists(const struct answer_frame *answer)
 {
-    if (!stop_harts(woken))
+    if (!stop_harts(answer->wake))
         end_because("a hart does not stop, asked by hart ", this_hart());
-    host_bank = answer->lists[0].bank;
+    host_bank = answer->lists[0];
     if (answer->list_count > 1)
-        copy_words(enclave_banks[answer->value], answer->lists[1].bank.cfg, 8 + ENTRIES);
+        copy_words(enclave_banks[answer->value], &answer->lists[1].used, 9 + ENTRIES);
     for (unsigned hart = 0; hart < hart_count(); hart++)
-        if ((woken | 1ul << answer->hart) >> hart & 1)
-            is_stale[hart] = 1;
+        if ((answer->wake | 1ul << answer->hart) >> hart & 1)
+            worlds[hart].is_stale = 1;
     stop_harts(0); /* they go on */
 }
 
 /* No world reaches the pages that are made zero: they were an enclave's, and are closed to the host until its entries change. */
 static int64_t written_answer(const struct answer_frame *answer)
 {
-    uint64_t hart = answer->hart;
-    struct world *world = &worlds[hart];
+    struct world *world = &worlds[answer->hart];
     if (answer->zero_count) {
         make_zero(answer->zero_first, answer->zero_count);
         private_end(answer->zero_first, answer->zero_count);
     }
     if (answer->list_count)
-        change_lists(answer->wake, answer);
-    if (world_number[hart] != answer->world) {
-        floats_change((unsigned)hart, answer->world);
-        banks[hart] = answer->world ? enclave_banks[answer->world] : host_bank.cfg;
-        is_stale[hart] = 1;
+        change_lists(answer);
+    if (world->number != answer->world) {
+        floats_change(world, answer->world);
+        world->bank = answer->world ? (const struct bank *)enclave_banks[answer->world] : &host_bank;
+        control_write(&answer->control);
+        world->is_stale = 1;
     }
     world->pc = answer->pc;
     copy_words(world->x + 1, answer->x, 31);
-    control_write(&answer->control);
-    world_number[hart] = answer->world;
+    world->number = answer->world;
     answered(answer);
     return (int64_t)(offsetof(struct answer_frame, lists) + answer->list_count * sizeof answer->lists[0]);
 }

@@ -6,7 +6,8 @@
     .globl  _start
 _start:
     .option norelax
-    la      t0, died
+    csrw    mscratch, zero
+    la      t0, trap
     csrw    mtvec, t0
     csrr    t0, mhartid
     bnez    t0, other
@@ -37,15 +38,6 @@ other:
     bgeu    t0, t2, 1b
     fence   rw, rw
     j       enter_as_trapped
-
-    .balign 4
-    .globl  died
-died:
-    call    own_stack
-    csrr    a0, mcause
-    csrr    a1, mepc
-    csrr    a2, mtval
-    call    trapped             # it does not return
 
     .section .sdata, "aw"
     .balign 8

@@ -3,17 +3,27 @@
  *
  * The monitor is one thread of control with one stack. A hart that runs it has the lock, and lets go of it in run_world,
  * once its registers of protection are loaded. The hart whose world traps next, or the next to come by the lock, goes on
- * with the monitor where the last one left it: it returns from that call of run_world. A trap that changes nothing of the
- * monitor's a hart serves alone, without the lock and on a stack of its own (serve_alone).
+ * with the monitor where the last one left it: it returns from that call of run_world, with its own struct world. A trap that
+ * changes nothing of the monitor's a hart serves alone, without the lock and on a stack of its own (serve_alone). mscratch has the
+ * hart's struct world while its world runs, and zero otherwise: so a trap of the monitor itself is told from a world's.
  */
-    .equ    WORLD, 36 * 8       # the bytes of a struct world
+    .equ    X, 1616             # of a struct world: the end of the hart's own stack, and its registers
+    .equ    PC, X + 32 * 8
+    .equ    CAUSE, PC + 8
+    .equ    VALUE, PC + 16
+    .equ    IS_OUT, PC + 24
+    .equ    IS_WANTED, PC + 28
+    .equ    NUMBER, PC + 32
+    .equ    CALLED, 4           # of the lock
+    .equ    SLEEPERS, 8
+    .equ    MONITOR_SP, 16
     .equ    SAVED, 14 * 8
     .equ    CLINT, 0x2000000    # its first words: a software interrupt for each hart
 
-/* Registers x1 to x31 but the one that points to the world. */
-    .macro  all what, pointer
+/* Registers x1 to x30 of the world that x31 points to. */
+    .macro  all what
     .irp    n, 1, 2, 3, 4, 5, 6, 7, 8, 9, 10, 11, 12, 13, 14, 15, 16, 17, 18, 19, 20, 21, 22, 23, 24, 25, 26, 27, 28, 29, 30
-    \what   x\n, 8 * \n(\pointer)
+    \what   x\n, X + 8 * \n(x31)
     .endr
     .endm
     .macro  callee_saved what
@@ -22,28 +32,45 @@
     \what   s\n, 8 + 8 * \n(sp)
     .endr
     .endm
+    .macro  own_world to
+    csrr    \to, mhartid
+    slli    \to, \to, 11
+    la      t1, worlds
+    add     \to, \to, t1
+    .endm
 
 /*
- * Before it the hart is done with memory, and with what it said to the CLINT, which a release alone does not order. The hart
- * that is called next may sleep.
+ * The lock is two numbers: who comes takes the next, and goes in when it is called. So each comes in before who came later. a0 is
+ * the hart's struct world.
  */
-    .macro  unlock
-    fence
+    .macro  lock
     la      t0, tickets
-    lw      t5, 4(t0)
-    addiw   t5, t5, 1
-    sw      t5, 4(t0)
+    li      t1, 1
+    amoadd.w.aq t1, t1, (t0)
+    lw      t3, CALLED(t0)
+    beq     t1, t3, 9f
+    jal     t6, wait_for_call
+9:  fence   r, rw
+    sw      t1, NUMBER(a0)      # a hart has the lock while its last number is the one that is called
+    .endm
+
+/*
+ * The monitor is left where it is, and the lock is let go of. Before it the hart is done with memory, and with what it said to the
+ * CLINT, which a release alone does not order. The hart that is called next may sleep.
+ */
+    .macro  leave_monitor
+    addi    sp, sp, -SAVED
+    callee_saved sd
+    la      t0, tickets
+    sd      sp, MONITOR_SP(t0)
     fence
-    andi    t5, t5, 3
-    slli    t5, t5, 2
-    add     t0, t0, t5
-    lw      t5, 8(t0)
-    beqz    t5, 9f
-    slli    t5, t5, 2
-    li      t0, CLINT - 4
-    add     t0, t0, t5
-    li      t5, 1
-    sw      t5, (t0)
+    lw      t1, CALLED(t0)
+    addiw   t1, t1, 1
+    sw      t1, CALLED(t0)
+    fence
+    lw      t2, SLEEPERS(t0)
+    beqz    t2, 9f
+    jal     t6, wake_called
 9:
     .endm
 
@@ -55,29 +82,17 @@ instructions:
 
     .globl  run_world
 run_world:
-    addi    sp, sp, -SAVED
-    callee_saved sd
-    la      t0, monitor_sp
-    sd      sp, (t0)
-    mv      s0, a0
+    leave_monitor
 /* From here on nothing of the monitor's is used but this hart's own: another hart may go on with it. */
-    unlock
+    mv      s0, a0
 enter_world:
-    csrw    mscratch, s0        # before mtvec: a trap finds the world's place from there on
-    la      t0, trap
-    csrw    mtvec, t0
-    ld      t0, 32 * 8(s0)
+    ld      t0, PC(s0)
     csrw    mepc, t0
-    li      t1, ~(MODE_BITS)
-    csrr    t2, mstatus
-    and     t2, t2, t1
-    ld      t0, 33 * 8(s0)
-    or      t2, t2, t0
-    csrw    mstatus, t2         # at once: a mode that changes meanwhile costs QEMU its translations
-    sc.d    zero, zero, (s0)    # into the place of x0, so that no reservation of another world is left
+    sc.d    zero, zero, (s0)    # into the lowest word of the hart's stack, so that no reservation of another world is left
     mv      x31, s0
-    all     ld, x31
-    ld      x31, 8 * 31(x31)
+    all     ld
+    csrw    mscratch, x31
+    ld      x31, X + 8 * 31(x31)
     mret
 
 /*
@@ -86,145 +101,123 @@ enter_world:
  */
     .globl  park
 park:
-    addi    sp, sp, -SAVED
-    callee_saved sd
-    la      t0, monitor_sp
-    sd      sp, (t0)
-    csrr    t1, mhartid
-    slli    t1, t1, 2
-    la      t3, is_wanted
-    add     t3, t3, t1
-    li      t4, CLINT
+    leave_monitor
+    csrr    t4, mhartid
+    slli    t4, t4, 2
+    li      t1, CLINT
     add     t4, t4, t1
-    unlock
 1:  sw      zero, (t4)
     fence
-    lw      t1, (t3)
+    lw      t1, IS_WANTED(a0)
     bnez    t1, 2f
     wfi
     j       1b
-2:  sw      zero, (t3)
-    j       enter_as_trapped
+2:  sw      zero, IS_WANTED(a0)
+    j       take_monitor
 
-/* A hart that has run no world yet comes in as one that was stopped. */
+/* A hart that has run no world yet comes in as one that was parked. */
     .weak   enter_as_trapped
 enter_as_trapped:
-    csrr    t0, mhartid
-    li      t1, WORLD
-    mul     t0, t0, t1
-    la      x31, worlds
-    add     x31, x31, t0
-    li      t0, 1 << 63 | 3
-    sd      t0, 34 * 8(x31)
+    own_world a0
     j       take_monitor
 
     .balign 4
+    .globl  trap
 trap:
     csrrw   x31, mscratch, x31
-    all     sd, x31
-    csrr    t0, mscratch
-    sd      t0, 31 * 8(x31)
+    beqz    x31, died           # the monitor itself trapped
+    all     sd
+    csrrw   t0, mscratch, zero
+    sd      t0, X + 8 * 31(x31)
     csrr    t0, mepc
-    sd      t0, 32 * 8(x31)
-    csrr    t0, mstatus
-    li      t1, MODE_BITS
-    and     t0, t0, t1
-    sd      t0, 33 * 8(x31)
-    srli    t0, t0, 11          # of machine mode (MPP 3) no world is: the monitor itself trapped as it entered one
-    andi    t0, t0, 3
-    addi    t0, t0, -3
-    bnez    t0, 1f
-    j       died
-1:  csrr    t0, mcause
-    sd      t0, 34 * 8(x31)
+    sd      t0, PC(x31)
+    csrr    t0, mcause
+    sd      t0, CAUSE(x31)
     csrr    t0, mtval
-    sd      t0, 35 * 8(x31)
-    la      t0, died
-    csrw    mtvec, t0
+    sd      t0, VALUE(x31)
+    csrr    t0, mstatus
+    slli    t0, t0, 63 - 12     # of machine mode (MPP 3) no world is: the monitor trapped as it entered one
+    bltz    t0, died
     mv      s0, x31
-    call    own_stack
+    addi    sp, s0, X
+    mv      a0, s0
     call    serve_alone
     bnez    a0, enter_world
+    mv      a0, s0
 take_monitor:
-    csrr    t1, mhartid
-    slli    t1, t1, 2
-    la      t2, halted
-    add     t2, t2, t1
-    li      t1, 1
     fence   rw, rw
-    sw      t1, (t2)
-    call    take_lock
-    la      t0, monitor_sp
-    ld      sp, (t0)
+    sw      zero, IS_OUT(a0)
+    lock
+    ld      sp, MONITOR_SP(t0)
     callee_saved ld
     addi    sp, sp, SAVED
     ret
 
-/*
- * The lock is two numbers: who comes takes the next, and goes in when it is called. So each comes in before who came later. Who has
- * waited for some microseconds sleeps until it is called, and says so: another hart may need its core. It makes its word of the
- * CLINT zero before it looks.
- */
+/* The monitor itself trapped, and may again. */
+    .balign 4
+died:
+    la      t0, died
+    csrw    mtvec, t0
+    own_world sp
+    addi    sp, sp, X
+    csrr    a0, mcause
+    csrr    a1, mepc
+    csrr    a2, mtval
+    call    trapped             # it does not return
+
     .globl  take_lock
 take_lock:
-    la      t0, tickets
-    li      t1, 1
-    amoadd.w.aq t1, t1, (t0)
+    lock
+    ret
+
+/*
+ * Who has waited for some microseconds sleeps until it is called, and says so: another hart may need its core. It makes its word of
+ * the CLINT zero before it looks.
+ */
+wait_for_call:
     li      t5, 1000
-1:  lw      t3, 4(t0)
+1:  lw      t3, CALLED(t0)
     beq     t1, t3, 4f
     addi    t5, t5, -1
     bgtz    t5, 1b
-    csrr    t6, mie
-    li      t5, 1 << 3
-    csrw    mie, t5             # its software interrupt alone wakes it
+    csrr    t5, mie
+    li      t4, 1 << 3
+    csrw    mie, t4             # its software interrupt alone wakes it
     csrr    t4, mhartid
-    addi    t5, t4, 1
-    slli    t4, t4, 2
-    li      t2, CLINT
-    add     t4, t4, t2
     andi    t2, t1, 3
-    slli    t2, t2, 2
     add     t2, t2, t0
-    sw      t5, 8(t2)
+    addi    t3, t4, 1
+    slli    t4, t4, 2
+    sb      t3, SLEEPERS(t2)
+    li      t3, CLINT
+    add     t4, t4, t3
 2:  sw      zero, (t4)
     fence
-    lw      t3, 4(t0)
+    lw      t3, CALLED(t0)
     beq     t1, t3, 3f
     wfi
     j       2b
-3:  sw      zero, 8(t2)
-    csrw    mie, t6
-4:  fence   r, rw
-    csrr    t3, mhartid
-    slli    t3, t3, 2
-    add     t3, t3, t0
-    sw      t1, 24(t3)          # a hart has the lock while its last number is the one that is called
-    ret
+3:  sb      zero, SLEEPERS(t2)
+    csrw    mie, t5
+4:  jr      t6
 
-/* The stack is that of this hart alone. */
-    .globl  own_stack
-own_stack:
-    csrr    t0, mhartid
-    addi    t0, t0, 1
-    slli    t0, t0, 10          # a kilobyte for each hart
-    la      sp, own_stacks
-    add     sp, sp, t0
-    ret
+/* The hart that is called, by the number in t1, sleeps where its place says so. */
+wake_called:
+    andi    t1, t1, 3
+    add     t1, t1, t0
+    lbu     t2, SLEEPERS(t1)
+    beqz    t2, 1f
+    slli    t2, t2, 2
+    li      t1, CLINT - 4
+    add     t1, t1, t2
+    li      t2, 1
+    sw      t2, (t1)
+1:  jr      t6
 
     .section .sdata, "aw"
     .balign 8
-/* Hart 0 has the monitor first: the next number, the one that is called, of four numbers the harts that sleep, plus 1, and the last
-   number of each hart. */
     .globl  tickets
+/* Hart 0 has the monitor first, with number 0: the next number, the one that is called, four bytes for the harts that sleep, each
+   plus 1 and at the last two bits of its number, and where the monitor's stack is. */
 tickets:
-    .word   1, 0, 0, 0, 0, 0, 0, -1, -1, -1
-    .globl  halted
-halted:
-    .word   1, 1, 1, 1
-    .section .sbss, "aw", @nobits
-    .balign 16
-monitor_sp:
-    .skip   16
-own_stacks:
-    .skip   4 * 1024
+    .word   1, 0, 0, 0, 0, 0

@@ -2,67 +2,130 @@
  * A trap, and who has it: the proved core decides, and here it is done. What changes nothing that another hart reads but by its
  * requests is served by the hart alone, and the rest with the monitor's lock, under which it is decided anew.
  */
-#include "decisions.h"
+#include "board.h"
 
-struct caller callers[MOST_HARTS];
+/* crates/pmpmon_monitor: it writes no other word than those of harts and action. `call` is a0 to a7. */
+void pmpmon_decide(uint64_t world, uint64_t cause, const uint64_t *call, const struct caller *caller, const uint64_t *bank,
+                   struct harts *harts, struct action *action);
 
 /* Where the host begins on hart 0, as OpenSBI's fw_jump has it: a0 is the hart, a1 the device tree. Others wait for its call. */
 #define HOST_ENTRY 0x80200000ul
 static uint64_t device_tree;
 
 /* A hart that comes for the first time has its registers set. */
-static void begin(unsigned hart)
+static void begin(struct world *world)
 {
     static uint8_t has_begun[MOST_HARTS];
+    uint64_t hart = this_hart();
     if (has_begun[hart])
         return;
     has_begun[hart] = 1;
-    callers[hart] = (struct caller){hart, READ(mvendorid), READ(marchid), READ(mimpid), 0, 0};
-    control_at_start();
+    world->caller = (struct caller){hart, READ(mvendorid), READ(marchid), READ(mimpid), 0, 0};
     check_entries();
+    control_at_start();
 }
 
-static int is_started(unsigned hart)
+#define SBI_ERR_FAILED (~0ul)
+
+static __attribute__((noinline)) void interrupt_harts(uint64_t set)
 {
-    return harts.started >> hart & 1;
+    for (uint64_t hart = 0; set; hart++, set >>= 1)
+        if (set & 1)
+            interrupt_supervisor(hart);
 }
 
-/* This hart runs its world, or waits to be started. The hart that traps next comes back, and does what it was asked for. */
-static void leave_monitor(void)
+/* A hart that does not fence in ten seconds is an error of the call. */
+static void fence(struct action *action, uint32_t kind)
 {
-    if (is_started(this_hart())) {
-        load_changes();
-        run_world(&worlds[this_hart()]);
-    } else {
-        park();
+    if (!fence_harts(action->subject, kind))
+        action->error = SBI_ERR_FAILED;
+}
+
+/* What was decided of a trap of the host is done. A call of it is answered: a0 is the error, a1 the value, and it goes on after it. */
+static inline void act(struct world *world)
+{
+    struct action *action = &world->action;
+    switch (action->kind) {
+    case GO_ON:
+        take_requests(world);
+        load_changes(world);
+        return;
+    case TICK:
+        host_timer_came();
+        return;
+    case TO_HANDLER:
+        control_to_handler(world);
+        return;
+    case SET_TIMER:
+        host_timer_at(action->subject);
+        break;
+    case INTERRUPT_HARTS:
+        interrupt_harts(action->subject);
+        break;
+    case FENCE_INSTRUCTIONS:
+        fence(action, FENCE_I);
+        break;
+    case FENCE_TRANSLATIONS:
+        fence(action, FENCE_VMA);
+        break;
+    case PUT_BYTE:
+        put_char((char)action->subject);
     }
-    begin(this_hart());
-    if (!is_started(this_hart()))
-        take_requests(); /* no interrupt is left from before it starts */
+    world->x[10] = action->error;
+    world->x[11] = action->value;
+    world->pc += 4;
 }
 
-/* The last decision on each hart. */
-static struct action decisions[MOST_HARTS];
-
-static void decide(unsigned hart, struct harts *states)
+/* It waits in park. Its entries are kept like those of the others, and loaded before it starts. */
+static void start_hart(const struct action *action)
 {
-    struct world *world = &worlds[hart];
-    pmpmon_decide(world_number[hart], world->cause, world->x + 10, &callers[hart], &host_bank, states, &decisions[hart]);
+    struct world *world = &worlds[action->subject];
+    memset(world->x, 0, sizeof world->x);
+    world->pc = action->address;
+    world->x[10] = action->subject;
+    world->x[11] = action->opaque;
+    world->is_stale = 1;
+    unpark(action->subject);
+}
+
+static void act_with_lock(struct world *world)
+{
+    switch (world->action.kind) {
+    case GO_ON:
+        return;
+    case START_HART:
+        start_hart(&world->action);
+        break;
+    case STOP_HART: /* it does not come back: serve_with_lock parks it */
+        control_at_start();
+        return;
+    case SHUT_DOWN:
+        end_board(0);
+    case FAIL:
+        end_board(1);
+    case REBOOT:
+        begin_anew();
+    }
+    act(world);
+}
+
+static void decide(struct world *world, struct harts *states)
+{
+    pmpmon_decide(world->number, world->cause, world->x + 10, &world->caller, host_bank.cfg, states, &world->action);
 }
 
 /* Another hart may start or stop one meanwhile, so the states are a copy, and what changes them is decided anew with the lock. */
-int serve_alone(void)
+int serve_alone(struct world *world)
 {
-    unsigned hart = this_hart();
     struct harts seen = harts;
-    struct action *action = &decisions[hart];
-    decide(hart, &seen);
-    if (action->kind == ENCLAVE_TICK)
+    decide(world, &seen);
+    if (world->action.kind < START_HART) {
+        act(world);
+        return 1;
+    }
+    if (world->action.kind == ENCLAVE_TICK)
         host_timer_came();
-    if (action->kind >= START_HART)
-        return 0;
-    act(&worlds[hart], action);
-    return 1;
+    return 0;
 }
 
 /* The stack has grown into its last 8 KiB. What lies below it is the monitor's memory. */
@@ -73,48 +136,52 @@ static void check_stack(void)
         end_because("the stack is full on hart ", this_hart());
 }
 
-/* Runs the hart's world until a hart traps, and does what the monitor has not to know of: then it says 0. What it has is decided
-   already, whatever the states of harts are; a hart that was parked came without a decision, and its last one was to stop. It is no
-   part of the loop below, so that it keeps few registers. */
-static __attribute__((noinline)) uint64_t one_trap(void)
+static inline struct world *run(struct world *world)
 {
-    unsigned hart;
-    struct action *action;
-    leave_monitor();
-    hart = this_hart();
-    action = &decisions[hart];
-    if (action->kind < MONITOR) {
-        decide(hart, &harts);
-        act_with_lock(&worlds[hart], action);
-        return 0;
-    }
-    if (action->kind == MONITOR)
-        return TAG_CALL;
-    callers[hart].stop_cause = worlds[hart].cause;
-    callers[hart].stop_value = worlds[hart].value;
-    return action->kind == ENCLAVE_CALL ? TAG_CALL : TAG_STOP;
+    load_changes(world);
+    return run_world(world);
 }
 
+/* Does what the monitor has not to know of. A hart that is not started was parked, with no decision that holds, or comes for the
+   first time: no interrupt is left from before it starts. */
+static __attribute__((noinline)) struct world *serve_with_lock(struct world *world)
+{
+    if (!is_started(this_hart())) {
+        begin(world);
+        take_requests(world);
+        world->cause = INTERRUPT | 3;
+    }
+    decide(world, &harts);
+    act_with_lock(world);
+    return is_started(this_hart()) ? run(world) : park(world);
+}
+
+/* What a trap was decided to be holds with the lock too where it is the monitor's: that asks for no states of harts. */
 uint64_t next_trap(void)
 {
-    uint64_t tag;
+    struct world *world;
     check_stack();
-    do
-        tag = one_trap();
-    while (!tag);
-    return tag;
+    world = run(&worlds[this_hart()]);
+    while (world->action.kind < MONITOR)
+        world = serve_with_lock(world);
+    if (world->action.kind == MONITOR)
+        return TAG_CALL;
+    world->caller.stop_cause = world->cause;
+    world->caller.stop_value = world->value;
+    return world->action.kind == ENCLAVE_CALL ? TAG_CALL : TAG_STOP;
 }
 
 void answered(const struct answer_frame *answer)
 {
     static int is_booted;
+    struct world *host = &worlds[answer->hart];
     if (is_booted)
         return;
     is_booted = 1;
-    begin((unsigned)answer->hart);
-    worlds[answer->hart].pc = HOST_ENTRY;
-    worlds[answer->hart].x[10] = answer->hart;
-    worlds[answer->hart].x[11] = device_tree;
+    begin(host);
+    host->pc = HOST_ENTRY;
+    host->x[10] = answer->hart;
+    host->x[11] = device_tree;
     start_others();
 }
 

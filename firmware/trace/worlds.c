@@ -12,6 +12,7 @@
 #define ADDRESS 31
 #define CAUSE_BREAKPOINT 3
 #define SUPERVISOR (1ul << 11)
+#define MODE (3ul << 11 | 1ul << 39) /* MPP and MPV of mstatus */
 
 static struct {
     uint64_t base, pages;
@@ -73,7 +74,7 @@ static uint64_t page_of_host(void)
 /* A place for two instructions that the world on this hart may execute, apart from what it accesses. */
 static uint64_t place_apart(uint64_t address, uint64_t size)
 {
-    uint64_t id = world_number[this_hart()], place = id ? enclaves[id].base : page_of_host();
+    uint64_t id = worlds[this_hart()].number, place = id ? enclaves[id].base : page_of_host();
     while (address < place + 8 && place < address + size)
         place += 8;
     return place;
@@ -82,16 +83,24 @@ static uint64_t place_apart(uint64_t address, uint64_t size)
 /* The world of this hart executes at a place in some mode until it traps; what trapped is left in *world. */
 static void execute(struct world *world, uint64_t place, uint64_t mode)
 {
-    world->pc = place;
-    world->mode = mode;
-    is_stale[this_hart()] = 1; /* what it executes was written just now */
-    load_changes();
-    run_world(world);
+    struct world *self = &worlds[this_hart()], kept = *self;
+    uint64_t status = READ(mstatus);
+    copy_words(self->x, world->x, 32);
+    self->pc = place;
+    WRITE(mstatus, (status & ~MODE) | mode);
+    self->is_stale = 1; /* what it executes was written just now */
+    load_changes(self);
+    run_world(self);
+    WRITE(mstatus, status);
+    *world = *self;
+    copy_words(self->x, kept.x, 32);
+    self->pc = kept.pc;
 }
 
 /* A trace's traps are all looked at. */
-int serve_alone(void)
+int serve_alone(struct world *world)
 {
+    (void)world;
     return 0;
 }
 
@@ -175,7 +184,7 @@ static uint64_t one_instruction(uint32_t instruction)
     uint32_t first = code[0];
     struct world world = worlds[this_hart()];
     code[0] = instruction;
-    execute(&world, place, worlds[this_hart()].mode);
+    execute(&world, place, READ(mstatus) & MODE);
     code[0] = first;
     same_registers(&world, 1);
     if (world.pc != place)
@@ -186,7 +195,7 @@ static uint64_t one_instruction(uint32_t instruction)
 void do_ecall(void)
 {
     uint64_t cause = one_instruction(ECALL_WORD);
-    if (cause != (world_number[this_hart()] ? CAUSE_CALL_OF_USER : CAUSE_CALL_OF_SUPERVISOR))
+    if (cause != (worlds[this_hart()].number ? CAUSE_CALL_OF_USER : CAUSE_CALL_OF_SUPERVISOR))
         wrong("a call trapped otherwise:", cause);
 }
 

@@ -1,6 +1,6 @@
 """Every order in which two harts can go through the monitor's lock, the stop of a hart, its fences, and its wait to be started.
 
-What firmware/trap.S, harts.c and serve.c do with the lock, `halted`, `stopping`, `is_stale`, `is_wanted`, what harts ask of one another
+What firmware/trap.S, harts.c and serve.c do with the lock, `is_out` (a hart is halted where it is zero), `stopping`, `is_stale`, `is_wanted`, what harts ask of one another
 and the CLINT's software interrupts is written here once more, a step for each access. A store waits in a buffer of its hart: one for
 memory, in which stores to two words may be done in either order, and one for the CLINT, which is no memory. A fence waits for both,
 `fence rw, rw` and a release for that of memory alone, as an atomic access does. Loads are done in their order. All states that there
@@ -23,31 +23,34 @@ TURN = 3  # tickets and fences are counted up to here, and then from 0
 # The lines that the steps are of: the model has them, so the sources have to.
 LINES = {
     "firmware/trap.S": (
-        r" +fence\n +la +t0, tickets\n +lw +t5, 4\(t0\)\n +addiw +t5, t5, 1\n +sw +t5, 4\(t0\)\n +fence\n(?: +(?:andi|slli|add) .*\n)+ +lw +t5, 8\(t0\)\n +beqz +t5, 9f\n",
-        r"take_lock:\n +la +t0, tickets\n +li +t1, 1\n +amoadd\.w\.aq t1, t1, \(t0\)\n +li .*\n1: +lw +t3, 4\(t0\)\n +beq +t1, t3, 4f\n",
-        r" +sw +t5, 8\(t2\)\n2: +sw +zero, \(t4\)\n +fence\n +lw +t3, 4\(t0\)\n +beq +t1, t3, 3f\n +wfi\n +j +2b\n3: +sw +zero, 8\(t2\)\n.*\n4: +fence +r, rw\n",
-        r" +unlock\n1: +sw +zero, \(t4\)\n +fence\n +lw +t1, \(t3\)\n +bnez +t1, 2f\n +wfi\n +j +1b\n2: +sw +zero, \(t3\)\n",
-        r"fence   rw, rw\n +sw      t1, \(t2\)\n +call    take_lock\n",
+        r" +fence\n +lw +t1, CALLED\(t0\)\n +addiw +t1, t1, 1\n +sw +t1, CALLED\(t0\)\n +fence\n +lw +t2, SLEEPERS\(t0\)\n +beqz +t2, 9f\n +jal +t6, wake_called\n9:\n",
+        r"wake_called:\n(?: +(?:andi|add) .*\n)+ +lbu +t2, SLEEPERS\(t1\)\n +beqz +t2, 1f\n(?: .*\n)+ +sw +t2, \(t1\)\n1: +jr +t6\n",
+        r"lock\n +la +t0, tickets\n +li +t1, 1\n +amoadd\.w\.aq t1, t1, \(t0\)\n +lw +t3, CALLED\(t0\)\n +beq +t1, t3, 9f\n +jal +t6, wait_for_call\n9: +fence +r, rw\n",
+        r"wait_for_call:\n +li .*\n1: +lw +t3, CALLED\(t0\)\n +beq +t1, t3, 4f\n",
+        r" +sb +t3, SLEEPERS\(t2\)\n(?: +(?:li|add) .*\n)+2: +sw +zero, \(t4\)\n +fence\n +lw +t3, CALLED\(t0\)\n +beq +t1, t3, 3f\n +wfi\n +j +2b\n3: +sb +zero, SLEEPERS\(t2\)\n.*\n4: +jr +t6\n",
+        r" +leave_monitor\n(?: +(?:csrr|slli|li|add) .*\n)+1: +sw +zero, \(t4\)\n +fence\n +lw +t1, IS_WANTED\(a0\)\n +bnez +t1, 2f\n +wfi\n +j +1b\n2: +sw +zero, IS_WANTED\(a0\)\n",
+        r"fence   rw, rw\n +sw      zero, IS_OUT\(a0\)\n +lock\n",
     ),
     "firmware/harts.c": (
         r"\"fence\" .*\n +if \(!LEAVE_RUNNING\)\n +software_interrupt\[hart\] = 1;\n",
-        r"load_n\(&fences_asked\[self\], __ATOMIC_ACQUIRE\);\n +fence_here\(__atomic_fetch_and\(&requests\[self\], ~FENCES, __ATOMIC_SEQ_CST\)\);\n"
-        r" +__atomic_store_n\(&fences_made\[self\], asked, __ATOMIC_RELEASE\);\n",
-        r"software_interrupt\[self\] = 0;\n.*\"fence\" .*\n +make_fences\(self\);\n +if \(__atomic_fetch_and\(&requests\[self\], FENCES, __ATOMIC_SEQ_CST\) ",
-        r"halted\[self\] = 0;\n.*\"fence rw, rw\" .*\n +if \(__atomic_load_n\(&requests\[self\], __ATOMIC_ACQUIRE\) \|\| fences_asked\[self\] != fences_made\[self\]\)\n +take_requests\(\);\n"
-        r" +if \(!is_to_stop\(self\)\)\n +return;\n +halted\[self\] = 1;\n +while \(is_to_stop\(self\)\)\n +;\n +}\n",
+        r"load_n\(&self->fences_asked, __ATOMIC_ACQUIRE\);\n +fence_here\(__atomic_fetch_and\(&self->requests, ~FENCES, __ATOMIC_SEQ_CST\)\);\n"
+        r" +__atomic_store_n\(&self->fences_made, asked, __ATOMIC_RELEASE\);\n",
+        r"software_interrupt\[this_hart\(\)\] = 0;\n.*\"fence\" .*\n +make_fences\(self\);\n +if \(__atomic_fetch_and\(&self->requests, FENCES, __ATOMIC_SEQ_CST\) ",
+        r"self->is_out = 1;\n.*\"fence rw, rw\" .*\n +if \(__atomic_load_n\(&self->requests, __ATOMIC_ACQUIRE\) \|\| self->fences_asked != self->fences_made\)\n +take_requests\(self\);\n"
+        r" +return !is_to_stop\(this_hart\(\)\);\n",
+        r"do {\n +self->is_out = 0;\n +while \(is_to_stop\(this_hart\(\)\)\)\n +;\n +} while \(!goes_out\(self\)\);\n",
         r"return __atomic_load_n\(&stopping, __ATOMIC_ACQUIRE\) >> hart & 1;\n",
-        r"go_out\(self\);\n +if \(!is_stale\[self\]\)\n +return;\n +is_stale\[self\] = 0;\n +load_bank\(banks\[self\]\);\n",
-        r"while \(!halted\[hart\] && .*&fences_made\[hart\], __ATOMIC_ACQUIRE\) - number\) < 0\) {\n +make_fences\(this_hart\(\)\);\n",
-        r"fetch_or\(&requests\[hart\], kinds, __ATOMIC_SEQ_CST\);\n.*add_fetch\(&fences_asked\[hart\], 1, __ATOMIC_SEQ_CST\);\n +interrupt\(hart\);\n",
-        r"store_n\(&stopping, set, __ATOMIC_RELEASE\);\n.*\"fence rw, rw\" .*\n.*\n +if \(is_other\(set, hart\) && !halted\[hart\]\)\n +interrupt\(hart\);\n"
-        r".*\n +while \(is_other\(set, hart\) && !halted\[hart\]\)\n(?: +.*\n){2} +__asm__ volatile\(\"fence rw, rw\" ",
-        r"is_wanted\[hart\] = 1;\n.*\"fence\" .*\n +software_interrupt\[hart\] = 1;\n",
+        r"if \(!goes_out\(self\)\)\n +stand_still\(self\);\n +if \(!self->is_stale\)\n +return;\n +self->is_stale = 0;\n +load_bank\(self->bank\);\n",
+        r"while \(other->is_out && .*&other->fences_made, __ATOMIC_ACQUIRE\) - number\) < 0\) {\n +make_fences\(&worlds\[this_hart\(\)\]\);\n",
+        r"fetch_or\(&worlds\[hart\].requests, kinds, __ATOMIC_SEQ_CST\);\n.*add_fetch\(&worlds\[hart\].fences_asked, 1, __ATOMIC_SEQ_CST\);\n +interrupt\(hart\);\n",
+        r"store_n\(&stopping, set, __ATOMIC_RELEASE\);\n.*\"fence rw, rw\" .*\n.*\n +if \(is_other\(set, hart\) && worlds\[hart\]\.is_out\)\n +interrupt\(hart\);\n"
+        r".*\n +while \(is_other\(set, hart\) && worlds\[hart\]\.is_out\)\n(?: +.*\n){2} +__asm__ volatile\(\"fence rw, rw\" ",
+        r"worlds\[hart\]\.is_wanted = 1;\n.*\"fence\" .*\n +software_interrupt\[hart\] = 1;\n",
     ),
     "firmware/serve.c": (
-        r"if \(!stop_harts\(woken\)\)\n.*\n +host_bank = answer->lists\[0\]\.bank;\n(?: +.*\n){4} +is_stale\[hart\] = 1;\n +stop_harts\(0\);",
+        r"if \(!stop_harts\(answer->wake\)\)\n.*\n +host_bank = answer->lists\[0\];\n(?: +.*\n){4} +worlds\[hart\]\.is_stale = 1;\n +stop_harts\(0\);",
     ),
-    "firmware/actions.c": (r"case GO_ON:\n +take_requests\(\);\n +load_changes\(\);\n",),
+    "firmware/traps.c": (r"case GO_ON:\n +take_requests\(world\);\n +load_changes\(world\);\n",),
 }
 
 
