@@ -17,7 +17,13 @@ use Rattle.monitor_core.specs.Measured.{IsMade, asked_in}
 use Rattle.monitor_core.specs.States.{MonitorState, running_registers}
 use Rattle.monitor_core.specs.Steps.{DoesCall}
 use Rattle.monitor_core.specs.declared.answer.Answer.{Answer}
-use Rattle.monitor_core.proofs.Running.{call_there}
+use Rattle.std.proofs.lemmas.Option.{same_Some}
+use Rattle.sbi_decode.specs.Registers.{RegisterFile}
+use Rattle.sbi_decode.specs.Runners.{Runner}
+use Rattle.monitor_core.specs.SetChanges.{changed}
+use Rattle.monitor_core.specs.declared.set_changes.SetChanges.{SetChanges}
+use Rattle.trap_server.specs.Sets.{AreThere, with_sets}
+use Rattle.trap_server.proofs.Bare.{answer_with}
 use Rattle.trap_server.specs.Answered.{AreAwake, IsAnswer, given_on, marks_of, new_lists, no_answer, unmarked}
 use Rattle.trap_server.specs.Given.{GivesWords, keeping}
 use Rattle.trap_server.specs.PageDigest.{HasParts, question_of}
@@ -50,33 +56,39 @@ unanswered fault Are trap answer old new hosts kept before held holds answers wr
 
 pub stop_served :
     (result : Result (Unit {0}) ServeFault) (Are : List ℕ → Type 0) (trap : Trap) (old new : MonitorState) (hosts kept : ℕ → ControlWords)
-    (given : ControlWords) (before held holds : Option (List ℕ)) → trap.event ≡ Stop
+    (given : ControlWords) (changes : SetChanges) (before held holds : Option (List ℕ)) → trap.event ≡ Stop
     → GivesWords hosts trap.hart (old.worlds trap.hart) (new.worlds trap.hart) trap.control kept given
-    → ((bytes : List ℕ) → Are bytes → ServesStop old trap given [] [] bytes new) → AreAwake new → new.table.layout ≡ old.table.layout
+    → ((bytes : List ℕ) → Are bytes → (sets : Runner → RegisterFile)
+    → ServesStop (with_sets old sets) trap given changes [] [] bytes (with_sets new (changed trap.hart changes sets)))
+    → AreAwake new → new.table.layout ≡ old.table.layout
     → Writes result Are held holds → Serves result trap old hosts new kept before before held holds
-stop_served (Ok done) Are trap old new hosts kept given before held holds is words served awake layout wrote =
+stop_served (Ok done) Are trap old new hosts kept given changes before held holds is words served awake layout wrote =
     let bytes = wrote.0 in (
       [],
       [],
       bytes,
-      record {
+      changes,
+      λ sets there. record {
         given = given;
         words = words;
-        step = subst (λ (e : TrapEvent). ServesAs e old trap given [] [] bytes new) (sym is) (served bytes wrote.1);
+        step = subst (λ (e : TrapEvent). ServesAs e (with_sets old sets) trap given changes [] [] bytes (with_sets new (changed trap.hart changes sets))) (sym is)
+            (served bytes wrote.1 sets);
       },
       awake,
       layout,
       Consumes-nil before,
       subst (Appends held holds) (sym (append-nil bytes)) wrote.2,
     )
-stop_served (Err fault) Are trap old new hosts kept given before held holds is words served awake layout wrote =
+stop_served (Err fault) Are trap old new hosts kept given changes before held holds is words served awake layout wrote =
     unanswered fault Are trap no_answer old new hosts kept before held holds
     (λ bytes are. record {
       given = given;
+      changes = changes;
       new = new;
       kept = kept;
       words = words;
-      answers = subst (λ (e : TrapEvent). AnswersAs e old trap given no_answer bytes new) (sym is) (refl, served bytes are);
+      answers = λ sets there. subst (λ (e : TrapEvent). AnswersAs e (with_sets old sets) trap given changes no_answer bytes
+          (with_sets new (changed trap.hart changes sets))) (sym is) (refl, served bytes are sets);
     }) wrote
 
 -- ---- a call
@@ -84,40 +96,45 @@ stop_served (Err fault) Are trap old new hosts kept given before held holds is w
 -- it was answered, with the state that is then
 pub record CallAnswered (old now : MonitorState) (hosts kept : ℕ → ControlWords) (trap : Trap) (answer : Answer) (answered : List ℕ) : Type 0 where
   pub given : ControlWords
+  pub changes : SetChanges
   pub digest : List ℕ
   pub is_call : trap.event ≡ Call
   pub words : GivesWords hosts trap.hart (old.worlds trap.hart) (now.worlds trap.hart) trap.control kept given
-  pub answers : AnswersCall old trap given digest answer answered now
+  pub answers : (sets : Runner → RegisterFile) → AreThere old trap sets
+      → AnswersCall (with_sets old sets) trap given changes digest answer answered (with_sets now (changed trap.hart changes sets))
   pub table : IsTable now.table
   pub awake : AreAwake now
   pub layout : now.table.layout ≡ old.table.layout
 
--- the registers of the trap were put on its hart, the call served, and each hart woken that was marked
+-- the call was served, and each hart woken that was marked
 pub call_answered :
-    (s put mid now : MonitorState) (hosts kept : ℕ → ControlWords) (trap : Trap) (digest : List ℕ) (answer : Answer) (cleared : Option PageRange)
-    (woken : List Bool) (new : NewLists) (harts : ℕ) (bytes : List ℕ) → trap.event ≡ Call → put ≡ with_running s trap.hart trap.registers
-    → (let there = past_call (running_registers put trap.hart) in DoesCall (call_of there) (λ parts. digest)
-    (with_running put trap.hart there) trap.hart answer cleared mid)
-    → mid.table.layout ≡ put.table.layout → IsTable mid.table → harts ≡ s.table.layout.harts → harts ≤ 4 → now ≡ unmarked 4 mid → woken ≡ marks_of mid
+    (s mid now : MonitorState) (hosts kept : ℕ → ControlWords) (trap : Trap) (changes : SetChanges) (digest : List ℕ) (answer : Answer)
+    (cleared : Option PageRange) (woken : List Bool) (new : NewLists) (harts : ℕ) (bytes : List ℕ) → trap.event ≡ Call
+    → ((sets : Runner → RegisterFile) → let old = with_sets s sets in let file = past_call (running_registers old trap.hart) in
+    AreThere s trap sets → DoesCall (call_of file) (λ parts. digest) (with_running old trap.hart file) trap.hart answer cleared
+    (with_sets mid (changed trap.hart changes sets)))
+    → mid.table.layout ≡ s.table.layout → IsTable mid.table → harts ≡ s.table.layout.harts → harts ≤ 4 → now ≡ unmarked 4 mid → woken ≡ marks_of mid
     → kept ≡ keeping (s.worlds trap.hart) hosts trap.hart trap.control
     → new ≡ new_lists (asked_in (call_of trap.registers)) answer cleared
-    → IsAnswer now (given_on now kept trap.hart) trap.hart answer cleared woken new bytes → CallAnswered s now hosts kept trap answer bytes
-call_answered s put mid now hosts kept trap digest answer cleared woken new harts bytes is placed step platform sound number most n w keeps l says =
+    → IsAnswer now (given_on now kept trap.hart) trap.hart answer cleared woken new changes bytes → CallAnswered s now hosts kept trap answer bytes
+call_answered s mid now hosts kept trap changes digest answer cleared woken new harts bytes is step layout sound number most n w keeps l says =
     let given = given_on now kept trap.hart in
-    let layout = platform ∙ ap (λ (x : MonitorState). x.table.layout) placed in
     let few : mid.table.layout.harts ≤ 4 = subst (λ l. l.harts ≤ 4) (sym layout) (subst (λ k. k ≤ 4) number most) in
+    let lists = new_lists (asked_in (call_of trap.registers)) answer cleared in
+    let known = subst (λ (ls : NewLists). IsAnswer now given trap.hart answer cleared (marks_of mid) ls changes bytes) l
+    (subst (λ (ws : List Bool). IsAnswer now given trap.hart answer cleared ws new changes bytes) w says) in
     record {
       given = given;
+      changes = changes;
       digest = digest;
       is_call = is;
       words = record { keeps = keeps; gives = refl };
-      answers = record {
+      answers = λ sets there. record {
         cleared = cleared;
-        mid = mid;
-        step = call_there s put mid trap.hart trap.registers (λ parts. digest) answer cleared placed step;
-        woken = n;
-        goes_on = subst (λ (ls : NewLists). IsAnswer now given trap.hart answer cleared (marks_of mid) ls bytes) l
-            (subst (λ (ws : List Bool). IsAnswer now given trap.hart answer cleared ws new bytes) w says);
+        mid = with_sets mid (changed trap.hart changes sets);
+        step = step sets there;
+        woken = ap (λ (m : MonitorState). with_sets m (changed trap.hart changes sets)) n;
+        goes_on = answer_with now (changed trap.hart changes sets) given trap.hart answer cleared (marks_of mid) lists changes bytes known;
       };
       table = subst (λ (x : MonitorState). IsTable x.table) (sym n) sound;
       awake = quiet mid now n few;
@@ -129,10 +146,12 @@ as_trap :
     → CallAnswered old now hosts kept trap answer answered → AnswersTrap old hosts trap answer answered
 as_trap old now hosts kept trap answer answered a = record {
   given = a.given;
+  changes = a.changes;
   new = now;
   kept = kept;
   words = a.words;
-  answers = subst (λ (e : TrapEvent). AnswersAs e old trap a.given answer answered now) (sym a.is_call) (a.digest, a.answers);
+  answers = λ sets there. subst (λ (e : TrapEvent). AnswersAs e (with_sets old sets) trap a.given a.changes answer answered
+      (with_sets now (changed trap.hart a.changes sets))) (sym a.is_call) (a.digest, a.answers sets there);
 }
 
 -- its answer was not written whole
@@ -157,11 +176,12 @@ nothing_made old now hosts kept trap answer bytes before held holds a none wrote
   [],
   [],
   bytes,
-  record {
+  a.changes,
+  λ sets there. record {
     given = a.given;
     words = a.words;
-    step = subst (λ (e : TrapEvent). ServesAs e old trap a.given [] [] bytes now) (sym a.is_call)
-        (record { digest = a.digest; answer = answer; answers = a.answers; asks = inl (refl, refl, none) });
+    step = subst (λ (e : TrapEvent). ServesAs e (with_sets old sets) trap a.given a.changes [] [] bytes (with_sets now (changed trap.hart a.changes sets)))
+        (sym a.is_call) (record { digest = a.digest; answer = answer; answers = a.answers sets there; asks = inl (refl, refl, none) });
   },
   a.awake,
   a.layout,
@@ -169,13 +189,23 @@ nothing_made old now hosts kept trap answer bytes before held holds a none wrote
   subst (Appends held holds) (sym (append-nil bytes)) wrote,
 )
 
--- it made one, which is live, and whose pages can be asked for
+-- it made one, as with the sets that have the registers of the trap
+made_there :
+    (old now : MonitorState) (hosts kept : ℕ → ControlWords) (trap : Trap) (answer : Answer) (bytes : List ℕ) (parts : Create)
+    → CallAnswered old now hosts kept trap answer bytes → IsMade (asked_in (call_of trap.registers)) answer parts
+    → (e : Enclave) × Live now.table answer.value e × HasParts parts
+made_there old now hosts kept trap answer bytes parts a made =
+    let sets : Runner → RegisterFile = λ who. trap.registers in
+    let r = answer_remeasured (with_sets old sets) trap a.given a.changes a.digest answer bytes (with_sets now (changed trap.hart a.changes sets)) parts refl
+    a.table (a.answers sets refl) made in (r.0, r.1, r.2)
+
+-- which is live, and whose pages can be asked for
 pub made_to_measure :
     (old now : MonitorState) (hosts kept : ℕ → ControlWords) (trap : Trap) (answer : Answer) (bytes : List ℕ) (parts : Create)
     → CallAnswered old now hosts kept trap answer bytes → IsMade (asked_in (call_of trap.registers)) answer parts
     → ((e : Enclave) × Live now.table answer.value e) × HasParts parts
 made_to_measure old now hosts kept trap answer bytes parts a made =
-    let r = answer_remeasured old trap a.given a.digest answer bytes now parts a.table a.answers made in ((r.0, r.1), r.2)
+    let r = made_there old now hosts kept trap answer bytes parts a made in ((r.0, r.1), r.2)
 
 -- and which was measured, or the loop ends
 pub made_measured :
@@ -184,25 +214,38 @@ pub made_measured :
     → IsMade (asked_in (call_of trap.registers)) answer parts → Appends held middle bytes
     → MeasuresMade result parts answer.value now new before after middle holds → Serves result trap old hosts new kept before after held holds
 made_measured (Ok done) old now new hosts kept trap answer bytes parts before after held middle holds a made wrote m =
-    let r = answer_remeasured old trap a.given a.digest answer bytes now parts a.table a.answers made in
+    let made_one = made_there old now hosts kept trap answer bytes parts a made in
+    let e = made_one.0 in
+    let live = made_one.1 in
     let digest = digest_of (layout_of parts) m.1 in
     let question = question_of parts in
-    let served : Serves (Ok tt) trap old hosts (having_digest now answer.value r.0 digest) kept before after held holds = (
+    let served : Serves (Ok tt) trap old hosts (having_digest now answer.value e digest) kept before after held holds = (
       m.0,
       question,
       bytes,
-      record {
-        given = a.given;
-        words = a.words;
-        step = subst (λ (e : TrapEvent). ServesAs e old trap a.given m.0 question bytes (having_digest now answer.value r.0 digest)) (sym a.is_call)
-            (record { digest = digest; answer = answer; answers = r.3 digest; asks = inr (parts, made, refl, m.1, m.2, refl) });
-      },
+      a.changes,
+      λ sets there.
+          let after = changed trap.hart a.changes sets in
+          let all = answer_remeasured (with_sets old sets) trap a.given a.changes a.digest answer bytes (with_sets now after) parts there a.table
+          (a.answers sets there) made in
+          record {
+            given = a.given;
+            words = a.words;
+            step = subst (λ (event : TrapEvent). ServesAs event (with_sets old sets) trap a.given a.changes m.0 question bytes
+                (with_sets (having_digest now answer.value e digest) after)) (sym a.is_call) (record {
+              digest = digest;
+              answer = answer;
+              answers = subst (λ (f : Enclave). AnswersCall (with_sets old sets) trap a.given a.changes digest answer bytes
+                  (having_digest (with_sets now after) answer.value f digest)) (same_Some all.0 e (sym all.1 ∙ live)) (all.3 digest);
+              asks = inr (parts, made, refl, m.1, m.2, refl);
+            });
+          },
       a.awake,
       a.layout,
       m.4,
       Appends-trans held middle holds bytes question wrote m.5,
     ) in
-    subst (λ n. Serves (Ok tt) trap old hosts n kept before after held holds) (sym (m.3 r.0 r.1)) served
+    subst (λ n. Serves (Ok tt) trap old hosts n kept before after held holds) (sym (m.3 e live)) served
 made_measured (Err fault) old now new hosts kept trap answer bytes parts before after held middle holds a made wrote m = (
   m.0,
   bytes ++ m.1,

@@ -11,6 +11,11 @@ use Rattle.pmp_encoding.specs.declared.region.Entry.{Entry}
 use Rattle.platforms.specs.Platform.{IsLayout, PlatformLayout}
 use Rattle.sbi_decode.specs.Calls.{call_of}
 use Rattle.sbi_decode.specs.Registers.{RegisterFile}
+use Rattle.sbi_decode.specs.Runners.{Runner}
+use Rattle.monitor_core.specs.SetChanges.{changed}
+use Rattle.monitor_core.specs.declared.set_changes.SetChanges.{SetChanges}
+use Rattle.trap_server.specs.Sets.{AreThere, with_sets}
+use Rattle.trap_server.proofs.Bare.{placed_bare, placed_with}
 use Rattle.sbi_decode.specs.declared.world.World.{World}
 use Rattle.sbi_decode.specs.declared.world.World.TheVariants.{Host, Enclave as InEnclave}
 use Rattle.enclave_table.specs.Enclaves.{EnclaveTable}
@@ -38,7 +43,7 @@ use Rattle.trap_server.specs.declared.trap.Trap.{Trap}
 use Rattle.trap_server.specs.declared.words.ControlWords.{ControlWords}
 use Rattle.trap_server.specs.Answered.{AreAwake, IsAnswer, head_of, no_answer, unmarked}
 use Rattle.trap_server.specs.Answers.{front_bytes, list_bytes, list_count, lists_bytes}
-use Rattle.trap_server.specs.Boot.{IsFirstAnswer, others}
+use Rattle.trap_server.specs.Boot.{IsFirstAnswer, no_changes, others}
 use Rattle.trap_server.specs.Firmware.{FirmwareHeadline, HasFewest, IsThere, KeepsTrap, is_new, list_after, list_last, loaded_address, loaded_after, loaded_cfg}
 use Rattle.trap_server.specs.Firmware.{loaded_last, loaded_pairs}
 use Rattle.trap_server.specs.Runs.{ServesTraps, first_words, next_trap, no_trap}
@@ -72,65 +77,62 @@ same_fewest bytes limit view other same f = record {
 
 -- what an answer says in its first words, and its lists
 module _ (s : MonitorState) (given : ControlWords) (hart : ℕ) (answer : Answer) (cleared : Option PageRange) (woken : List Bool) (new : NewLists)
-    (bytes : List ℕ) (a : IsAnswer s given hart answer cleared woken new bytes) where
+    (changes : SetChanges) (bytes : List ℕ) (a : IsAnswer s given hart answer cleared woken new changes bytes) where
   abbrev head : Head
   head = head_of s hart answer a.used cleared woken new
 
-  abbrev file : RegisterFile
-  file = running_registers s hart
-
   says_hart : hart < 4 → word_at bytes 1 ≡ hart
-  says_hart low = ap (λ b. word_at b 1) a.puts.put ∙ hart_back head file given (lists_bytes a.puts.are) low
+  says_hart low = ap (λ b. word_at b 1) a.puts.put ∙ hart_back head changes given (lists_bytes a.puts.are) low
 
   says_world : world_number (s.worlds hart) < 2 ^ 64 → word_at bytes 2 ≡ world_number (s.worlds hart)
-  says_world low = ap (λ b. word_at b 2) a.puts.put ∙ world_back head file given (lists_bytes a.puts.are) low
+  says_world low = ap (λ b. word_at b 2) a.puts.put ∙ world_back head changes given (lists_bytes a.puts.are) low
 
   says_value : answer.value < 2 ^ 64 → word_at bytes 4 ≡ answer.value
-  says_value low = ap (λ b. word_at b 4) a.puts.put ∙ value_back head file given (lists_bytes a.puts.are) low
+  says_value low = ap (λ b. word_at b 4) a.puts.put ∙ value_back head changes given (lists_bytes a.puts.are) low
 
   says_woken : (other : ℕ) → other < 4 → (word_at bytes 8 / 2 ^ other % 2 == 1) ≡ slice_index_or woken other false
-  says_woken other low = ap (λ n. n / 2 ^ other % 2 == 1) (ap (λ b. word_at b 8) a.puts.put ∙ wake_back head file given (lists_bytes a.puts.are))
+  says_woken other low = ap (λ n. n / 2 ^ other % 2 == 1) (ap (λ b. word_at b 8) a.puts.put ∙ wake_back head changes given (lists_bytes a.puts.are))
       ∙ bit_there woken other low
 
   says_count : word_at bytes 9 ≡ list_count new
-  says_count = ap (λ b. word_at b 9) a.puts.put ∙ count_back head file given (lists_bytes a.puts.are) (few new)
+  says_count = ap (λ b. word_at b 9) a.puts.put ∙ count_back head changes given (lists_bytes a.puts.are) (few new)
     where
       few : (lists : NewLists) → list_count lists < 2 ^ 64
       few lists.Nothing = lit< tt
       few lists.Host = lit< tt
       few lists.HostAndMade = lit< tt
 
-  says_first : (host : List Entry) (more : List (List Entry)) → a.puts.are ≡ host ∷ more → drop 416 bytes ≡ list_bytes host ++ lists_bytes more
-  says_first host more are = ap (drop 416) (a.puts.put ∙ ap (λ ls. front_bytes head file given ++ lists_bytes ls) are)
-      ∙ first_list head file given host more
+  says_first : (host : List Entry) (more : List (List Entry)) → a.puts.are ≡ host ∷ more → drop 256 bytes ≡ list_bytes host ++ lists_bytes more
+  says_first host more are = ap (drop 256) (a.puts.put ∙ ap (λ ls. front_bytes head changes given ++ lists_bytes ls) are)
+      ∙ first_list head changes given host more
 
-  says_second : (host made : List Entry) → a.puts.are ≡ host ∷ (made ∷ []) → drop 1000 bytes ≡ list_bytes made ++ []
-  says_second host made are = ap (drop 1000) (a.puts.put ∙ ap (λ ls. front_bytes head file given ++ lists_bytes ls) are)
-      ∙ second_list head file given host made []
+  says_second : (host made : List Entry) → a.puts.are ≡ host ∷ (made ∷ []) → drop 840 bytes ≡ list_bytes made ++ []
+  says_second host made are = ap (drop 840) (a.puts.put ∙ ap (λ ls. front_bytes head changes given ++ lists_bytes ls) are)
+      ∙ second_list head changes given host made []
 
 -- the list of the host, where it is new, and that of an enclave that was made
 host_listed :
-    (new : NewLists) (s : MonitorState) (given : ControlWords) (hart : ℕ) (answer : Answer) (cleared : Option PageRange) (woken : List Bool) (bytes : List ℕ)
-    → IsAnswer s given hart answer cleared woken new bytes → is_new new answer.value Host ≡ true
-    → HasFewest (drop 416 bytes) s.table.layout.limit (current_view s.table Host)
-host_listed lists.Nothing s given hart answer cleared woken bytes a is = absurd (true≢false (sym is))
-host_listed lists.Host s given hart answer cleared woken bytes a is =
-    put_fewest a.puts.lists.0 [] (drop 416 bytes) s.table.layout.limit (current_view s.table Host)
-    (says_first s given hart answer cleared woken lists.Host bytes a a.puts.lists.0 [] a.puts.lists.2) a.puts.lists.1
-host_listed lists.HostAndMade s given hart answer cleared woken bytes a is =
+    (new : NewLists) (s : MonitorState) (given : ControlWords) (hart : ℕ) (answer : Answer) (cleared : Option PageRange) (woken : List Bool)
+    (changes : SetChanges) (bytes : List ℕ) → IsAnswer s given hart answer cleared woken new changes bytes → is_new new answer.value Host ≡ true
+    → HasFewest (drop 256 bytes) s.table.layout.limit (current_view s.table Host)
+host_listed lists.Nothing s given hart answer cleared woken changes bytes a is = absurd (true≢false (sym is))
+host_listed lists.Host s given hart answer cleared woken changes bytes a is =
+    put_fewest a.puts.lists.0 [] (drop 256 bytes) s.table.layout.limit (current_view s.table Host)
+    (says_first s given hart answer cleared woken lists.Host changes bytes a a.puts.lists.0 [] a.puts.lists.2) a.puts.lists.1
+host_listed lists.HostAndMade s given hart answer cleared woken changes bytes a is =
     let more = a.puts.lists.1 ∷ [] in
-    put_fewest a.puts.lists.0 (lists_bytes more) (drop 416 bytes) s.table.layout.limit (current_view s.table Host)
-    (says_first s given hart answer cleared woken lists.HostAndMade bytes a a.puts.lists.0 more a.puts.lists.4) a.puts.lists.2
+    put_fewest a.puts.lists.0 (lists_bytes more) (drop 256 bytes) s.table.layout.limit (current_view s.table Host)
+    (says_first s given hart answer cleared woken lists.HostAndMade changes bytes a a.puts.lists.0 more a.puts.lists.4) a.puts.lists.2
 
 made_listed :
-    (new : NewLists) (s : MonitorState) (given : ControlWords) (hart : ℕ) (answer : Answer) (cleared : Option PageRange) (woken : List Bool) (bytes : List ℕ)
-    → IsAnswer s given hart answer cleared woken new bytes → new ≡ lists.HostAndMade
-    → HasFewest (drop 1000 bytes) s.table.layout.limit (current_view s.table (InEnclave answer.value))
-made_listed lists.Nothing s given hart answer cleared woken bytes a is = absurd (let z : lists.Nothing ≡ lists.HostAndMade = is in cc)
-made_listed lists.Host s given hart answer cleared woken bytes a is = absurd (let z : lists.Host ≡ lists.HostAndMade = is in cc)
-made_listed lists.HostAndMade s given hart answer cleared woken bytes a is =
-    put_fewest a.puts.lists.1 [] (drop 1000 bytes) s.table.layout.limit (current_view s.table (InEnclave answer.value))
-    (says_second s given hart answer cleared woken lists.HostAndMade bytes a a.puts.lists.0 a.puts.lists.1 a.puts.lists.4) a.puts.lists.3
+    (new : NewLists) (s : MonitorState) (given : ControlWords) (hart : ℕ) (answer : Answer) (cleared : Option PageRange) (woken : List Bool)
+    (changes : SetChanges) (bytes : List ℕ) → IsAnswer s given hart answer cleared woken new changes bytes → new ≡ lists.HostAndMade
+    → HasFewest (drop 840 bytes) s.table.layout.limit (current_view s.table (InEnclave answer.value))
+made_listed lists.Nothing s given hart answer cleared woken changes bytes a is = absurd (let z : lists.Nothing ≡ lists.HostAndMade = is in cc)
+made_listed lists.Host s given hart answer cleared woken changes bytes a is = absurd (let z : lists.Host ≡ lists.HostAndMade = is in cc)
+made_listed lists.HostAndMade s given hart answer cleared woken changes bytes a is =
+    put_fewest a.puts.lists.1 [] (drop 840 bytes) s.table.layout.limit (current_view s.table (InEnclave answer.value))
+    (says_second s given hart answer cleared woken lists.HostAndMade changes bytes a a.puts.lists.0 a.puts.lists.1 a.puts.lists.4) a.puts.lists.3
 
 -- the list of a world after an answer is right, where a new one is, and one that is kept
 module _ (value : ℕ) (table : EnclaveTable) (limit : Limit) (answered : List ℕ) (before : ℕ → List ℕ) where
@@ -139,33 +141,33 @@ module _ (value : ℕ) (table : EnclaveTable) (limit : Limit) (answered : List �
 
   next_list :
       (new : NewLists) (world : World) → IsThere table world → word_at answered 9 ≡ list_count new
-      → (new ≡ lists.HostAndMade → word_at answered 4 ≡ value) → (is_new new value Host ≡ true → Right Host (drop 416 answered))
-      → (new ≡ lists.HostAndMade → Right (InEnclave value) (drop 1000 answered))
+      → (new ≡ lists.HostAndMade → word_at answered 4 ≡ value) → (is_new new value Host ≡ true → Right Host (drop 256 answered))
+      → (new ≡ lists.HostAndMade → Right (InEnclave value) (drop 840 answered))
       → (is_new new value world ≡ false → Right world (before (world_number world)))
       → Right world (list_after answered before (world_number world))
   next_list lists.Nothing Host there count named host made kept =
-      subst (Right Host) (sym (ap (λ n. if nat_lt 0 n then drop 416 answered else before 0) count)) (kept refl)
+      subst (Right Host) (sym (ap (λ n. if nat_lt 0 n then drop 256 answered else before 0) count)) (kept refl)
   next_list lists.Host Host there count named host made kept =
-      subst (Right Host) (sym (ap (λ n. if nat_lt 0 n then drop 416 answered else before 0) count)) (host refl)
+      subst (Right Host) (sym (ap (λ n. if nat_lt 0 n then drop 256 answered else before 0) count)) (host refl)
   next_list lists.HostAndMade Host there count named host made kept =
-      subst (Right Host) (sym (ap (λ n. if nat_lt 0 n then drop 416 answered else before 0) count)) (host refl)
+      subst (Right Host) (sym (ap (λ n. if nat_lt 0 n then drop 256 answered else before 0) count)) (host refl)
   next_list new (InEnclave zero) there count named host made kept =
       let above = live_above table.enclaves 0 there.0 there.1 in absurd (omega (arith, above))
   next_list lists.Nothing (InEnclave (suc n)) there count named host made kept =
       subst (Right (InEnclave (suc n)))
-      (sym (ap (λ c. if c == 2 && word_at answered 4 == suc n then drop 1000 answered else before (suc n)) count)) (kept refl)
+      (sym (ap (λ c. if c == 2 && word_at answered 4 == suc n then drop 840 answered else before (suc n)) count)) (kept refl)
   next_list lists.Host (InEnclave (suc n)) there count named host made kept =
       subst (Right (InEnclave (suc n)))
-      (sym (ap (λ c. if c == 2 && word_at answered 4 == suc n then drop 1000 answered else before (suc n)) count)) (kept refl)
+      (sym (ap (λ c. if c == 2 && word_at answered 4 == suc n then drop 840 answered else before (suc n)) count)) (kept refl)
   next_list lists.HostAndMade (InEnclave (suc n)) there count named host made kept =
-      let is = ap (λ c. if c == 2 && word_at answered 4 == suc n then drop 1000 answered else before (suc n)) count
-      ∙ ap (λ v. if v == suc n then drop 1000 answered else before (suc n)) (named refl) in
+      let is = ap (λ c. if c == 2 && word_at answered 4 == suc n then drop 840 answered else before (suc n)) count
+      ∙ ap (λ v. if v == suc n then drop 840 answered else before (suc n)) (named refl) in
       both (value == suc n)
       (λ yes.
       let same : value ≡ suc n = eqb-true value (suc n) yes in
-      subst (Right (InEnclave (suc n))) (sym (is ∙ ap (λ t. if t then drop 1000 answered else before (suc n)) yes))
-      (subst (λ k. Right (InEnclave k) (drop 1000 answered)) same (made refl)))
-      (λ no. subst (Right (InEnclave (suc n))) (sym (is ∙ ap (λ t. if t then drop 1000 answered else before (suc n)) no)) (kept no))
+      subst (Right (InEnclave (suc n))) (sym (is ∙ ap (λ t. if t then drop 840 answered else before (suc n)) yes))
+      (subst (λ k. Right (InEnclave k) (drop 840 answered)) same (made refl)))
+      (λ no. subst (Right (InEnclave (suc n))) (sym (is ∙ ap (λ t. if t then drop 840 answered else before (suc n)) no)) (kept no))
 
 -- the number of a world that is there is small
 number_small : (table : EnclaveTable) (world : World) → IsTable table → IsThere table world → world_number world < 2 ^ 64
@@ -181,8 +183,8 @@ runs_there table Host current = tt
 runs_there table (InEnclave id) current = (current.0, current.1)
 
 -- a trap, and the lists before it
-module _ (s : MonitorState) (hosts kept : ℕ → ControlWords) (trap : Trap) (read question answered : List ℕ) (new : MonitorState) (before : ℕ → List ℕ)
-    (k : KeepsTrap s hosts trap read question answered new kept) (layout : new.table.layout ≡ s.table.layout) (sound : IsTable new.table)
+module _ (s : MonitorState) (hosts kept : ℕ → ControlWords) (trap : Trap) (changes : SetChanges) (read question answered : List ℕ) (new : MonitorState)
+    (before : ℕ → List ℕ) (k : KeepsTrap s hosts trap changes read question answered new kept) (layout : new.table.layout ≡ s.table.layout) (sound : IsTable new.table)
     (placed : ArePlaced new) (was : (world : World) → IsThere s.table world
     → HasFewest (before (world_number world)) s.table.layout.limit (current_view s.table world)) where
   abbrev limit : Limit
@@ -195,11 +197,11 @@ module _ (s : MonitorState) (hosts kept : ℕ → ControlWords) (trap : Trap) (r
   pub next_lists : (world : World) → IsThere new.table world → HasFewest (after (world_number world)) limit (current_view new.table world)
   next_lists world there =
       next_list k.answer.value new.table limit answered before k.lists world there
-      (says_count new k.given trap.hart k.answer k.cleared k.woken k.lists answered k.says)
-      (λ is. says_value new k.given trap.hart k.answer k.cleared k.woken k.lists answered k.says
+      (says_count new k.given trap.hart k.answer k.cleared k.woken k.lists changes answered k.says)
+      (λ is. says_value new k.given trap.hart k.answer k.cleared k.woken k.lists changes answered k.says
       (number_small new.table (InEnclave k.answer.value) sound (k.made is)))
-      (host_listed k.lists new k.given trap.hart k.answer k.cleared k.woken answered k.says)
-      (made_listed k.lists new k.given trap.hart k.answer k.cleared k.woken answered k.says)
+      (host_listed k.lists new k.given trap.hart k.answer k.cleared k.woken changes answered k.says)
+      (made_listed k.lists new k.given trap.hart k.answer k.cleared k.woken changes answered k.says)
       (λ off.
       let same = k.keeps world there off in
       same_fewest (before (world_number world)) limit (current_view s.table world) (current_view new.table world) same.1
@@ -215,8 +217,8 @@ module _ (s : MonitorState) (hosts kept : ℕ → ControlWords) (trap : Trap) (r
       let fourth : other < 4 = omega (arith, under, most) in
       let under_new : other < new.table.layout.harts = subst (λ l. other < l.harts) (sym layout) under in
       let Right = λ (bytes : List ℕ). HasFewest bytes limit (current_view new.table (new.worlds other)) in
-      let named = says_hart new k.given hart k.answer k.cleared k.woken k.lists answered k.says four in
-      let bit = says_woken new k.given hart k.answer k.cleared k.woken k.lists answered k.says other fourth in
+      let named = says_hart new k.given hart k.answer k.cleared k.woken k.lists changes answered k.says four in
+      let bit = says_woken new k.given hart k.answer k.cleared k.woken k.lists changes answered k.says other fourth in
       let there = runs_there new.table (new.worlds other) (placed.current other under_new) in
       let rest = if word_at answered 8 / 2 ^ other % 2 == 1 then after 0 else loaded in
       both (other == hart)
@@ -224,7 +226,7 @@ module _ (s : MonitorState) (hosts kept : ℕ → ControlWords) (trap : Trap) (r
       let same : other ≡ hart = eqb-true other hart yes in
       let number = number_small new.table (new.worlds other) sound there in
       let world : word_at answered 2 ≡ world_number (new.worlds other) =
-      says_world new k.given hart k.answer k.cleared k.woken k.lists answered k.says (subst (λ h. world_number (new.worlds h) < 2 ^ 64) same number)
+      says_world new k.given hart k.answer k.cleared k.woken k.lists changes answered k.says (subst (λ h. world_number (new.worlds h) < 2 ^ 64) same number)
       ∙ ap (λ h. world_number (new.worlds h)) (sym same) in
       subst Right (sym (ap (λ t. if t then after (word_at answered 2) else rest) (eq-eqb (word_at answered 1) other (named ∙ sym same)) ∙ ap after world))
       (next_lists (new.worlds other) there))
@@ -263,33 +265,40 @@ woken_good layout mid new most woken table platform worlds = record {
 }
 
 next_good :
-    (event : TrapEvent) (layout : PlatformLayout) (s : MonitorState) (trap : Trap) (given : ControlWords) (read question answered : List ℕ) (new : MonitorState)
-    → layout.harts ≤ 4 → trap.hart < s.table.layout.harts → IsGood layout s
-    → ServesAs event s trap given read question answered new → IsGood layout new
-next_good Call layout s trap given read question answered new most low good x =
+    (event : TrapEvent) (layout : PlatformLayout) (s : MonitorState) (trap : Trap) (given : ControlWords) (changes : SetChanges)
+    (read question answered : List ℕ) (new : MonitorState) → layout.harts ≤ 4 → trap.hart < s.table.layout.harts → IsGood layout s
+    → ServesAs event s trap given changes read question answered new → IsGood layout new
+next_good Call layout s trap given changes read question answered new most low good x =
     let hart = trap.hart in
-    let file = past_call trap.registers in
+    let file = past_call (running_registers s hart) in
     let t = with_running s hart file in
     let a = x.answers in
     woken_good layout a.mid new most a.woken (call_keeps_table (call_of file) (λ parts. x.digest) t hart x.answer a.cleared a.mid a.step good.table)
     (call_keeps_layout (call_of file) (λ parts. x.digest) t hart x.answer a.cleared a.mid a.step ∙ good.platform)
     (call_keeps_worlds (call_of file) (λ parts. x.digest) t hart x.answer a.cleared a.mid low (good.awake hart low) a.step
     (putting_keeps_worlds s hart file good.worlds))
-next_good Stop layout s trap given read question answered new most low good x =
+next_good Stop layout s trap given changes read question answered new most low good x =
     let hart = trap.hart in
-    let t = with_running s hart trap.registers in
+    let t = s in
     let world = s.worlds hart in
     woken_good layout x.mid new most x.woken (interrupt_keeps_table world t hart x.mid x.step good.table)
     (interrupt_keeps_layout world t hart x.mid x.step ∙ good.platform)
-    (interrupt_keeps_worlds world t hart x.mid refl low (good.awake hart low) x.step (putting_keeps_worlds s hart trap.registers good.worlds))
+    (interrupt_keeps_worlds world t hart x.mid refl low (good.awake hart low) x.step good.worlds)
+
+-- it is good whatever its register sets are
+good_with : (layout : PlatformLayout) (s : MonitorState) (sets : Runner → RegisterFile) → IsGood layout s → IsGood layout (with_sets s sets)
+good_with layout s sets g = record { table = g.table; platform = g.platform; worlds = placed_with s sets g.worlds; awake = g.awake }
+
+good_bare : (layout : PlatformLayout) (s : MonitorState) (sets : Runner → RegisterFile) → IsGood layout (with_sets s sets) → IsGood layout s
+good_bare layout s sets g = record { table = g.table; platform = g.platform; worlds = placed_bare s sets g.worlds; awake = g.awake }
 
 -- at the opening all harts have the host's list, and no other world is there
 first_bank : (layout : PlatformLayout) (first : List ℕ) → IsFirstAnswer layout first
-    → HasFewest (drop 416 first) layout.limit (current_view (opening_monitor layout).table Host)
-first_bank layout first a = host_listed lists.Host (opening_monitor layout) first_host_words 0 no_answer None (others layout.harts) first a refl
+    → HasFewest (drop 256 first) layout.limit (current_view (opening_monitor layout).table Host)
+first_bank layout first a = host_listed lists.Host (opening_monitor layout) first_host_words 0 no_answer None (others layout.harts) no_changes first a refl
 
 first_lists : (layout : PlatformLayout) (first : List ℕ) (world : World) → IsFirstAnswer layout first → IsThere (opening_monitor layout).table world
-    → HasFewest (drop 416 first) layout.limit (current_view (opening_monitor layout).table world)
+    → HasFewest (drop 256 first) layout.limit (current_view (opening_monitor layout).table world)
 first_lists layout first Host a there = first_bank layout first a
 first_lists layout first (InEnclave id) a there = absurd (none_live layout id there.0 there.1)
 
@@ -307,42 +316,51 @@ firmware_kept layout first read written s kept no_trap rules answer = record {
   modes = λ hart. refl;
   each = tt;
 }
-firmware_kept layout first read written s all (next_trap {read = r} {written = w} {mid = mid} {now = now} served trap frame more question answered new kept size
-    is step) rules answer =
+firmware_kept layout first read written s all (next_trap {read = r} {written = w} {mid = mid} {now = now} served trap frame more question answered changes new kept
+    size is step) rules answer =
     let before = firmware_kept layout first r w mid now served rules answer in
     let good : IsGood layout mid = record { table = before.table; platform = before.platform; worlds = before.worlds; awake = before.awake } in
-    let next = next_good trap.event layout mid trap step.given more question answered new rules.four_harts is.known good step.step in
     let most : mid.table.layout.harts ≤ 4 = subst (λ l. l.harts ≤ 4) (sym before.platform) rules.four_harts in
-    let below = still_below now kept trap.hart (mid.worlds trap.hart) (new.worlds trap.hart) trap.control step.given step.words before.modes is.below in
-    let k = trap_kept mid now kept trap more question answered new (record {
+    let trapped : Runner → RegisterFile = λ who. trap.registers in
+    let one = step trapped refl in
+    let there = changed trap.hart changes trapped in
+    let after_it = next_good trap.event layout (with_sets mid trapped) trap one.given changes more question answered (with_sets new there) rules.four_harts is.known
+    (good_with layout mid trapped good) one.step in
+    let next = good_bare layout new there after_it in
+    let below = still_below now kept trap.hart (mid.worlds trap.hart) (new.worlds trap.hart) trap.control one.given one.words before.modes is.below in
+    let each : (sets : Runner → RegisterFile) → AreThere mid trap sets
+    → KeepsTrap (with_sets mid sets) now trap changes more question answered (with_sets new (changed trap.hart changes sets)) kept = λ sets are.
+    trap_kept (with_sets mid sets) now kept trap changes more question answered (with_sets new (changed trap.hart changes sets)) (record {
       known = is.known;
       awake = before.awake trap.hart is.known;
       most = most;
       table = before.table;
-      placed = before.worlds;
-    })
-    below step in
+      placed = placed_with mid sets before.worlds;
+    }) are below (step sets are) in
+    let k = each trapped refl in
     let layouts = next.platform ∙ sym before.platform in
     let was : (world : World) → IsThere mid.table world
-    → HasFewest (list_last first served (world_number world)) mid.table.layout.limit (current_view mid.table world) = λ world there.
+    → HasFewest (list_last first served (world_number world)) mid.table.layout.limit (current_view mid.table world) = λ world is_there.
     subst (λ l. HasFewest (list_last first served (world_number world)) l.limit (current_view mid.table world)) (sym before.platform)
-    (before.lists world there) in
+    (before.lists world is_there) in
     let after = list_after answered (list_last first served) in
     record {
       table = next.table;
       platform = next.platform;
       worlds = next.worlds;
       awake = next.awake;
-      lists = λ world there. subst (λ l. HasFewest (after (world_number world)) l.limit (current_view new.table world)) next.platform
-          (next_lists mid now kept trap more question answered new (list_last first served) k layouts next.table next.worlds was world there);
+      lists = λ world is_there. subst (λ l. HasFewest (after (world_number world)) l.limit (current_view new.table world)) next.platform
+          (next_lists (with_sets mid trapped) now kept trap changes more question answered (with_sets new there) (list_last first served) k layouts next.table
+          after_it.worlds was world is_there);
       banks = λ hart low.
           let under : hart < mid.table.layout.harts = subst (λ l. hart < l.harts) (sym before.platform) low in
           let right = subst (λ l. HasFewest (loaded_last first served hart) l.limit (current_view mid.table (mid.worlds hart))) (sym before.platform)
           (before.banks hart low) in
           subst (λ l. HasFewest (loaded_after answered after (loaded_last first served hart) hart) l.limit (current_view new.table (new.worlds hart)))
           next.platform
-          (next_bank mid now kept trap more question answered new (list_last first served) k layouts next.table next.worlds was
+          (next_bank (with_sets mid trapped) now kept trap changes more question answered (with_sets new there) (list_last first served) k layouts next.table
+          after_it.worlds was
           (loaded_last first served hart) hart is.known most under right);
       modes = below;
-      each = (before.each, k);
+      each = (before.each, each);
     }

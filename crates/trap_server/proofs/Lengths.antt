@@ -5,10 +5,9 @@ use Rattle.byteorder.specs.Endian.{little_bytes}
 use Rattle.pmp_encoding.specs.declared.region.Entry.{Entry}
 use Rattle.pmp_encoding.specs.declared.perm.Perm.{Perm}
 use Rattle.pmp_encoding.specs.Perms.{bits_of}
-use Rattle.sbi_decode.specs.Registers.{RegisterFile, x_of}
 use Rattle.trap_server.specs.Words.{word_at}
 use Rattle.trap_server.specs.Platforms.{ram_in, device_words, words_of, words_of_device}
-use Rattle.trap_server.specs.Answers.{address_at, address_bytes, cfg_at, cfg_bytes, register_bytes}
+use Rattle.trap_server.specs.Answers.{address_at, address_bytes, cfg_at, cfg_bytes}
 
 pub word_length : (x : ℕ) → length (little_bytes 8 x) ≡ 8
 word_length x = refl
@@ -25,16 +24,6 @@ device_length bytes (suc n) =
       length-append (device_words bytes n) ((word_at bytes (71 + 3 * n), word_at bytes (72 + 3 * n), word_at bytes (73 + 3 * n)) ∷ []),
       device_length bytes n,
     )
-
-none_less : 1 ≤ 0 → ⊥
-none_less some = omega (arith, some)
-
--- a register more
-pub register_step : (file : RegisterFile) (n : ℕ) → 1 ≤ n → register_bytes file (n + 1) ≡ register_bytes file n ++ little_bytes 8 (x_of file n)
-register_step file zero some = absurd (none_less some)
-register_step file (suc n) some =
-    let e : suc n + 1 ≡ suc (suc n) = omega arith in
-    ap (register_bytes file) e
 
 pub devices_room : (items : List (ℕ × ℕ × Perm)) (bytes : List ℕ) (n : ℕ) → words_of items ≡ device_words bytes n → length items ≡ n
 devices_room items bytes n is = sym (length-map items words_of_device) ∙ ap length is ∙ device_length bytes n

@@ -1,3 +1,4 @@
+pub mod Bare
 pub mod Remeasured
 pub mod Served
 mod Answering

@@ -12,13 +12,18 @@ use Rattle.pmp_encoding.specs.Limits.{limit_number}
 use Rattle.pmp_encoding.specs.Lists.{MeansList, done, keep, skip}
 use Rattle.pmp_encoding.proofs.Filled.{limit_most, zero_off}
 use Rattle.pmp_encoding.proofs.Pairs.{pair_is}
-use Rattle.sbi_decode.specs.Registers.{RegisterFile, x_of}
+use Rattle.monitor_core.specs.declared.set_changes.ChangeKind.{ChangeKind}
+use Rattle.monitor_core.specs.declared.set_changes.ChangeKind.TheVariants as kinds
+use Rattle.monitor_core.specs.declared.set_changes.SetChange.{SetChange}
+use Rattle.monitor_core.specs.declared.set_changes.SetChanges.{SetChanges}
+use Rattle.trap_server.specs.Answered.{AreWords}
+use Rattle.trap_server.specs.Sets.{change_at, kind_by, said_changes}
 use Rattle.trap_server.specs.declared.answer.Head.{Head}
 use Rattle.trap_server.specs.declared.words.ControlWords.{ControlWords}
 use Rattle.trap_server.specs.Words.{answer_tag, bytes_of, word_at}
 use Rattle.monitor_core.specs.Answers.{world_number}
-use Rattle.trap_server.specs.Answers.{address_at, address_bytes, address_in, bit_of, cfg_at, cfg_bytes, cfg_in, control_bytes, front_bytes, head_bytes}
-use Rattle.trap_server.specs.Answers.{list_bytes, list_count, lists_bytes, pages_of, register_bytes, wake_word}
+use Rattle.trap_server.specs.Answers.{address_at, address_bytes, address_in, bit_of, cfg_at, cfg_bytes, cfg_in, changes_bytes, control_bytes, front_bytes, head_bytes}
+use Rattle.trap_server.specs.Answers.{kind_number, list_bytes, list_count, lists_bytes, pages_of, wake_word}
 use Rattle.trap_server.specs.Firmware.{loaded_address, loaded_cfg, loaded_pairs}
 use Rattle.trap_server.proofs.Lengths.{cfg_length, word_length}
 
@@ -97,16 +102,6 @@ address_there entries front rest k (suc n) i size low =
     ∙ word_after (front ++ address_bytes entries n) rest (k + n) (address_at entries n) whole (address_small (slice_get entries n))
     ∙ ap (address_at entries) (sym same))
     (cases_lt i n)
-
-register_length : (file : RegisterFile) (n : ℕ) → length (register_bytes file (suc n)) ≡ 8 * suc n
-register_length file zero = refl
-register_length file (suc n) = omega (
-  arith,
-  length-append (register_bytes file (suc n)) (little_bytes 8 (x_of file (suc n))),
-  word_length
-      (x_of file (suc n)),
-  register_length file n,
-)
 
 -- a bit of the word of those that are woken
 is_bit : (b : Bool) (n : ℕ) → n ≡ bit_of b → (n == 1) ≡ b
@@ -223,29 +218,42 @@ head_words head =
     answer_tag ∷ (head.hart ∷ (world_number head.world ∷ (head.status ∷ (head.value ∷
     (head.used ∷ ((pages_of head.zero).first ∷ ((pages_of head.zero).count ∷ (wake_word head.woken ∷ (list_count head.lists ∷ [])))))))))
 
-module _ (head : Head) (file : RegisterFile) (control : ControlWords) where
-  abbrev front : List ℕ
-  front = front_bytes head file control
+-- a kind by its number
+kind_back : (kind : ChangeKind) → kind_by (kind_number kind) ≡ kind
+kind_back kinds.Nothing = refl
+kind_back kinds.PastCall = refl
+kind_back kinds.Answer = refl
+kind_back kinds.Begin = refl
+kind_back kinds.Clear = refl
 
-  front_length : length front ≡ 416
-  front_length = omega (
-    arith,
-    length-append (head_bytes head) (register_bytes file 32 ++ control_bytes control),
-    length-append (register_bytes file 32) (control_bytes control),
-    register_length file 31,
-    head_size,
-    control_size,
-  )
-    where
-      head_size : length (head_bytes head) ≡ 80
-      head_size = refl
-      control_size : length (control_bytes control) ≡ 80
-      control_size = refl
+kind_small : (kind : ChangeKind) → kind_number kind < 2 ^ 64
+kind_small kinds.Nothing = lit< tt
+kind_small kinds.PastCall = lit< tt
+kind_small kinds.Answer = lit< tt
+kind_small kinds.Begin = lit< tt
+kind_small kinds.Clear = lit< tt
+
+-- a change by the words that it was put as
+change_is : (answered : List ℕ) (from : ℕ) (change : SetChange) → word_at answered from ≡ kind_number change.kind
+    → word_at answered (from + 1) ≡ change.enclave → word_at answered (from + 2) ≡ change.first → word_at answered (from + 3) ≡ change.second
+    → change_at answered from ≡ change
+change_is answered from change k e f s =
+    ap (λ n. record (change_at answered from) { kind = kind_by n }) k
+    ∙ ap (λ kind. record (change_at answered from) { kind = kind }) (kind_back change.kind)
+    ∙ ap (λ n. record (change_at answered from) { kind = change.kind; enclave = n }) e
+    ∙ ap (λ n. record change { first = n; second = word_at answered (from + 3) }) f ∙ ap (λ n. record change { second = n }) s
+
+module _ (head : Head) (changes : SetChanges) (control : ControlWords) where
+  abbrev front : List ℕ
+  front = front_bytes head changes control
+
+  front_length : length front ≡ 256
+  front_length = refl
 
   -- one of the first words
   head_word : (rest : List ℕ) (k : ℕ) → k < 10 → slice_index_or (head_words head) k 0 < 2 ^ 64 → word_at (front ++ rest) k ≡ slice_index_or (head_words head) k 0
   head_word rest k low small =
-      let more = register_bytes file 32 ++ control_bytes control in
+      let more = changes_bytes changes ++ control_bytes control in
       let same : 0 + k ≡ k = omega arith in
       ap (λ bytes. word_at bytes k) (append_assoc (head_bytes head) more rest)
       ∙ sym (ap (word_at (head_bytes head ++ (more ++ rest))) same)
@@ -266,17 +274,33 @@ module _ (head : Head) (file : RegisterFile) (control : ControlWords) where
   pub count_back : (rest : List ℕ) → list_count head.lists < 2 ^ 64 → word_at (front ++ rest) 9 ≡ list_count head.lists
   count_back rest low = head_word rest 9 (lit< tt) low
 
+  -- what becomes of register sets
+  pub changes_back : (rest : List ℕ) → AreWords changes → said_changes (front ++ rest) ≡ changes
+  changes_back rest are =
+      let bytes = front ++ rest in
+      let back = λ (k x : ℕ) (small : x < 2 ^ 64). little_number-reads_back 8 x (drop k bytes) small in
+      let one = changes.first in
+      let two = changes.second in
+      let three = changes.third in
+      let low = λ (n : ℕ) (is : n ≤ 64). let small : n < 2 ^ 64 = omega (arith, is) in small in
+      ap (λ x. record (said_changes bytes) { first = x }) (change_is bytes 10 one (back 88 (kind_number one.kind) (kind_small one.kind))
+      (back 96 one.enclave (low one.enclave are.sets.first)) (back 104 one.first are.first.0) (back 112 one.second are.first.1))
+      ∙ ap (λ x. record (said_changes bytes) { first = one; second = x }) (change_is bytes 14 two (back 120 (kind_number two.kind) (kind_small two.kind))
+      (back 128 two.enclave (low two.enclave are.sets.second)) (back 136 two.first are.second.0) (back 144 two.second are.second.1))
+      ∙ ap (λ x. record changes { third = x }) (change_is bytes 18 three (back 152 (kind_number three.kind) (kind_small three.kind))
+      (back 160 three.enclave (low three.enclave are.sets.third)) (back 168 three.first are.third.0) (back 176 three.second are.third.1))
+
   -- the lists after them
-  pub first_list : (entries : List Entry) (lists : List (List Entry)) → drop 416 (front ++ lists_bytes (entries ∷ lists))
+  pub first_list : (entries : List Entry) (lists : List (List Entry)) → drop 256 (front ++ lists_bytes (entries ∷ lists))
       ≡ list_bytes entries ++ lists_bytes lists
   first_list entries lists =
       let rest = list_bytes entries ++ lists_bytes lists in
       ap (λ k. drop k (front ++ rest)) (sym front_length) ∙ drop-append_seam front rest
 
-  pub second_list : (one two : List Entry) (lists : List (List Entry)) → drop 1000 (front ++ lists_bytes (one ∷ (two ∷ lists)))
+  pub second_list : (one two : List Entry) (lists : List (List Entry)) → drop 840 (front ++ lists_bytes (one ∷ (two ∷ lists)))
       ≡ list_bytes two ++ lists_bytes lists
   second_list one two lists =
       let rest = list_bytes two ++ lists_bytes lists in
       let both = front ++ list_bytes one in
-      let size : length both ≡ 1000 = omega (arith, length-append front (list_bytes one), front_length, list_length one) in
-      ap (drop 1000) (sym (append_assoc front (list_bytes one) rest)) ∙ ap (λ k. drop k (both ++ rest)) (sym size) ∙ drop-append_seam both rest
+      let size : length both ≡ 840 = omega (arith, length-append front (list_bytes one), front_length, list_length one) in
+      ap (drop 840) (sym (append_assoc front (list_bytes one) rest)) ∙ ap (λ k. drop k (both ++ rest)) (sym size) ∙ drop-append_seam both rest

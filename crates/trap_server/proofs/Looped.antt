@@ -4,7 +4,7 @@ use Rattle.std.proofs.Common.{append_assoc, append-nil}
 use Rattle.std.specs.Io.KnownBytes.{Appends, Consumes}
 use Rattle.std.proofs.KnownBytes.{Appends-trans, Consumes-trans}
 use Rattle.platforms.specs.Platform.{PlatformLayout}
-use Rattle.monitor_core.specs.declared.monitor.Monitor.{Monitor}
+use Rattle.monitor_core.specs.declared.steps.Core.{Core}
 use Rattle.monitor_core.specs.States.{MonitorState, opening_monitor}
 use Rattle.trap_server.specs.declared.words.ControlWords.{ControlWords}
 use Rattle.trap_server.specs.declared.trap.Trap.{Trap}
@@ -16,7 +16,7 @@ use Rattle.trap_server.specs.declared.fault.ServeFault.{ServeFault}
 use Rattle.trap_server.specs.declared.answer.NewLists.TheVariants as lists
 use Rattle.trap_server.specs.declared.fault.ServeFault.TheVariants as faults
 use Rattle.trap_server.specs.Ends.{EndsAs, Refuses}
-use Rattle.trap_server.specs.Boot.{Boots, BootsOn, EndsAtFirst, IsFirstAnswer, MayOpen, RefusesFirst, StopsAtFirst, others}
+use Rattle.trap_server.specs.Boot.{no_changes, Boots, BootsOn, EndsAtFirst, IsFirstAnswer, MayOpen, RefusesFirst, StopsAtFirst, others}
 use Rattle.trap_server.specs.Platforms.{IsNoPlatform, IsPlatformFrame, ReadsPlatform}
 use Rattle.trap_server.specs.Traps.{IsNoTrap, IsTrapFrame, ReadsTrap}
 use Rattle.trap_server.specs.Answered.{AreAwake, IsAnswer, given_on, no_answer}
@@ -75,19 +75,19 @@ opened_at layout first opened before after held middle holds size platform consu
 pub opens :
     (s : MonitorState) (hosts : ℕ → ControlWords) (layout : PlatformLayout) (opened : List ℕ) (harts : ℕ) (woken : List Bool) → s ≡ opening_monitor layout
     → hosts ≡ first_words → harts ≡ s.table.layout.harts → woken ≡ others harts
-    → IsAnswer s (given_on s hosts 0) 0 no_answer None woken lists.Host opened → IsFirstAnswer layout opened
+    → IsAnswer s (given_on s hosts 0) 0 no_answer None woken lists.Host no_changes opened → IsFirstAnswer layout opened
 opens s hosts layout opened harts woken is words n w answer =
-    let known = subst (λ ws. IsAnswer s (given_on s hosts 0) 0 no_answer None ws lists.Host opened)
+    let known = subst (λ ws. IsAnswer s (given_on s hosts 0) 0 no_answer None ws lists.Host no_changes opened)
     (w ∙ ap others (n ∙ ap (λ (x : MonitorState). x.table.layout.harts) is)) answer in
-    let with_words = subst (λ (hs : ℕ → ControlWords). IsAnswer s (given_on s hs 0) 0 no_answer None (others layout.harts) lists.Host opened) words known in
-    subst (λ (x : MonitorState). IsAnswer x (given_on x first_words 0) 0 no_answer None (others layout.harts) lists.Host opened) is with_words
+    let with_words = subst (λ (hs : ℕ → ControlWords). IsAnswer s (given_on s hs 0) 0 no_answer None (others layout.harts) lists.Host no_changes opened) words known in
+    subst (λ (x : MonitorState). IsAnswer x (given_on x first_words 0) 0 no_answer None (others layout.harts) lists.Host no_changes opened) is with_words
 
 pub begins :
     (s : MonitorState) (hosts : ℕ → ControlWords) (layout : PlatformLayout) (first opened : List ℕ) (harts : ℕ) (woken : List Bool)
     (before after held middle holds : Option (List ℕ)) → length first ≡ 1336 → IsPlatformFrame first layout → s ≡ opening_monitor layout
     → hosts ≡ first_words
     → Consumes before after first → Appends held middle [] → MayOpen layout → harts ≡ s.table.layout.harts → woken ≡ others harts
-    → IsAnswer s (given_on s hosts 0) 0 no_answer None woken lists.Host opened → Appends middle holds opened → Progress 0 s hosts before after held holds
+    → IsAnswer s (given_on s hosts 0) 0 no_answer None woken lists.Host no_changes opened → Appends middle holds opened → Progress 0 s hosts before after held holds
 begins s hosts layout first opened harts woken before after held middle holds size platform is words consumed nothing may n w answer wrote =
     subst (λ (hs : ℕ → ControlWords). Progress 0 s hs before after held holds) (sym words)
     (subst (λ (x : MonitorState). Progress 0 x first_words before after held holds) (sym is)
@@ -100,7 +100,7 @@ pub answer_stops :
     (before after held middle holds : Option (List ℕ)) → length first ≡ 1336 → IsPlatformFrame first layout → s ≡ opening_monitor layout
     → hosts ≡ first_words
     → Consumes before after first → Appends held middle [] → harts ≡ s.table.layout.harts → woken ≡ others harts → fault ≡ faults.Write
-    → IsAnswer s (given_on s hosts 0) 0 no_answer None woken lists.Host answer → n < length answer → Appends middle holds (take n answer)
+    → IsAnswer s (given_on s hosts 0) 0 no_answer None woken lists.Host no_changes answer → n < length answer → Appends middle holds (take n answer)
     → EndsAtFirst fault before after held holds
 answer_stops fault s hosts layout first answer n harts woken before after held middle holds size platform is words consumed nothing h w write whole less wrote =
     let part = take n answer in (
@@ -121,7 +121,7 @@ answer_stops fault s hosts layout first answer n harts woken before after held m
 -- one trap more
 pub goes_on :
     (count : ℕ) (old new : MonitorState) (hosts kept : ℕ → ControlWords) (trap : Trap) (frame : List ℕ) (harts : ℕ)
-    (before now mid after held middle holds : Option (List ℕ)) → Progress count old hosts before now held middle → length frame ≡ 352
+    (before now mid after held middle holds : Option (List ℕ)) → Progress count old hosts before now held middle → length frame ≡ 160
     → IsTrapFrame frame harts trap
     → harts ≡ old.table.layout.harts → Consumes now mid frame → Serves (Ok tt) trap old hosts new kept mid after middle holds
     → Progress (count + 1) new kept before after held holds
@@ -135,15 +135,15 @@ goes_on count old new hosts kept trap frame harts before now mid after held midd
   platform = p.platform;
   may_open = p.may_open;
   begins = p.begins;
-  served = next_trap p.served trap frame s.0 s.1 s.2 new kept size (subst (λ k. IsTrapFrame frame k trap) n is) s.3;
+  served = next_trap p.served trap frame s.0 s.1 s.2 s.3 new kept size (subst (λ k. IsTrapFrame frame k trap) n is) s.4;
   counted = ap (λ k. k + 1) p.counted;
   consumed = consumed_as before after ((p.first ++ p.read) ++ (frame ++ s.0)) (p.first ++ (p.read ++ (frame ++ s.0)))
       (append_assoc p.first p.read (frame ++ s.0))
-      (Consumes-trans before now after (p.first ++ p.read) (frame ++ s.0) p.consumed (Consumes-trans now mid after frame s.0 came s.6));
+      (Consumes-trans before now after (p.first ++ p.read) (frame ++ s.0) p.consumed (Consumes-trans now mid after frame s.0 came s.7));
   appended = appended_as held holds ((p.opened ++ p.written) ++ (s.2 ++ s.1)) (p.opened ++ (p.written ++ (s.2 ++ s.1)))
       (append_assoc p.opened p.written (s.2 ++ s.1))
-      (Appends-trans held middle holds (p.opened ++ p.written) (s.2 ++ s.1) p.appended s.7);
-  quiet = s.4;
+      (Appends-trans held middle holds (p.opened ++ p.written) (s.2 ++ s.1) p.appended s.8);
+  quiet = s.5;
 }
 
 -- what came and was written after them
@@ -206,7 +206,7 @@ read_stops result frames.Write count now hosts trap harts before mid after held 
 pub trap_stops :
     (fault : ServeFault) (count : ℕ) (now : MonitorState) (hosts kept : ℕ → ControlWords) (new : MonitorState) (trap : Trap) (harts : ℕ) (frame : List ℕ)
     (before mid next after held middle holds : Option (List ℕ)) → Progress count now hosts before mid held middle
-    → harts ≡ now.table.layout.harts → length frame ≡ 352 → IsTrapFrame frame harts trap → Consumes mid next frame
+    → harts ≡ now.table.layout.harts → length frame ≡ 160 → IsTrapFrame frame harts trap → Consumes mid next frame
     → Serves (Err fault) trap now hosts new kept next after middle holds → EndsEarly fault before after held holds
 trap_stops fault count now hosts kept new trap harts frame before mid next after held middle holds p n size is came s =
     ended fault count now hosts before mid after held middle holds (frame ++ s.0) s.1 p (Consumes-trans mid next after frame s.0 came s.3) s.4
@@ -245,7 +245,7 @@ refuses_first refusals.Memory bytes after size not = absurd not
 
 -- the monitor on a platform that was read
 pub booted :
-    (result : Result Monitor ServeFault) (layout : PlatformLayout) (first : List ℕ) (before after held holds : Option (List ℕ)) → length first ≡ 1336
+    (result : Result Core ServeFault) (layout : PlatformLayout) (first : List ℕ) (before after held holds : Option (List ℕ)) → length first ≡ 1336
     → IsPlatformFrame first layout → Consumes before after first → BootsOn result layout held holds
     → Boots result before after held holds
 booted (Ok monitor) layout first before after held holds size is consumed boots = (layout, first, size, is, boots.0, consumed, boots.1, boots.2)

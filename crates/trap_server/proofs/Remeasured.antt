@@ -25,7 +25,8 @@ use Rattle.enclave_table.proofs.SameViews.{fits_same}
 use Rattle.monitor_core.specs.Answers.{below_zero}
 use Rattle.monitor_core.specs.Changes.{answering, having_digest, marking_others, past_call, with_running}
 use Rattle.monitor_core.specs.Measured.{IsMade, asked_in}
-use Rattle.monitor_core.specs.States.{MonitorState, view_of}
+use Rattle.monitor_core.specs.States.{MonitorState, running_registers, view_of}
+use Rattle.monitor_core.specs.declared.set_changes.SetChanges.{SetChanges}
 use Rattle.monitor_core.specs.Steps.{DoesCall, Refuses}
 use Rattle.monitor_core.specs.declared.answer.Answer.{Answer}
 use Rattle.monitor_core.proofs.Digested.{fewest_digested}
@@ -160,9 +161,10 @@ lists_digested lists.HostAndMade s id made e digest are live is = (
 
 answer_same :
     (s : MonitorState) (id : ℕ) (e : Enclave) (digest : List ℕ) (given : ControlWords) (hart : ℕ) (answer : Answer) (cleared : Option PageRange)
-    (woken : List Bool) (new : NewLists) (bytes : List ℕ) → Live s.table id e → IsAnswer s given hart answer cleared woken new bytes
-    → IsAnswer (having_digest s id e digest) given hart answer cleared woken new bytes
-answer_same s id e digest given hart answer cleared woken new bytes live is = record {
+    (woken : List Bool) (new : NewLists) (changes : SetChanges) (bytes : List ℕ) → Live s.table id e
+    → IsAnswer s given hart answer cleared woken new changes bytes → IsAnswer (having_digest s id e digest) given hart answer cleared woken new changes bytes
+answer_same s id e digest given hart answer cleared woken new changes bytes live is = record {
+  words = is.words;
   used = is.used;
   needs = record {
     entries = is.needs.entries;
@@ -177,14 +179,16 @@ answer_same s id e digest given hart answer cleared woken new bytes live is = re
 }
 
 pub answer_remeasured :
-    (s : MonitorState) (trap : Trap) (given : ControlWords) (first : List ℕ) (answer : Answer) (answered : List ℕ) (now : MonitorState) (parts : Create)
-    → IsTable now.table → AnswersCall s trap given first answer answered now → IsMade (asked_in (call_of trap.registers)) answer parts
+    (s : MonitorState) (trap : Trap) (given : ControlWords) (changes : SetChanges) (first : List ℕ) (answer : Answer) (answered : List ℕ) (now : MonitorState)
+    (parts : Create) → call_of (running_registers s trap.hart) ≡ call_of trap.registers
+    → IsTable now.table → AnswersCall s trap given changes first answer answered now → IsMade (asked_in (call_of trap.registers)) answer parts
     → (e : Enclave) × Live now.table answer.value e × HasParts parts
-    × ((digest : List ℕ) → AnswersCall s trap given digest answer answered (having_digest now answer.value e digest))
-answer_remeasured s trap given first answer answered now parts is x made =
+    × ((digest : List ℕ) → AnswersCall s trap given changes digest answer answered (having_digest now answer.value e digest))
+answer_remeasured s trap given changes first answer answered now parts there is x asked =
     let hart = trap.hart in
-    let file = past_call trap.registers in
+    let file = past_call (running_registers s hart) in
     let before = with_running s hart file in
+    let made = subst (λ c. IsMade (asked_in c) answer parts) (sym there) asked in
     let sound : IsTable x.mid.table = subst (λ (m : MonitorState). IsTable m.table) x.woken is in
     let r = call_remeasured (call_of file) first before hart answer x.cleared x.mid parts sound x.step made in
     let live : Live now.table answer.value r.0 = subst (λ (m : MonitorState). Live m.table answer.value r.0) (sym x.woken) r.1 in (
@@ -197,6 +201,6 @@ answer_remeasured s trap given first answer answered now parts is x made =
         step = r.2 digest;
         woken = ap (λ (m : MonitorState). having_digest m answer.value r.0 digest) x.woken;
         goes_on = answer_same now answer.value r.0 digest given hart answer x.cleared (marks_of x.mid)
-            (new_lists (asked_in (call_of trap.registers)) answer x.cleared) answered live x.goes_on;
+            (new_lists (asked_in (call_of trap.registers)) answer x.cleared) changes answered live x.goes_on;
       },
     )

@@ -1,5 +1,5 @@
 -- What one trap keeps that was served.
-use Rattle.std.proofs.Common.{◌≡◌, ◌≢◌, ◌∙◌, ◌<◌, ◌≤◌, ◌||◌, ◌⊎◌, ◌==◌, if◌then◌else◌, inl, inr, ℕ, zero, suc, pos, true, false, List, Option, Some, None, IfSome}
+use Rattle.std.proofs.Common.{◌≡◌, ◌≢◌, ◌∙◌, ◌<◌, ◌≤◌, ◌||◌, ◌⊎◌, ◌==◌, if◌then◌else◌, inl, inr, ℕ, zero, suc, pos, Bool, true, false, List, Option, Some, None, IfSome}
 use Rattle.std.proofs.Common.{slice_index_or, refl, ap, sym, subst, arith}
 use Rattle.pmp_encoding.specs.Views.{SameView}
 use Rattle.pmp_encoding.specs.declared.pages.PageRange.{PageRange}
@@ -23,7 +23,12 @@ use Rattle.monitor_core.specs.Answers.{below_zero}
 use Rattle.monitor_core.specs.Changes.{past_call, with_running}
 use Rattle.monitor_core.specs.Frames.{ClearsMemory, KeepsOthers}
 use Rattle.monitor_core.specs.Measured.{IsMade, asked_in}
-use Rattle.monitor_core.specs.States.{MonitorState}
+use Rattle.monitor_core.specs.States.{MonitorState, running_registers}
+use Rattle.monitor_core.specs.declared.set_changes.SetChanges.{SetChanges}
+use Rattle.trap_server.specs.Answers.{lists_bytes}
+use Rattle.trap_server.specs.Sets.{AreThere, said_changes, with_sets}
+use Rattle.trap_server.specs.declared.answer.NewLists.{NewLists}
+use Rattle.trap_server.proofs.LoadedBytes.{changes_back}
 use Rattle.monitor_core.specs.Switches.{HasExited, KeepsRegisters, runner_on}
 use Rattle.monitor_core.specs.Wants.{IsRefusedByNeed}
 use Rattle.monitor_core.specs.Worlds.{ArePlaced}
@@ -44,8 +49,8 @@ use Rattle.trap_server.specs.declared.trap.TrapEvent.TheVariants.{Call, Stop}
 use Rattle.trap_server.specs.declared.trap.Trap.{Trap}
 use Rattle.trap_server.specs.declared.words.ControlWords.{ControlWords}
 use Rattle.trap_server.specs.declared.answer.NewLists.TheVariants as lists
-use Rattle.trap_server.specs.Answered.{marks_of, new_lists, no_answer, unmarked}
-use Rattle.trap_server.specs.Firmware.{AreDestroyed, AreThose, AsksMemory, IsThere, KeepsTrap, called, private_pages}
+use Rattle.trap_server.specs.Answered.{IsAnswer, head_of, marks_of, new_lists, no_answer, unmarked}
+use Rattle.trap_server.specs.Firmware.{AreDestroyed, AreThose, AsksMemory, IsThere, KeepsTrap, called, is_new, private_pages}
 use Rattle.trap_server.specs.Given.{GivesWords, keeping, words_in}
 use Rattle.trap_server.specs.Service.{AsksFor, ServesAs, ServesCall, ServesStop, ServesTrap}
 use Rattle.trap_server.specs.Traps.{is_machine}
@@ -153,6 +158,13 @@ destroyed s mid new wiped woken memory (inr some) =
 past : (came file now : RegisterFile) → file ≡ past_call came → Through file now → AreThose Call came now
 past came file now is through = subst (λ f. Through f now) is through
 
+-- an answer says what becomes of register sets
+says_changes :
+    (s : MonitorState) (given : ControlWords) (hart : ℕ) (answer : Answer) (cleared : Option PageRange) (woken : List Bool) (new : NewLists)
+    (changes : SetChanges) (bytes : List ℕ) → IsAnswer s given hart answer cleared woken new changes bytes → said_changes bytes ≡ changes
+says_changes s given hart answer cleared woken new changes bytes a =
+    ap said_changes a.puts.put ∙ changes_back (head_of s hart answer a.used cleared woken new) changes given (lists_bytes a.puts.are) a.words
+
 -- what every trap has, before which the table was sound and each enclave on one hart
 pub record IsReady (s : MonitorState) (hart : ℕ) : Type 0 where
   pub known : hart < s.table.layout.harts
@@ -162,39 +174,45 @@ pub record IsReady (s : MonitorState) (hart : ℕ) : Type 0 where
   pub placed : ArePlaced s
 
 call_kept :
-    (s : MonitorState) (hosts kept : ℕ → ControlWords) (trap : Trap) (given : ControlWords) (read question answered : List ℕ) (new : MonitorState)
-    → IsReady s trap.hart → trap.event ≡ Call
+    (s : MonitorState) (hosts kept : ℕ → ControlWords) (trap : Trap) (given : ControlWords) (changes : SetChanges) (read question answered : List ℕ)
+    (new : MonitorState) → IsReady s trap.hart → call_of (running_registers s trap.hart) ≡ call_of trap.registers → trap.event ≡ Call
     → GivesWords hosts trap.hart (s.worlds trap.hart) (new.worlds trap.hart) trap.control kept given → AreBelow kept
-    → ServesCall s trap given read question answered new → KeepsTrap s hosts trap read question answered new kept
-call_kept s hosts kept trap given read question answered new ready is words all x =
+    → ServesCall s trap given changes read question answered new → KeepsTrap s hosts trap changes read question answered new kept
+call_kept s hosts kept trap given changes read question answered new ready there is words all x =
     let hart = trap.hart in
-    let file = past_call trap.registers in
+    let came = running_registers s hart in
+    let file = past_call came in
     let call = call_of file in
     let t = with_running s hart file in
     let me = runner_on s hart in
     let placed = putting_keeps_worlds s hart file ready.placed in
     let a = x.answers in
+    let lists = new_lists (asked_in (call_of trap.registers)) x.answer a.cleared in
     let Refused = λ (e : TrapEvent). IsRefusedByNeed (called e trap.registers) s.table (s.worlds hart)
     (λ refusal. x.answer.status ≡ below_zero (refusal_number refusal)) in
     record {
       answer = x.answer;
       cleared = a.cleared;
       woken = marks_of a.mid;
-      lists = new_lists (asked_in call) x.answer a.cleared;
+      lists = lists;
       given = given;
       says = a.goes_on;
       made = λ is.
-          let m = made_by_lists (asked_in call) x.answer a.cleared is in
+          let m = made_by_lists (asked_in call) x.answer a.cleared (ap (λ c. new_lists (asked_in c) x.answer a.cleared) there ∙ is) in
           let sound = call_keeps_table call (λ parts. x.digest) t hart x.answer a.cleared a.mid a.step ready.table in
           let r = call_remeasured call x.digest t hart x.answer a.cleared a.mid m.0 sound a.step m.1 in
           (r.0, subst (λ (y : MonitorState). Live y.table x.answer.value r.0) (sym a.woken) r.1);
-      keeps = λ world there off. woken_keeps t a.mid new world a.woken
-          (λ is. call_keeps call (λ parts. x.digest) t hart x.answer a.cleared a.mid world a.step is off) there;
+      keeps = λ world here off. woken_keeps t a.mid new world a.woken
+          (λ is. call_keeps call (λ parts. x.digest) t hart x.answer a.cleared a.mid world a.step is
+          (subst (λ c. is_new (new_lists (asked_in c) x.answer a.cleared) x.answer.value world ≡ false) (sym there) off)) here;
       wakes = λ other low on. woken_hosts t a.mid new other a.woken (call_keeps_layout call (λ parts. x.digest) t hart x.answer a.cleared a.mid a.step)
           (call_keeps_worlds call (λ parts. x.digest) t hart x.answer a.cleared a.mid ready.known ready.awake a.step placed) low on;
-      need = subst Refused (sym is) (call_refused_by_need call (λ parts. x.digest) t hart x.answer a.cleared a.mid ready.table a.step);
+      need = subst Refused (sym is) (subst (λ c. IsRefusedByNeed c s.table (s.worlds hart) (λ refusal. x.answer.status ≡ below_zero (refusal_number refusal)))
+          there (call_refused_by_need call (λ parts. x.digest) t hart x.answer a.cleared a.mid ready.table a.step));
       asks = asks_memory (asked_in (call_of trap.registers)) x.answer s.table (s.worlds hart) question read x.digest x.asks
-          (λ parts. made_passes call (λ of. x.digest) t hart x.answer a.cleared a.mid parts a.step);
+          (λ parts made. made_passes call (λ of. x.digest) t hart x.answer a.cleared a.mid parts a.step
+          (subst (λ c. IsMade (asked_in c) x.answer parts) (sym there) made));
+      told = says_changes new given hart x.answer a.cleared (marks_of a.mid) lists changes answered a.goes_on;
       zeroes = destroyed t a.mid new a.cleared a.woken (call_clears_memory call (λ parts. x.digest) t hart x.answer a.cleared a.mid ready.table a.step)
           (zeroed.cleared call (λ parts. x.digest) t hart x.answer a.cleared a.mid a.step);
       destroys = λ id gone. lost_call call (λ parts. x.digest) t hart x.answer a.cleared a.mid id gone.0 gone.1
@@ -209,8 +227,8 @@ call_kept s hosts kept trap given read question answered new ready is words all 
           let lived = λ (id : ℕ) (mine : me ≡ EnclaveOf id) (over : HasExited t a.mid id). none id mine
           (subst (λ (y : MonitorState). HasExited s y id) (sym a.woken) over) in
           let through = call_through call (λ parts. x.digest) t hart x.answer a.cleared a.mid (placed.current hart ready.known) a.step lived in
-          subst (λ (e : TrapEvent). AreThose e trap.registers (new.registers me)) (sym is)
-          (subst (λ (y : MonitorState). AreThose Call trap.registers (y.registers me)) (sym a.woken) (past trap.registers _ _ (put_there s hart file) through));
+          subst (λ (e : TrapEvent). AreThose e came (new.registers me)) (sym is)
+          (subst (λ (y : MonitorState). AreThose Call came (y.registers me)) (sym a.woken) (past came _ _ (put_there s hart file) through));
       words = words;
       below = given_below hosts kept hart (s.worlds hart) (new.worlds hart) trap.control given words all;
       user = user_mode hosts kept hart (s.worlds hart) (new.worlds hart) trap.control given words;
@@ -221,18 +239,17 @@ none_refused : (refusal : Refusal) → no_answer.status ≡ below_zero (refusal_
 none_refused refusal is = let z : pos 0 ≡ below_zero (refusal_number refusal) = is in cc
 
 stop_kept :
-    (s : MonitorState) (hosts kept : ℕ → ControlWords) (trap : Trap) (given : ControlWords) (read question answered : List ℕ) (new : MonitorState)
-    → IsReady s trap.hart → trap.event ≡ Stop
+    (s : MonitorState) (hosts kept : ℕ → ControlWords) (trap : Trap) (given : ControlWords) (changes : SetChanges) (read question answered : List ℕ)
+    (new : MonitorState) → IsReady s trap.hart → trap.event ≡ Stop
     → GivesWords hosts trap.hart (s.worlds trap.hart) (new.worlds trap.hart) trap.control kept given → AreBelow kept
-    → ServesStop s trap given read question answered new → KeepsTrap s hosts trap read question answered new kept
-stop_kept s hosts kept trap given read question answered new ready is words all x =
+    → ServesStop s trap given changes read question answered new → KeepsTrap s hosts trap changes read question answered new kept
+stop_kept s hosts kept trap given changes read question answered new ready is words all x =
     let hart = trap.hart in
-    let file = trap.registers in
-    let t = with_running s hart file in
+    let t = s in
     let me = runner_on s hart in
     let world = s.worlds hart in
-    let placed = putting_keeps_worlds s hart file ready.placed in
-    let Refused = λ (e : TrapEvent). IsRefusedByNeed (called e file) s.table world (λ refusal. no_answer.status ≡ below_zero (refusal_number refusal)) in
+    let placed = ready.placed in
+    let Refused = λ (e : TrapEvent). IsRefusedByNeed (called e trap.registers) s.table world (λ refusal. no_answer.status ≡ below_zero (refusal_number refusal)) in
     record {
       answer = no_answer;
       cleared = None;
@@ -256,26 +273,28 @@ stop_kept s hosts kept trap given read question answered new ready is words all 
           (sym (ap (λ (y : MonitorState). enclave_at y.table.enclaves id) x.woken) ∙ gone.2) x.step);
       stays = λ other differs. ap (λ (y : MonitorState). y.worlds other) x.woken ∙ interrupt_elsewhere world t hart x.mid other differs x.step;
       others = woken_others t x.mid new hart x.woken ready.most (others_irq world t hart x.mid refl ready.known placed x.step);
-      registers = woken_registers s x.mid new hart x.woken (put_before s x.mid hart file (interrupt_keeps_registers world t hart x.mid refl x.step));
-      came = λ none. subst (λ (e : TrapEvent). AreThose e file (new.registers me)) (sym is)
-          (ap (λ (y : MonitorState). y.registers me) x.woken ∙ interrupt_through world t hart x.mid refl x.step ∙ put_there s hart file);
+      told = says_changes new given hart no_answer None (marks_of x.mid) lists.Nothing changes answered x.goes_on;
+      registers = woken_registers s x.mid new hart x.woken (interrupt_keeps_registers world t hart x.mid refl x.step);
+      came = λ none. subst (λ (e : TrapEvent). AreThose e (running_registers s hart) (new.registers me)) (sym is)
+          (ap (λ (y : MonitorState). y.registers me) x.woken ∙ interrupt_through world t hart x.mid refl x.step);
       words = words;
       below = given_below hosts kept hart world (new.worlds hart) trap.control given words all;
       user = user_mode hosts kept hart world (new.worlds hart) trap.control given words;
     }
 
 by_event :
-    (event : TrapEvent) (s : MonitorState) (hosts kept : ℕ → ControlWords) (trap : Trap) (given : ControlWords) (read question answered : List ℕ)
-    (new : MonitorState) → IsReady s trap.hart → trap.event ≡ event
-    → GivesWords hosts trap.hart (s.worlds trap.hart) (new.worlds trap.hart) trap.control kept given → AreBelow kept
-    → ServesAs event s trap given read question answered new → KeepsTrap s hosts trap read question answered new kept
-by_event Call s hosts kept trap given read question answered new ready is words all x = call_kept s hosts kept trap given read question answered new ready is
-    words all x
-by_event Stop s hosts kept trap given read question answered new ready is words all x = stop_kept s hosts kept trap given read question answered new ready is
-    words all x
+    (event : TrapEvent) (s : MonitorState) (hosts kept : ℕ → ControlWords) (trap : Trap) (given : ControlWords) (changes : SetChanges)
+    (read question answered : List ℕ) (new : MonitorState) → IsReady s trap.hart → call_of (running_registers s trap.hart) ≡ call_of trap.registers
+    → trap.event ≡ event → GivesWords hosts trap.hart (s.worlds trap.hart) (new.worlds trap.hart) trap.control kept given → AreBelow kept
+    → ServesAs event s trap given changes read question answered new → KeepsTrap s hosts trap changes read question answered new kept
+by_event Call s hosts kept trap given changes read question answered new ready there is words all x =
+    call_kept s hosts kept trap given changes read question answered new ready there is words all x
+by_event Stop s hosts kept trap given changes read question answered new ready there is words all x =
+    stop_kept s hosts kept trap given changes read question answered new ready is words all x
 
 pub trap_kept :
-    (s : MonitorState) (hosts kept : ℕ → ControlWords) (trap : Trap) (read question answered : List ℕ) (new : MonitorState) → IsReady s trap.hart
-    → AreBelow kept → ServesTrap s hosts trap read question answered new kept → KeepsTrap s hosts trap read question answered new kept
-trap_kept s hosts kept trap read question answered new ready all x = by_event trap.event s hosts kept trap x.given read question answered new ready refl x.words
-    all x.step
+    (s : MonitorState) (hosts kept : ℕ → ControlWords) (trap : Trap) (changes : SetChanges) (read question answered : List ℕ) (new : MonitorState)
+    → IsReady s trap.hart → call_of (running_registers s trap.hart) ≡ call_of trap.registers → AreBelow kept
+    → ServesTrap s hosts trap changes read question answered new kept → KeepsTrap s hosts trap changes read question answered new kept
+trap_kept s hosts kept trap changes read question answered new ready there all x =
+    by_event trap.event s hosts kept trap x.given changes read question answered new ready there refl x.words all x.step

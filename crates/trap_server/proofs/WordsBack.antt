@@ -36,16 +36,16 @@ listed words = control_tag ∷ (words.status ∷ (words.satp ∷ (words.mie ∷ 
 
 pub come_back : ComeBack
 come_back = record {
-  tag = λ front words size. word_back (listed words) front 34 0 size (omega arith) (omega arith);
+  tag = λ front words size. word_back (listed words) front 10 0 size (omega arith) (omega arith);
   words = λ front words size small. record {
-    status = sym (word_back (listed words) front 34 1 size (omega arith) small.status);
-    satp = sym (word_back (listed words) front 34 2 size (omega arith) small.satp);
-    mie = sym (word_back (listed words) front 34 3 size (omega arith) small.mie);
-    scounteren = sym (word_back (listed words) front 34 4 size (omega arith) small.scounteren);
-    senvcfg = sym (word_back (listed words) front 34 5 size (omega arith) small.senvcfg);
-    hstatus = sym (word_back (listed words) front 34 6 size (omega arith) small.hstatus);
-    medeleg = sym (word_back (listed words) front 34 7 size (omega arith) small.medeleg);
-    mideleg = sym (word_back (listed words) front 34 8 size (omega arith) small.mideleg);
-    mode = sym (word_back (listed words) front 34 9 size (omega arith) small.mode);
+    status = sym (word_back (listed words) front 10 1 size (omega arith) small.status);
+    satp = sym (word_back (listed words) front 10 2 size (omega arith) small.satp);
+    mie = sym (word_back (listed words) front 10 3 size (omega arith) small.mie);
+    scounteren = sym (word_back (listed words) front 10 4 size (omega arith) small.scounteren);
+    senvcfg = sym (word_back (listed words) front 10 5 size (omega arith) small.senvcfg);
+    hstatus = sym (word_back (listed words) front 10 6 size (omega arith) small.hstatus);
+    medeleg = sym (word_back (listed words) front 10 7 size (omega arith) small.medeleg);
+    mideleg = sym (word_back (listed words) front 10 8 size (omega arith) small.mideleg);
+    mode = sym (word_back (listed words) front 10 9 size (omega arith) small.mode);
   };
 }

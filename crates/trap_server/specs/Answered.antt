@@ -9,7 +9,10 @@ use Rattle.measurement.specs.declared.request.Create.{Create}
 use Rattle.enclave_table.specs.Enclaves.{EnclaveTable}
 use Rattle.enclave_table.specs.Fewest.{IsListOf}
 use Rattle.monitor_core.specs.declared.answer.Answer.{Answer}
-use Rattle.monitor_core.specs.States.{MonitorState, running_registers}
+use Rattle.monitor_core.specs.States.{MonitorState}
+use Rattle.monitor_core.specs.SetChanges.{AreOfSets}
+use Rattle.monitor_core.specs.declared.set_changes.SetChange.{SetChange}
+use Rattle.monitor_core.specs.declared.set_changes.SetChanges.{SetChanges}
 use Rattle.monitor_core.specs.Changes.{without_mark}
 use Rattle.trap_server.specs.declared.words.ControlWords.{ControlWords}
 use Rattle.trap_server.specs.Given.{words_in}
@@ -83,15 +86,28 @@ head_of s hart answer used cleared woken new =
 abbrev pub given_on : MonitorState → (ℕ → ControlWords) → ℕ → ControlWords
 given_on s hosts hart = words_in (s.worlds hart) (hosts hart)
 
+-- the two words of a change have 64 bits
+abbrev pub HasWords : SetChange → Type 0
+HasWords change = (change.first < 2 ^ 64) × (change.second < 2 ^ 64)
+
+-- so it is for each of some, and each set is there
+pub record AreWords (changes : SetChanges) : Type 0 where
+  pub sets : AreOfSets changes
+  pub first : HasWords changes.first
+  pub second : HasWords changes.second
+  pub third : HasWords changes.third
+
 -- an answer is written with which a hart goes on: how many entries the world needs that runs there,
--- its registers, the control words that it is given, and the lists of entries that are new
+-- what becomes of register sets, the control words that the world is given, and the lists of entries
+-- that are new
 pub record IsAnswer (s : MonitorState) (given : ControlWords) (hart : ℕ) (answer : Answer)
-    (cleared : Option PageRange) (woken : List Bool) (new : NewLists) (bytes : List ℕ) : Type 0
-    where
+    (cleared : Option PageRange) (woken : List Bool) (new : NewLists) (changes : SetChanges)
+    (bytes : List ℕ) : Type 0 where
   pub used : ℕ
   pub needs : Needs (current_view s.table (s.worlds hart)) used
+  pub words : AreWords changes
   pub puts : PutsLists s.table answer.value new (front_bytes
-      (head_of s hart answer used cleared woken new) (running_registers s hart) given) bytes
+      (head_of s hart answer used cleared woken new) changes given) bytes
 
 -- what is in the answer's place where there was no call
 abbrev pub no_answer : Answer

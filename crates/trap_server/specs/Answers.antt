@@ -5,7 +5,10 @@ use Rattle.byteorder.specs.Endian.{little_bytes}
 use Rattle.pmp_encoding.specs.declared.pages.PageRange.{PageRange}
 use Rattle.pmp_encoding.specs.declared.region.Entry.{Entry}
 use Rattle.pmp_encoding.specs.Encoding.{address_of, cfg_of}
-use Rattle.sbi_decode.specs.Registers.{RegisterFile, x_of}
+use Rattle.monitor_core.specs.declared.set_changes.ChangeKind.{ChangeKind}
+use Rattle.monitor_core.specs.declared.set_changes.ChangeKind.TheVariants as kinds
+use Rattle.monitor_core.specs.declared.set_changes.SetChange.{SetChange}
+use Rattle.monitor_core.specs.declared.set_changes.SetChanges.{SetChanges}
 use Rattle.trap_server.specs.declared.words.ControlWords.{ControlWords}
 use Rattle.monitor_core.specs.Answers.{world_number}
 use Rattle.trap_server.specs.Words.{answer_tag, bytes_of, control_tag}
@@ -35,7 +38,7 @@ list_count Nothing = 0
 list_count Host = 1
 list_count HostAndMade = 2
 
--- what comes before the registers
+-- what comes before the changes of register sets
 abbrev pub head_bytes : Head → List ℕ
 head_bytes head =
     bytes_of (answer_tag ∷ (head.hart
@@ -44,12 +47,23 @@ head_bytes head =
     ∷ ((pages_of head.zero).count ∷ (wake_word head.woken
     ∷ (list_count head.lists ∷ []))))))))))
 
--- the program counter, and the registers from x1 to before xn
-abbrev pub register_bytes : RegisterFile → ℕ → List ℕ
-register_bytes file zero = []
-register_bytes file (suc zero) = little_bytes 8 file.pc
-register_bytes file (suc (suc n)) = register_bytes file (suc n)
-    ++ little_bytes 8 (x_of file (suc n))
+-- the number of a kind of change
+abbrev pub kind_number : ChangeKind → ℕ
+kind_number kinds.Nothing = 0
+kind_number kinds.PastCall = 1
+kind_number kinds.Answer = 2
+kind_number kinds.Begin = 3
+kind_number kinds.Clear = 4
+
+-- what becomes of a register set: how, whose it is, and two words
+abbrev pub change_bytes : SetChange → List ℕ
+change_bytes change = bytes_of (kind_number change.kind ∷ (change.enclave
+    ∷ (change.first ∷ (change.second ∷ []))))
+
+-- what becomes of register sets
+abbrev pub changes_bytes : SetChanges → List ℕ
+changes_bytes changes = change_bytes changes.first ++ change_bytes changes.second
+    ++ change_bytes changes.third
 
 -- the configuration byte of an entry, 0 where there is none
 abbrev pub cfg_in : Option Entry → ℕ
@@ -99,9 +113,10 @@ lists_bytes [] = []
 lists_bytes (entries ∷ lists) = list_bytes entries ++ lists_bytes lists
 
 -- the bytes of the frame before its lists
-abbrev pub front_bytes : Head → RegisterFile → ControlWords → List ℕ
-front_bytes head file control = head_bytes head ++ register_bytes file 32 ++ control_bytes control
+abbrev pub front_bytes : Head → SetChanges → ControlWords → List ℕ
+front_bytes head changes control = head_bytes head ++ changes_bytes changes
+    ++ control_bytes control
 
 -- the bytes of the frame
-abbrev pub answer_bytes : Head → RegisterFile → ControlWords → List (List Entry) → List ℕ
-answer_bytes head file control lists = front_bytes head file control ++ lists_bytes lists
+abbrev pub answer_bytes : Head → SetChanges → ControlWords → List (List Entry) → List ℕ
+answer_bytes head changes control lists = front_bytes head changes control ++ lists_bytes lists

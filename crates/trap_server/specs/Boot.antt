@@ -3,8 +3,10 @@ use Rattle.std.specs.Prelude.{◌≡◌, ◌⊎◌, ◌<◌, ℕ, Bool, false, n
 use Rattle.std.specs.Prelude.{None, Result, Ok, Err}
 use Rattle.std.specs.Io.KnownBytes.{Appends, Consumes, IsAtEnd}
 use Rattle.platforms.specs.Platform.{IsLayout, PlatformLayout}
-use Rattle.monitor_core.specs.declared.monitor.Monitor.{Monitor}
-use Rattle.monitor_core.specs.Monitors.{state_by}
+use Rattle.monitor_core.specs.declared.steps.Core.{Core}
+use Rattle.monitor_core.specs.declared.set_changes.SetChanges.{SetChanges}
+use Rattle.monitor_core.specs.SetChanges.{no_change}
+use Rattle.trap_server.specs.Sets.{bare}
 use Rattle.monitor_core.specs.States.{opening_monitor}
 use Rattle.enclave_table.specs.Boot.{IsBootFault, opening_table}
 use Rattle.enclave_table.specs.Fewest.{FitsIn}
@@ -40,9 +42,12 @@ others harts = false ∷ (nat_lt 1 harts ∷ (nat_lt 2 harts ∷ (nat_lt 3 harts
 
 -- the answer to a platform: with which hart 0 goes on in the opening state, and the list of the host,
 -- which all harts load
+abbrev pub no_changes : SetChanges
+no_changes = record { first = no_change; second = no_change; third = no_change }
+
 abbrev pub IsFirstAnswer : PlatformLayout → List ℕ → Type 0
 IsFirstAnswer layout bytes = IsAnswer (opening_monitor layout) first_host_words 0 no_answer None
-    (others layout.harts) Host bytes
+    (others layout.harts) Host no_changes bytes
 
 -- why the loop ends before a trap was read, and what was written. A refusal is the last frame.
 -- Where a read failed nothing was written; where a write did, a part of the last frame or of the
@@ -73,18 +78,18 @@ MayOpen layout = IsLayout layout × FitsIn layout.limit (host_view (opening_tabl
 
 -- the platform was read and nothing written, and the monitor is as at its opening; or the
 -- loop ends, and why
-abbrev pub Boots : Result Monitor ServeFault → Option (List ℕ) → Option (List ℕ) → Option (List ℕ)
+abbrev pub Boots : Result Core ServeFault → Option (List ℕ) → Option (List ℕ) → Option (List ℕ)
     → Option (List ℕ) → Type 0
-Boots (Ok monitor) before after held holds =
+Boots (Ok core) before after held holds =
     (layout : PlatformLayout) × (first : List ℕ) × (length first ≡ 1336)
-    × IsPlatformFrame first layout × (state_by monitor ≡ opening_monitor layout)
+    × IsPlatformFrame first layout × (bare core ≡ opening_monitor layout)
     × Consumes before after first × Appends held holds [] × MayOpen layout
 Boots (Err fault) before after held holds = EndsAtFirst fault before after held holds
 
 -- the same of a platform that was read
-abbrev pub BootsOn : Result Monitor ServeFault → PlatformLayout → Option (List ℕ) → Option (List ℕ)
+abbrev pub BootsOn : Result Core ServeFault → PlatformLayout → Option (List ℕ) → Option (List ℕ)
     → Type 0
-BootsOn (Ok monitor) layout held holds = (state_by monitor ≡ opening_monitor layout)
+BootsOn (Ok core) layout held holds = (bare core ≡ opening_monitor layout)
     × Appends held holds [] × MayOpen layout
 BootsOn (Err fault) layout held holds =
     (rest : List ℕ) × ((read : List ℕ) (after : Option (List ℕ)) → length read ≡ 1336

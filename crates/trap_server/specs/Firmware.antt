@@ -14,7 +14,7 @@ use Rattle.sbi_decode.specs.declared.world.World.{World}
 use Rattle.sbi_decode.specs.declared.world.World.TheVariants.{Host, Enclave as InEnclave}
 use Rattle.sbi_decode.specs.Calls.{call_of}
 use Rattle.sbi_decode.specs.Registers.{RegisterFile, with_x}
-use Rattle.sbi_decode.specs.Runners.{EnclaveOf}
+use Rattle.sbi_decode.specs.Runners.{Runner, EnclaveOf}
 use Rattle.measurement.specs.declared.request.Create.{Create}
 use Rattle.platforms.specs.Platform.{PlatformLayout}
 use Rattle.enclave_table.specs.Enclaves.{EnclaveTable, Live}
@@ -25,7 +25,10 @@ use Rattle.enclave_table.specs.Views.{current_view}
 use Rattle.monitor_core.specs.Answers.{below_zero, world_number}
 use Rattle.monitor_core.specs.Changes.{is_host, past_call}
 use Rattle.monitor_core.specs.Frames.{ClearsMemory}
-use Rattle.monitor_core.specs.States.{MonitorState, opening_monitor}
+use Rattle.monitor_core.specs.States.{MonitorState, opening_monitor, running_registers}
+use Rattle.monitor_core.specs.SetChanges.{changed}
+use Rattle.monitor_core.specs.declared.set_changes.SetChanges.{SetChanges}
+use Rattle.trap_server.specs.Sets.{AreThere, said_changes, with_sets}
 use Rattle.monitor_core.specs.Switches.{HasExited, IsGone, KeepsRegisters, runner_on}
 use Rattle.monitor_core.specs.Wants.{IsRefusedByNeed}
 use Rattle.monitor_core.specs.Worlds.{ArePlaced}
@@ -71,10 +74,10 @@ pub record HasFewest (bytes : List ℕ) (limit : Limit) (view : View) : Type 0 w
 -- are in it: the first is the host's, the second that of the enclave whose number is in word 4. Each
 -- other world keeps the list that it had
 abbrev pub list_after : List ℕ → (ℕ → List ℕ) → ℕ → List ℕ
-list_after answered lists zero = if nat_lt 0 (word_at answered 9) then drop 416 answered
+list_after answered lists zero = if nat_lt 0 (word_at answered 9) then drop 256 answered
     else lists 0
 list_after answered lists (suc n) = if word_at answered 9 == 2 && word_at answered 4 == suc n
-    then drop 1000 answered else lists (suc n)
+    then drop 840 answered else lists (suc n)
 
 -- what a hart has loaded after an answer, by the lists of the worlds: where the answer names it, in
 -- word 1, that of the world in word 2; where its bit is among the woken, in word 8, the host's; and
@@ -89,16 +92,16 @@ loaded_after answered lists before hart = if word_at answered 1 == hart
 abbrev pub list_last : (opened : List ℕ) {old : MonitorState} {hosts : ℕ
     → ControlWords} {read written : List ℕ} {new : MonitorState} {kept : ℕ
     → ControlWords} → ServesTraps old hosts read written new kept → ℕ → List ℕ
-list_last opened no_trap world = drop 416 opened
-list_last opened (next_trap served trap frame more question answered new kept size is step) world =
+list_last opened no_trap world = drop 256 opened
+list_last opened (next_trap served trap frame more question answered changes new kept size is step) world =
     list_after answered (list_last opened served) world
 
 -- the list that a hart loaded last
 abbrev pub loaded_last : (opened : List ℕ) {old : MonitorState} {hosts : ℕ
     → ControlWords} {read written : List ℕ} {new : MonitorState} {kept : ℕ
     → ControlWords} → ServesTraps old hosts read written new kept → ℕ → List ℕ
-loaded_last opened no_trap hart = drop 416 opened
-loaded_last opened (next_trap served trap frame more question answered new kept size is step) hart =
+loaded_last opened no_trap hart = drop 256 opened
+loaded_last opened (next_trap served trap frame more question answered changes new kept size is step) hart =
     loaded_after answered (list_after answered (list_last opened served))
     (loaded_last opened served hart) hart
 
@@ -141,7 +144,7 @@ AsksMemory layout question read =
     × (question ≡ question_bytes range.first range.count)
     × ArePages range.first range.count read pages)
 
--- the registers that a world is left with which trapped: those that came; after a call the program
+-- the registers that a world is left with which trapped: those that it had; after a call the program
 -- counter is past it, and a0 and a1 may be an answer
 abbrev pub AreThose : TrapEvent → RegisterFile → RegisterFile → Type 0
 AreThose trap_events.Call came now =
@@ -152,7 +155,8 @@ AreThose trap_events.Stop came now = now ≡ came
 -- what is kept over a trap that was served: what was asked for and read, the answer, and the state
 -- before and after
 pub record KeepsTrap (old : MonitorState) (hosts : ℕ → ControlWords) (trap : Trap)
-    (read question answered : List ℕ) (new : MonitorState) (kept : ℕ → ControlWords) : Type 0 where
+    (changes : SetChanges) (read question answered : List ℕ) (new : MonitorState)
+    (kept : ℕ → ControlWords) : Type 0 where
   -- what the answer says: its status and value, the pages that are to be made zero, the harts that
   -- are woken, the lists of entries that are new, and the control words
   pub answer : Answer
@@ -160,7 +164,7 @@ pub record KeepsTrap (old : MonitorState) (hosts : ℕ → ControlWords) (trap :
   pub woken : List Bool
   pub lists : NewLists
   pub given : ControlWords
-  pub says : IsAnswer new given trap.hart answer cleared woken lists answered
+  pub says : IsAnswer new given trap.hart answer cleared woken lists changes answered
   -- a creation or destruction is refused for want of entries just where a view after it needs more
   pub need :
       IsRefusedByNeed (called trap.event trap.registers) old.table (old.worlds trap.hart)
@@ -186,23 +190,28 @@ pub record KeepsTrap (old : MonitorState) (hosts : ℕ → ControlWords) (trap :
       → slice_index_or woken other false ≡ false
       → SameView (current_view old.table (old.worlds other))
       (current_view new.table (new.worlds other))
-  -- the registers of each world; those of the one that trapped, if that was no exit
+  -- the answer says what becomes of the registers of each world; those of the one that trapped, if
+  -- that was no exit
+  pub told : said_changes answered ≡ changes
   pub registers : KeepsRegisters old trap.hart new
   pub came : ((id : ℕ) → runner_on old trap.hart ≡ EnclaveOf id → HasExited old new id → ⊥)
-      → AreThose trap.event trap.registers (new.registers (runner_on old trap.hart))
+      → AreThose trap.event (running_registers old trap.hart)
+      (new.registers (runner_on old trap.hart))
   -- each world has its own control words; none goes on in machine mode, and an enclave in user mode
   pub words : GivesWords hosts trap.hart (old.worlds trap.hart) (new.worlds trap.hart) trap.control
       kept given
   pub below : is_machine given.mode ≡ false
   pub user : (id : ℕ) → new.worlds trap.hart ≡ InEnclave id → given.mode ≡ 0
 
--- each trap of a run keeps that
+-- each trap of a run keeps that, whatever the register sets are
 abbrev pub AreKept : {old : MonitorState} {hosts : ℕ
     → ControlWords} {read written : List ℕ} {new : MonitorState} {kept : ℕ
     → ControlWords} → ServesTraps old hosts read written new kept → Type 0
 AreKept no_trap = ⊤
-AreKept (next_trap {mid = mid} {now = now} served trap frame more question answered new kept size is
-    step) = AreKept served × KeepsTrap mid now trap more question answered new kept
+AreKept (next_trap {mid = mid} {now = now} served trap frame more question answered changes new kept
+    size is step) = AreKept served × ((sets : Runner → RegisterFile) → AreThere mid trap sets
+    → KeepsTrap (with_sets mid sets) now trap changes more question answered
+    (with_sets new (changed trap.hart changes sets)) kept)
 
 -- after any traps: the table is sound, and the platform is the one that was read. Each hart is in
 -- the host's world or in that of an enclave that is Running, and each of these runs on just one; no

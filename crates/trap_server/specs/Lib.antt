@@ -1,3 +1,4 @@
+pub mod Sets
 pub mod Answered
 pub mod Service
 pub mod Ends

@@ -17,10 +17,10 @@ pub record AreWords (words : ControlWords) : Type 0 where
   pub mideleg : words.mideleg < 2 ^ 64
   pub mode : words.mode < 2 ^ 64
 
--- the bytes that an answer has of control words, after the 34 words that a trap's frame begins
+-- the bytes that an answer has of control words, after the ten words that a trap's frame begins
 -- with, are those words and their tag
 pub record ComeBack : Type 0 where
-  pub tag : (front : List ℕ) (words : ControlWords) → length front ≡ 272
-      → word_at (front ++ control_bytes words) 34 ≡ control_tag
-  pub words : (front : List ℕ) (words : ControlWords) → length front ≡ 272 → AreWords words
+  pub tag : (front : List ℕ) (words : ControlWords) → length front ≡ 80
+      → word_at (front ++ control_bytes words) 10 ≡ control_tag
+  pub words : (front : List ℕ) (words : ControlWords) → length front ≡ 80 → AreWords words
       → HasControl (front ++ control_bytes words) words

@@ -19,7 +19,8 @@ use Rattle.trap_server.specs.EndFrames.{end_bytes}
 use Rattle.trap_server.specs.Ends.{IsPart}
 use Rattle.trap_server.specs.Boot.{EndsAtFirst, IsFirstAnswer}
 use Rattle.trap_server.specs.Steps.{StopsTrap}
-use Rattle.trap_server.specs.Service.{ServesTrap}
+use Rattle.trap_server.specs.Service.{ServesAll}
+use Rattle.monitor_core.specs.declared.set_changes.SetChanges.{SetChanges}
 
 -- traps that were served in turn, from one state and the hosts' control words to others: the bytes
 -- that were read for them, and those that were written
@@ -28,9 +29,9 @@ pub data ServesTraps (old : MonitorState) (hosts : ℕ → ControlWords) : List 
   no_trap : ServesTraps old hosts [] [] old hosts
   next_trap : {read written : List ℕ} {mid : MonitorState} {now : ℕ → ControlWords}
       → ServesTraps old hosts read written mid now
-      → (trap : Trap) (frame more question answered : List ℕ) (new : MonitorState) (kept : ℕ
-      → ControlWords) → length frame ≡ 352 → IsTrapFrame frame mid.table.layout.harts trap
-      → ServesTrap mid now trap more question answered new kept
+      → (trap : Trap) (frame more question answered : List ℕ) (changes : SetChanges)
+      (new : MonitorState) (kept : ℕ → ControlWords) → length frame ≡ 160 → IsTrapFrame frame mid.table.layout.harts trap
+      → ServesAll mid now trap changes more question answered new kept
       → ServesTraps old hosts (read ++ (frame ++ more)) (written ++ (answered ++ question)) new kept
 
 -- how many they are
@@ -38,7 +39,7 @@ abbrev pub trap_count : {old : MonitorState} {hosts : ℕ
     → ControlWords} {read written : List ℕ} {new : MonitorState} {kept : ℕ → ControlWords}
     → ServesTraps old hosts read written new kept → ℕ
 trap_count no_trap = 0
-trap_count (next_trap served trap frame more question answered new kept size is step) =
+trap_count (next_trap served trap frame more question answered changes new kept size is step) =
     trap_count served + 1
 
 -- the words with which the host of each hart came last; where no trap was the host's, those that it
@@ -47,7 +48,7 @@ abbrev pub came_last : (hosts : ℕ
     → ControlWords) {old : MonitorState} {read written : List ℕ} {new : MonitorState} {kept : ℕ
     → ControlWords} → ServesTraps old hosts read written new kept → ℕ → ControlWords
 came_last hosts no_trap = hosts
-came_last hosts (next_trap {mid = mid} served trap frame more question answered new kept size is
+came_last hosts (next_trap {mid = mid} served trap frame more question answered changes new kept size is
     step) = keeping (mid.worlds trap.hart) (came_last hosts served) trap.hart trap.control
 
 -- after any traps what is kept is that
@@ -94,7 +95,7 @@ abbrev pub StopsBetween : ServeFault → ℕ → MonitorState → List ℕ → L
 StopsBetween (faults.Refused NotUnderstood) count s beyond rest after =
     RefusesNext count s beyond after × (rest ≡ end_bytes NotUnderstood)
 StopsBetween (faults.Refused _) count s beyond rest after = ⊥
-StopsBetween faults.Read count s beyond rest after = (length beyond < 352) × (rest ≡ [])
+StopsBetween faults.Read count s beyond rest after = (length beyond < 160) × (rest ≡ [])
 StopsBetween faults.Write count s beyond rest after = RefusesNext count s beyond after
     × IsPart rest (end_bytes NotUnderstood)
 
@@ -102,7 +103,7 @@ StopsBetween faults.Write count s beyond rest after = RefusesNext count s beyond
 abbrev pub StopsInside : ServeFault → MonitorState → (ℕ → ControlWords) → List ℕ → List ℕ
     → Option (List ℕ) → Type 0
 StopsInside fault s hosts beyond rest after =
-    (trap : Trap) × (frame read : List ℕ) × (length frame ≡ 352)
+    (trap : Trap) × (frame read : List ℕ) × (length frame ≡ 160)
     × IsTrapFrame frame s.table.layout.harts trap × StopsTrap fault s hosts trap read rest after
     × (beyond ≡ frame ++ read)
 

@@ -6,7 +6,12 @@ use Rattle.measurement.specs.Measured.{digest_of}
 use Rattle.measurement.specs.declared.request.Create.{Create}
 use Rattle.sbi_decode.specs.Calls.{call_of}
 use Rattle.monitor_core.specs.declared.answer.Answer.{Answer}
-use Rattle.monitor_core.specs.States.{MonitorState}
+use Rattle.sbi_decode.specs.Registers.{RegisterFile}
+use Rattle.sbi_decode.specs.Runners.{Runner}
+use Rattle.monitor_core.specs.States.{MonitorState, running_registers}
+use Rattle.monitor_core.specs.SetChanges.{changed}
+use Rattle.monitor_core.specs.declared.set_changes.SetChanges.{SetChanges}
+use Rattle.trap_server.specs.Sets.{AreThere, with_sets}
 use Rattle.monitor_core.specs.Changes.{past_call, with_running}
 use Rattle.monitor_core.specs.Measured.{IsMade, asked_in}
 use Rattle.monitor_core.specs.Steps.{DoesCall, Interrupts}
@@ -19,17 +24,19 @@ use Rattle.trap_server.specs.PageDigest.{ArePages, question_of}
 use Rattle.trap_server.specs.declared.answer.NewLists.TheVariants.{Nothing}
 use Rattle.trap_server.specs.Answered.{IsAnswer, marks_of, new_lists, no_answer, unmarked}
 
--- a call is a step of the monitor, in which a creation gets this digest; then no hart is marked,
--- and each that was is woken. So it is answered
-pub record AnswersCall (s : MonitorState) (trap : Trap) (given : ControlWords) (digest : List ℕ)
-    (answer : Answer) (answered : List ℕ) (new : MonitorState) : Type 0 where
+-- a call of the world that runs on a hart is a step of the monitor, in which a creation gets this
+-- digest; then no hart is marked, and each that was is woken. So it is answered
+pub record AnswersCall (s : MonitorState) (trap : Trap) (given : ControlWords)
+    (changes : SetChanges) (digest : List ℕ) (answer : Answer) (answered : List ℕ)
+    (new : MonitorState) : Type 0 where
   pub cleared : Option PageRange
   pub mid : MonitorState
-  pub step : DoesCall (call_of (past_call trap.registers)) (λ parts. digest)
-      (with_running s trap.hart (past_call trap.registers)) trap.hart answer cleared mid
+  pub step : let file = past_call (running_registers s trap.hart) in
+      DoesCall (call_of file) (λ parts. digest) (with_running s trap.hart file) trap.hart answer
+      cleared mid
   pub woken : new ≡ unmarked 4 mid
   pub goes_on : IsAnswer new given trap.hart answer cleared (marks_of mid)
-      (new_lists (asked_in (call_of trap.registers)) answer cleared) answered
+      (new_lists (asked_in (call_of trap.registers)) answer cleared) changes answered
 
 -- after an enclave was made its private pages are asked for, and read once, by rising number, and
 -- the digest is that of its layout and these pages; nothing else is asked for or read
@@ -43,36 +50,45 @@ AsksFor asked answer question read digest =
 
 -- a call is answered, and then an enclave that it made gets the digest of the pages that were read
 pub record ServesCall (s : MonitorState) (trap : Trap) (given : ControlWords)
-    (read question answered : List ℕ) (new : MonitorState) : Type 0 where
+    (changes : SetChanges) (read question answered : List ℕ) (new : MonitorState) : Type 0 where
   pub digest : List ℕ
   pub answer : Answer
-  pub answers : AnswersCall s trap given digest answer answered new
+  pub answers : AnswersCall s trap given changes digest answer answered new
   pub asks : AsksFor (asked_in (call_of trap.registers)) answer question read digest
 
 -- an interrupt is a step of the monitor
 pub record ServesStop (s : MonitorState) (trap : Trap) (given : ControlWords)
-    (read question answered : List ℕ) (new : MonitorState) : Type 0 where
+    (changes : SetChanges) (read question answered : List ℕ) (new : MonitorState) : Type 0 where
   pub mid : MonitorState
   pub nothing_asked : question ≡ []
   pub nothing_read : read ≡ []
-  pub step : Interrupts (s.worlds trap.hart) (with_running s trap.hart trap.registers) trap.hart mid
+  pub step : Interrupts (s.worlds trap.hart) s trap.hart mid
   pub woken : new ≡ unmarked 4 mid
-  pub goes_on : IsAnswer new given trap.hart no_answer None (marks_of mid) Nothing answered
+  pub goes_on : IsAnswer new given trap.hart no_answer None (marks_of mid) Nothing changes answered
 
 -- a trap is served, by what happened; the hart goes on with these control words
-abbrev pub ServesAs : TrapEvent → MonitorState → Trap → ControlWords → List ℕ → List ℕ → List ℕ
-    → MonitorState → Type 0
-ServesAs Call s trap given read question answered new =
-    ServesCall s trap given read question answered new
-ServesAs Stop s trap given read question answered new =
-    ServesStop s trap given read question answered new
+abbrev pub ServesAs : TrapEvent → MonitorState → Trap → ControlWords → SetChanges → List ℕ
+    → List ℕ → List ℕ → MonitorState → Type 0
+ServesAs Call s trap given changes read question answered new =
+    ServesCall s trap given changes read question answered new
+ServesAs Stop s trap given changes read question answered new =
+    ServesStop s trap given changes read question answered new
 
 -- a trap is served, and each world has its own control words: those that came are kept where they
 -- are the host's, and the world that goes on is given its own
-pub record ServesTrap (s : MonitorState) (hosts : ℕ
-    → ControlWords) (trap : Trap) (read question answered : List ℕ) (new : MonitorState) (kept : ℕ
-    → ControlWords) : Type 0 where
+pub record ServesTrap (s : MonitorState) (hosts : ℕ → ControlWords) (trap : Trap)
+    (changes : SetChanges) (read question answered : List ℕ) (new : MonitorState)
+    (kept : ℕ → ControlWords) : Type 0 where
   pub given : ControlWords
   pub words : GivesWords hosts trap.hart (s.worlds trap.hart) (new.worlds trap.hart) trap.control
       kept given
-  pub step : ServesAs trap.event s trap given read question answered new
+  pub step : ServesAs trap.event s trap given changes read question answered new
+
+-- so it is whatever the register sets are in which the trap's call is, and the answer says what
+-- becomes of them
+abbrev pub ServesAll : MonitorState → (ℕ → ControlWords) → Trap → SetChanges → List ℕ → List ℕ
+    → List ℕ → MonitorState → (ℕ → ControlWords) → Type 0
+ServesAll s hosts trap changes read question answered new kept =
+    (sets : Runner → RegisterFile) → AreThere s trap sets
+    → ServesTrap (with_sets s sets) hosts trap changes read question answered
+    (with_sets new (changed trap.hart changes sets)) kept

@@ -18,7 +18,12 @@ use Rattle.trap_server.specs.EndFrames.{end_bytes}
 use Rattle.trap_server.specs.Ends.{BreaksOff, IsPart}
 use Rattle.trap_server.specs.Given.{GivesWords}
 use Rattle.trap_server.specs.PageDigest.{ArePages, BreaksAtPage, StopsAtPage, question_of}
-use Rattle.trap_server.specs.Service.{AnswersCall, ServesStop, ServesTrap}
+use Rattle.trap_server.specs.Service.{AnswersCall, ServesAll, ServesStop}
+use Rattle.trap_server.specs.Sets.{AreThere, with_sets}
+use Rattle.sbi_decode.specs.Registers.{RegisterFile}
+use Rattle.sbi_decode.specs.Runners.{Runner}
+use Rattle.monitor_core.specs.SetChanges.{changed}
+use Rattle.monitor_core.specs.declared.set_changes.SetChanges.{SetChanges}
 use Rattle.trap_server.specs.declared.end.EndReason.TheVariants.{NotUnderstood}
 use Rattle.trap_server.specs.declared.fault.ServeFault.{ServeFault}
 use Rattle.trap_server.specs.declared.fault.ServeFault.TheVariants as faults
@@ -35,22 +40,25 @@ Writes (Err fault) Are held holds = (fault ≡ faults.Write) × (bytes : List �
     × TakesPart bytes held holds
 
 -- a trap is answered by what happened, whatever digest an enclave that it makes will get
-abbrev pub AnswersAs : TrapEvent → MonitorState → Trap → ControlWords → Answer → List ℕ
-    → MonitorState → Type 0
-AnswersAs Call s trap given answer answered new = (digest : List ℕ)
-    × AnswersCall s trap given digest answer answered new
-AnswersAs Stop s trap given answer answered new = (answer ≡ no_answer)
-    × ServesStop s trap given [] [] answered new
+abbrev pub AnswersAs : TrapEvent → MonitorState → Trap → ControlWords → SetChanges → Answer
+    → List ℕ → MonitorState → Type 0
+AnswersAs Call s trap given changes answer answered new = (digest : List ℕ)
+    × AnswersCall s trap given changes digest answer answered new
+AnswersAs Stop s trap given changes answer answered new = (answer ≡ no_answer)
+    × ServesStop s trap given changes [] [] answered new
 
 -- a trap is answered, and each world has its own control words
 pub record AnswersTrap (s : MonitorState) (hosts : ℕ → ControlWords) (trap : Trap)
     (answer : Answer) (answered : List ℕ) : Type 0 where
   pub given : ControlWords
+  pub changes : SetChanges
   pub new : MonitorState
   pub kept : ℕ → ControlWords
   pub words : GivesWords hosts trap.hart (s.worlds trap.hart) (new.worlds trap.hart) trap.control
       kept given
-  pub answers : AnswersAs trap.event s trap given answer answered new
+  pub answers : (sets : Runner → RegisterFile) → AreThere s trap sets
+      → AnswersAs trap.event (with_sets s sets) trap given changes answer answered
+      (with_sets new (changed trap.hart changes sets))
 
 -- a call is answered that made an enclave of these parts, so that its private pages are asked for
 abbrev pub AnswersMade : MonitorState → (ℕ → ControlWords) → Trap → Create → List ℕ → Type 0
@@ -88,8 +96,9 @@ abbrev pub Serves : Result (Unit {0}) ServeFault → Trap → MonitorState → (
     → MonitorState → (ℕ → ControlWords) → Option (List ℕ) → Option (List ℕ) → Option (List ℕ)
     → Option (List ℕ) → Type 0
 Serves (Ok done) trap old hosts new kept before after held holds =
-    (read question answered : List ℕ) × ServesTrap old hosts trap read question answered new kept
-    × AreAwake new × (new.table.layout ≡ old.table.layout) × Consumes before after read
+    (read question answered : List ℕ) × (changes : SetChanges)
+    × ServesAll old hosts trap changes read question answered new kept × AreAwake new
+    × (new.table.layout ≡ old.table.layout) × Consumes before after read
     × Appends held holds (answered ++ question)
 Serves (Err fault) trap old hosts new kept before after held holds =
     (read rest : List ℕ) × StopsTrap fault old hosts trap read rest after

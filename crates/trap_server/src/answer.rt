@@ -2,12 +2,14 @@
 
 ghost use Rattle.std.specs.Prelude.{◌≡◌, ◌<◌, ◌≤◌, ◌+◌, ◌-◌, ◌*◌, ◌++◌, length, take, replicate};
 ghost use Rattle.monitor_core.specs.Answers.{world_number};
-ghost use Rattle.trap_server.specs.Answers.{address_at, address_bytes, cfg_at, cfg_bytes, control_bytes, front_bytes, head_bytes, list_bytes, list_count, pages_of, register_bytes, wake_word};
+ghost use Rattle.trap_server.specs.Answered.{HasWords};
+ghost use Rattle.trap_server.specs.Answers.{address_at, address_bytes, cfg_at, cfg_bytes, change_bytes, changes_bytes, control_bytes, front_bytes, head_bytes, kind_number, list_bytes, list_count, pages_of, wake_word};
 
 use crate::ControlWords;
 use crate::frame::{AnswerBytes, TAG_ANSWER, TAG_CONTROL, put_word};
+use monitor_core::{ChangeKind, SetChange, SetChanges};
 use pmp_encoding::{Entry, PageRange};
-use sbi_decode::{Registers, World};
+use sbi_decode::World;
 
 /// Which lists of entries an answer has: those of the worlds whose views changed. Each other world keeps the list that it has.
 #[derive(Clone, Copy, Debug, PartialEq, Eq)]
@@ -100,15 +102,44 @@ fn put_head(frame: &mut AnswerBytes, head: &Head)
     put_word(frame, 9, list_count(head.lists));
 }
 
-/// Writes the program counter and x1 to x31 after them.
-#[inline(always)]
-fn put_registers(frame: &mut AnswerBytes, registers: &Registers)
-    ensures { take 336 frame.new ≡ take 80 frame.old ++ register_bytes registers.now 32 }
+/// The number of a kind of change.
+fn kind_number(kind: ChangeKind) -> u64
+    ensures { result ≡ kind_number kind }
 {
-    put_word(frame, 10, registers.pc());
-    for n in 1..32 {
-        put_word(frame, n + 10, registers.get(n));
+    match kind {
+        ChangeKind::Nothing => 0,
+        ChangeKind::PastCall => 1,
+        ChangeKind::Answer => 2,
+        ChangeKind::Begin => 3,
+        ChangeKind::Clear => 4,
     }
+}
+
+/// Writes what becomes of a register set, from a word on.
+#[inline(always)]
+fn put_change(frame: &mut AnswerBytes, from: usize, change: &SetChange)
+    requires { from + 4 ≤ 178 }
+    ensures bytes { take (8 * from + 32) frame.new
+        ≡ take (8 * from) frame.old ++ change_bytes change.now }
+    ensures words { HasWords change.now }
+{
+    put_word(frame, from, kind_number(change.kind));
+    put_word(frame, from + 1, change.enclave);
+    put_word(frame, from + 2, change.first);
+    put_word(frame, from + 3, change.second);
+}
+
+/// Writes what becomes of register sets after the head.
+#[inline(always)]
+fn put_changes(frame: &mut AnswerBytes, changes: &SetChanges)
+    ensures bytes { take 176 frame.new ≡ take 80 frame.old ++ changes_bytes changes.now }
+    ensures first { HasWords changes.now.first }
+    ensures second { HasWords changes.now.second }
+    ensures third { HasWords changes.now.third }
+{
+    put_change(frame, 10, &changes.first);
+    put_change(frame, 14, &changes.second);
+    put_change(frame, 18, &changes.third);
 }
 
 /// The configuration byte of entry i, and zero past the entries.
@@ -136,7 +167,7 @@ fn address_at(entries: &[Entry], i: usize) -> u64
 /// Makes the bytes from one on and before another zero. Those before them stay.
 fn clear(frame: &mut AnswerBytes, from: usize, end: usize)
     requires order { from ≤ end }
-    requires inside { end ≤ 1584 }
+    requires inside { end ≤ 1424 }
     ensures { take end frame.new ≡ take from frame.old ++ replicate (end - from) 0 }
 {
     frame[from..end].fill(0);
@@ -146,7 +177,7 @@ fn clear(frame: &mut AnswerBytes, from: usize, end: usize)
 /// pmpcfg14.
 fn put_configuration(frame: &mut AnswerBytes, from: usize, entries: &[Entry])
     requires few { length entries.now ≤ 64 }
-    requires inside { from + 64 ≤ 1584 }
+    requires inside { from + 64 ≤ 1424 }
     ensures { take (from + 64) frame.new ≡ take from frame.old ++ cfg_bytes entries.now 64 }
 {
     clear(frame, from, from + 64);
@@ -158,7 +189,7 @@ fn put_configuration(frame: &mut AnswerBytes, from: usize, entries: &[Entry])
 /// Writes the address registers of 64 entries from a word on, zero past the entries.
 fn put_addresses(frame: &mut AnswerBytes, from: usize, entries: &[Entry])
     requires few { length entries.now ≤ 64 }
-    requires inside { from + 64 ≤ 198 }
+    requires inside { from + 64 ≤ 178 }
     ensures { take (8 * from + 512) frame.new
         ≡ take (8 * from) frame.old ++ address_bytes entries.now 64 }
 {
@@ -168,35 +199,38 @@ fn put_addresses(frame: &mut AnswerBytes, from: usize, entries: &[Entry])
     clear(frame, 8 * from + 8 * entries.len(), 8 * from + 512);
 }
 
-/// Writes the control words after the registers, below a tag of their own.
+/// Writes the control words after the changes, below a tag of their own.
 #[inline(always)]
 fn put_control(frame: &mut AnswerBytes, control: &ControlWords)
-    ensures { take 416 frame.new ≡ take 336 frame.old ++ control_bytes control.now }
+    ensures { take 256 frame.new ≡ take 176 frame.old ++ control_bytes control.now }
 {
-    put_word(frame, 42, TAG_CONTROL);
-    put_word(frame, 43, control.status);
-    put_word(frame, 44, control.satp);
-    put_word(frame, 45, control.mie);
-    put_word(frame, 46, control.scounteren);
-    put_word(frame, 47, control.senvcfg);
-    put_word(frame, 48, control.hstatus);
-    put_word(frame, 49, control.medeleg);
-    put_word(frame, 50, control.mideleg);
-    put_word(frame, 51, control.mode);
+    put_word(frame, 22, TAG_CONTROL);
+    put_word(frame, 23, control.status);
+    put_word(frame, 24, control.satp);
+    put_word(frame, 25, control.mie);
+    put_word(frame, 26, control.scounteren);
+    put_word(frame, 27, control.senvcfg);
+    put_word(frame, 28, control.hstatus);
+    put_word(frame, 29, control.medeleg);
+    put_word(frame, 30, control.mideleg);
+    put_word(frame, 31, control.mode);
 }
 
-/// Writes the front of the frame, with what a hart goes on: its registers and its control words.
+/// Writes the front of the frame, with what a hart goes on: what becomes of register sets, and its control words.
 #[inline(always)]
 pub fn put_front(
     frame: &mut AnswerBytes,
     head: &Head,
-    registers: &Registers,
+    changes: &SetChanges,
     control: &ControlWords,
 )
-    ensures { take 416 frame.new ≡ front_bytes head.now registers.now control.now }
+    ensures bytes { take 256 frame.new ≡ front_bytes head.now changes.now control.now }
+    ensures first { HasWords changes.now.first }
+    ensures second { HasWords changes.now.second }
+    ensures third { HasWords changes.now.third }
 {
     put_head(frame, head);
-    put_registers(frame, registers);
+    put_changes(frame, changes);
     put_control(frame, control);
 }
 
@@ -204,7 +238,7 @@ pub fn put_front(
 #[inline(never)]
 pub fn put_list(frame: &mut AnswerBytes, from: usize, entries: &[Entry])
     requires few { length entries.now ≤ 64 }
-    requires inside { from + 73 ≤ 198 }
+    requires inside { from + 73 ≤ 178 }
     ensures { take (8 * from + 584) frame.new ≡ take (8 * from) frame.old ++ list_bytes entries.now }
 {
     put_word(frame, from, entries.len() as u64);

@@ -1,6 +1,6 @@
 //! The words of frames.
 
-ghost use Rattle.std.specs.Prelude.{◌≡◌, ◌+◌, ◌*◌, ◌≤◌, ◌++◌, ◌∷◌, [], length, take};
+ghost use Rattle.std.specs.Prelude.{◌≡◌, ◌+◌, ◌*◌, ◌^◌, ◌<◌, ◌≤◌, ◌++◌, ◌∷◌, [], length, take};
 ghost use Rattle.byteorder.specs.Endian.{little_bytes};
 ghost use Rattle.trap_server.specs.Words.{bytes_of, word_at};
 
@@ -30,11 +30,12 @@ pub(crate) const TAG_MEASURE: u64 = 0x0065_7275_7361_656d;
 /// `end`
 pub(crate) const TAG_END: u64 = 0x0064_6e65;
 
-/// The bytes of an answer: ten words, the registers, the control words after their tag, and at most two lists of entries.
-pub type AnswerBytes = [u8; 1584];
+/// The bytes of an answer: ten words, three changes of register sets, the control words after their tag, and at most two lists of
+/// entries.
+pub type AnswerBytes = [u8; 1424];
 
-/// The bytes of a trap: its tag, the hart, the registers, and the control words after a tag of their own.
-pub type TrapBytes = [u8; 352];
+/// The bytes of a trap: its tag, the hart, a0 to a7, and the control words after a tag of their own.
+pub type TrapBytes = [u8; 160];
 
 /// The bytes of a frame of three words.
 pub type ShortBytes = [u8; 24];
@@ -54,6 +55,7 @@ pub(crate) fn put_word(bytes: &mut [u8], k: usize, value: u64)
     requires { 8 * k + 8 ≤ length bytes.old }
     ensures size { length bytes.new ≡ length bytes.old }
     ensures front { take (8 * k + 8) bytes.new ≡ take (8 * k) bytes.old ++ little_bytes 8 value }
+    ensures fits { value < 2 ^ 64 }
 {
     LittleEndian::write_u64(&mut bytes[8 * k..], value);
 }

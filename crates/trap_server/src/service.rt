@@ -6,7 +6,7 @@ ghost use Rattle.measurement.specs.declared.request.Create.{Create as CreatePart
 ghost use Rattle.enclave_table.specs.Enclaves.{Live};
 ghost use Rattle.enclave_table.specs.declared.enclave.Enclave.{Enclave};
 ghost use Rattle.monitor_core.specs.Measured.{IsMade, asked_in};
-ghost use Rattle.monitor_core.specs.Monitors.{state_by};
+ghost use Rattle.monitor_core.specs.SetChanges.{AreOfSets};
 ghost use Rattle.monitor_core.specs.Changes.{without_mark};
 ghost use Rattle.trap_server.specs.Given.{host_words, keeping};
 ghost use Rattle.trap_server.specs.declared.answer.NewLists.{NewLists};
@@ -14,6 +14,7 @@ ghost use Rattle.trap_server.specs.declared.answer.NewLists.TheVariants as NewLi
 ghost use Rattle.trap_server.specs.Answered.{AreAwake, IsAnswer, PutsLists, given_on, marks_of, new_lists, status_word, unmarked};
 ghost use Rattle.trap_server.specs.Ends.{CountsReads, CountsWrites};
 ghost use Rattle.trap_server.specs.PageDigest.{HasParts};
+ghost use Rattle.trap_server.specs.Sets.{bare};
 ghost use Rattle.trap_server.specs.Steps.{MeasuresMade, Serves, Writes};
 
 use crate::fault::{ServeFault, end};
@@ -21,7 +22,7 @@ use crate::{
     AnswerBytes, Head, HostWords, NewLists, Trap, TrapEvent, digest_of, put_front, put_list,
 };
 use byte_streams::{Sink, Source, write_whole};
-use monitor_core::{Answer, Create, Monitor, Served, TakenDigest};
+use monitor_core::{Answer, Core, Create, Served, SetChanges, TakenDigest};
 use pmp_encoding::PageRange;
 use sbi_decode::{Call, Registers, decode};
 
@@ -32,25 +33,25 @@ pub(crate) const NOTHING: Answer = Answer {
 };
 
 /// Wakes a hart, and says whether it was marked.
-fn take_mark(monitor: &mut Monitor, hart: u8) -> bool
+fn take_mark(core: &mut Core, hart: u8) -> bool
     requires { hart < 4 }
-    ensures mark { result ≡ (state_by monitor.old).marked hart }
-    ensures state { state_by monitor.new ≡ without_mark (state_by monitor.old) hart }
+    ensures mark { result ≡ (bare core.old).marked hart }
+    ensures state { bare core.new ≡ without_mark (bare core.old) hart }
 {
-    let is_marked = monitor.is_marked(hart);
-    monitor.wake(hart);
+    let is_marked = core.is_marked(hart);
+    core.wake(hart);
     is_marked
 }
 
 /// Each hart that is marked is woken: it is to load the host's entries.
-fn wake_all(monitor: &mut Monitor) -> [bool; 4]
-    ensures marks { result ≡ marks_of (state_by monitor.old) }
-    ensures state { state_by monitor.new ≡ unmarked 4 (state_by monitor.old) }
+fn wake_all(core: &mut Core) -> [bool; 4]
+    ensures marks { result ≡ marks_of (bare core.old) }
+    ensures state { bare core.new ≡ unmarked 4 (bare core.old) }
 {
-    let first = take_mark(monitor, 0);
-    let second = take_mark(monitor, 1);
-    let third = take_mark(monitor, 2);
-    let fourth = take_mark(monitor, 3);
+    let first = take_mark(core, 0);
+    let second = take_mark(core, 1);
+    let third = take_mark(core, 2);
+    let fourth = take_mark(core, 3);
     [first, second, third, fourth]
 }
 
@@ -68,26 +69,26 @@ fn status_word(answer: &Answer) -> u64
 /// Puts the lists of entries that are new behind the front of an answer, which made an enclave of this id where its list is
 /// new, and says where they end.
 #[inline(always)]
-fn put_lists(frame: &mut AnswerBytes, monitor: &Monitor, lists: NewLists, id: u64) -> usize
+fn put_lists(frame: &mut AnswerBytes, core: &Core, lists: NewLists, id: u64) -> usize
     requires made { lists ≡ NewLists.HostAndMade
-        → (e : Enclave) × Live (state_by monitor.now).table id e }
-    ensures inside { result ≤ 1584 }
-    ensures lists { PutsLists (state_by monitor.now).table id lists (take 416 frame.old)
+        → (e : Enclave) × Live (bare core.now).table id e }
+    ensures inside { result ≤ 1424 }
+    ensures lists { PutsLists (bare core.now).table id lists (take 256 frame.old)
         (take result frame.new) }
 {
     match lists {
-        NewLists::Nothing => 416,
+        NewLists::Nothing => 256,
         NewLists::Host => {
-            put_list(frame, 52, monitor.table().host_entries());
-            1000
+            put_list(frame, 32, core.table().host_entries());
+            840
         }
         NewLists::HostAndMade => {
-            put_list(frame, 52, monitor.table().host_entries());
-            let Some(entries) = monitor.table().enclave_entries(id) else {
+            put_list(frame, 32, core.table().host_entries());
+            let Some(entries) = core.table().enclave_entries(id) else {
                 unreachable!();
             };
-            put_list(frame, 125, entries);
-            1584
+            put_list(frame, 105, entries);
+            1424
         }
     }
 }
@@ -97,62 +98,68 @@ fn put_lists(frame: &mut AnswerBytes, monitor: &Monitor, lists: NewLists, id: u6
 #[inline(always)]
 fn put_frame(
     frame: &mut AnswerBytes,
-    monitor: &Monitor,
+    core: &Core,
     hosts: &HostWords,
     hart: u8,
     answer: &Answer,
     zero: Option<PageRange>,
     woken: [bool; 4],
     lists: NewLists,
+    changes: &SetChanges,
 ) -> usize
     requires hart { hart < 4 }
+    requires sets { AreOfSets changes.now }
     requires made { lists ≡ NewLists.HostAndMade
-        → (e : Enclave) × Live (state_by monitor.now).table answer.now.value e }
-    ensures inside { result ≤ 1584 }
-    ensures answer { let s = state_by monitor.now in
+        → (e : Enclave) × Live (bare core.now).table answer.now.value e }
+    ensures inside { result ≤ 1424 }
+    ensures answer { let s = bare core.now in
         IsAnswer s (given_on s (host_words hosts.now) hart) hart answer.now zero woken lists
-        (take result frame.new) }
+        changes.now (take result frame.new) }
 {
-    let world = monitor.world(hart);
+    let world = core.world(hart);
     let head = Head {
         hart,
         world,
         status: status_word(answer),
         value: answer.value,
-        used: monitor.used(hart),
+        used: core.used(hart),
         zero,
         woken,
         lists,
     };
     let control = hosts.words_for(hart, world);
-    put_front(frame, &head, monitor.registers(hart), &control);
-    put_lists(frame, monitor, lists, answer.value)
+    put_front(frame, &head, changes, &control);
+    put_lists(frame, core, lists, answer.value)
 }
 
 /// Writes with what a hart goes on, in a frame that is lent, and whose bytes before decide nothing.
 #[inline(always)]
 pub(crate) fn write_answer<W: Sink>(
-    monitor: &Monitor,
+    core: &Core,
     hosts: &HostWords,
     hart: u8,
     answer: Answer,
     zero: Option<PageRange>,
     woken: [bool; 4],
     lists: NewLists,
+    changes: &SetChanges,
     frame: &mut AnswerBytes,
     sink: &mut W,
 ) -> Result<(), ServeFault>
     requires hart { hart < 4 }
+    requires sets { AreOfSets changes.now }
     requires made { lists ≡ NewLists.HostAndMade
-        → (e : Enclave) × Live (state_by monitor.now).table answer.value e }
-    ensures bytes { let s = state_by monitor.now in Writes result
-        (IsAnswer s (given_on s (host_words hosts.now) hart) hart answer zero woken lists)
-        (W.contents sink.old) (W.contents sink.new) }
+        → (e : Enclave) × Live (bare core.now).table answer.value e }
+    ensures bytes { let s = bare core.now in Writes result
+        (IsAnswer s (given_on s (host_words hosts.now) hart) hart answer zero woken lists
+        changes.now) (W.contents sink.old) (W.contents sink.new) }
     ensures reads { (n : ℕ) → CountsReads result n n }
     ensures writes { CountsWrites result (W.failures sink.old) (W.failures sink.new)
         (W.stalls sink.old) (W.stalls sink.new) }
 {
-    let end = put_frame(frame, monitor, hosts, hart, &answer, zero, woken, lists);
+    let end = put_frame(
+        frame, core, hosts, hart, &answer, zero, woken, lists, changes,
+    );
     match write_whole(sink, &frame[..end]) {
         Ok(()) => Ok(()),
         Err(_) => Err(ServeFault::Write),
@@ -160,12 +167,12 @@ pub(crate) fn write_answer<W: Sink>(
 }
 
 /// Keeps the control words that came with a trap, where it is the host's.
-fn keep_words(monitor: &Monitor, hosts: &mut HostWords, trap: &Trap)
+fn keep_words(core: &Core, hosts: &mut HostWords, trap: &Trap)
     requires { trap.now.hart < 4 }
-    ensures { host_words hosts.new ≡ keeping ((state_by monitor.now).worlds trap.now.hart)
+    ensures { host_words hosts.new ≡ keeping ((bare core.now).worlds trap.now.hart)
         (host_words hosts.old) trap.now.hart trap.now.control }
 {
-    hosts.save(trap.hart, monitor.world(trap.hart), &trap.control);
+    hosts.save(trap.hart, core.world(trap.hart), &trap.control);
 }
 
 /// Whether a call asks for a creation. No other has its parts put together to be looked at.
@@ -208,16 +215,16 @@ fn made_by(answer: &Answer, trap: &Trap) -> Option<Create>
 /// what it has on the stack.
 #[inline(never)]
 fn measure_made<R: Source, W: Sink>(
-    monitor: &mut Monitor,
+    core: &mut Core,
     id: u64,
     parts: &Create,
     source: &mut R,
     sink: &mut W,
 ) -> Result<(), ServeFault>
-    requires live { (e : Enclave) × Live (state_by monitor.old).table id e }
+    requires live { (e : Enclave) × Live (bare core.old).table id e }
     requires parts { HasParts parts.now }
-    ensures measured { MeasuresMade result parts.now id (state_by monitor.old)
-        (state_by monitor.new) (R.remaining source.old) (R.remaining source.new)
+    ensures measured { MeasuresMade result parts.now id (bare core.old)
+        (bare core.new) (R.remaining source.old) (R.remaining source.new)
         (W.contents sink.old) (W.contents sink.new) }
     ensures reads { CountsReads result (R.failures source.old) (R.failures source.new) }
     ensures writes { CountsWrites result (W.failures sink.old) (W.failures sink.new)
@@ -225,7 +232,7 @@ fn measure_made<R: Source, W: Sink>(
 {
     match digest_of(source, sink, parts) {
         Ok(digest) => {
-            monitor.give_digest(id, &digest);
+            core.give_digest(id, &digest);
             Ok(())
         }
         Err(fault) => Err(end(sink, fault)),
@@ -236,39 +243,41 @@ fn measure_made<R: Source, W: Sink>(
 /// until then: so others may run their worlds meanwhile, to which its pages are closed by then.
 #[inline(always)]
 fn serve_call<R: Source, W: Sink>(
-    monitor: &mut Monitor,
+    core: &mut Core,
     hosts: &mut HostWords,
     trap: &Trap,
+    changes: &mut SetChanges,
     frame: &mut AnswerBytes,
     source: &mut R,
     sink: &mut W,
 ) -> Result<(), ServeFault>
-    requires hart { trap.now.hart < (state_by monitor.old).table.layout.harts }
-    requires awake { AreAwake (state_by monitor.old) }
+    requires hart { trap.now.hart < (bare core.old).table.layout.harts }
+    requires awake { AreAwake (bare core.old) }
     requires call { trap.now.event ≡ TrapEvent.Call }
-    ensures served { Serves result trap.now (state_by monitor.old) (host_words hosts.old)
-        (state_by monitor.new) (host_words hosts.new) (R.remaining source.old)
+    ensures served { Serves result trap.now (bare core.old) (host_words hosts.old)
+        (bare core.new) (host_words hosts.new) (R.remaining source.old)
         (R.remaining source.new) (W.contents sink.old) (W.contents sink.new) }
     ensures reads { CountsReads result (R.failures source.old) (R.failures source.new) }
     ensures writes { CountsWrites result (W.failures sink.old) (W.failures sink.new)
         (W.stalls sink.old) (W.stalls sink.new) }
 {
     // (there are at most four: a fact for the proof)
-    let _most = monitor.harts();
-    keep_words(monitor, hosts, trap);
-    monitor.put_registers(trap.hart, &trap.registers);
-    let served = monitor.serve(trap.hart, &TakenDigest { bytes: [0; 32] });
-    monitor.cite_invariant();
-    let woken = wake_all(monitor);
+    let _most = core.harts();
+    keep_words(core, hosts, trap);
+    let digest = TakenDigest { bytes: [0; 32] };
+    let served = core.serve(trap.hart, &trap.registers, &digest, changes);
+    core.cite_invariant();
+    let woken = wake_all(core);
     let lists = new_lists(&trap.registers, &served);
     match write_answer(
-        monitor,
+        core,
         hosts,
         trap.hart,
         served.answer,
         served.zero,
         woken,
         lists,
+        changes,
         frame,
         sink,
     ) {
@@ -281,43 +290,44 @@ fn serve_call<R: Source, W: Sink>(
     let Some(parts) = made_by(&served.answer, trap) else {
         return Ok(());
     };
-    measure_made(monitor, served.answer.value, &parts, source, sink)
+    measure_made(core, served.answer.value, &parts, source, sink)
 }
 
 /// Serves an interrupt: an enclave stops.
 #[inline(always)]
 fn serve_stop<W: Sink>(
-    monitor: &mut Monitor,
+    core: &mut Core,
     hosts: &mut HostWords,
     trap: &Trap,
+    changes: &mut SetChanges,
     frame: &mut AnswerBytes,
     sink: &mut W,
 ) -> Result<(), ServeFault>
-    requires hart { trap.now.hart < (state_by monitor.old).table.layout.harts }
-    requires awake { AreAwake (state_by monitor.old) }
+    requires hart { trap.now.hart < (bare core.old).table.layout.harts }
+    requires awake { AreAwake (bare core.old) }
     requires stop { trap.now.event ≡ TrapEvent.Stop }
     ensures served { (before : Option (List ℕ))
-        → Serves result trap.now (state_by monitor.old) (host_words hosts.old)
-        (state_by monitor.new) (host_words hosts.new) before before (W.contents sink.old)
+        → Serves result trap.now (bare core.old) (host_words hosts.old)
+        (bare core.new) (host_words hosts.new) before before (W.contents sink.old)
         (W.contents sink.new) }
     ensures reads { (n : ℕ) → CountsReads result n n }
     ensures writes { CountsWrites result (W.failures sink.old) (W.failures sink.new)
         (W.stalls sink.old) (W.stalls sink.new) }
 {
     // (there are at most four: a fact for the proof)
-    let _most = monitor.harts();
-    keep_words(monitor, hosts, trap);
-    monitor.put_registers(trap.hart, &trap.registers);
-    let _load = monitor.interrupt(trap.hart);
-    let woken = wake_all(monitor);
+    let _most = core.harts();
+    keep_words(core, hosts, trap);
+    let _load = core.interrupt(trap.hart, changes);
+    let woken = wake_all(core);
     write_answer(
-        monitor,
+        core,
         hosts,
         trap.hart,
         NOTHING,
         None,
         woken,
         NewLists::Nothing,
+        changes,
         frame,
         sink,
     )
@@ -326,24 +336,25 @@ fn serve_stop<W: Sink>(
 /// Serves a trap.
 #[inline(always)]
 pub(crate) fn serve_trap<R: Source, W: Sink>(
-    monitor: &mut Monitor,
+    core: &mut Core,
     hosts: &mut HostWords,
     trap: &Trap,
+    changes: &mut SetChanges,
     frame: &mut AnswerBytes,
     source: &mut R,
     sink: &mut W,
 ) -> Result<(), ServeFault>
-    requires hart { trap.now.hart < (state_by monitor.old).table.layout.harts }
-    requires awake { AreAwake (state_by monitor.old) }
-    ensures served { Serves result trap.now (state_by monitor.old) (host_words hosts.old)
-        (state_by monitor.new) (host_words hosts.new) (R.remaining source.old)
+    requires hart { trap.now.hart < (bare core.old).table.layout.harts }
+    requires awake { AreAwake (bare core.old) }
+    ensures served { Serves result trap.now (bare core.old) (host_words hosts.old)
+        (bare core.new) (host_words hosts.new) (R.remaining source.old)
         (R.remaining source.new) (W.contents sink.old) (W.contents sink.new) }
     ensures reads { CountsReads result (R.failures source.old) (R.failures source.new) }
     ensures writes { CountsWrites result (W.failures sink.old) (W.failures sink.new)
         (W.stalls sink.old) (W.stalls sink.new) }
 {
     match trap.event {
-        TrapEvent::Call => serve_call(monitor, hosts, trap, frame, source, sink),
-        TrapEvent::Stop => serve_stop(monitor, hosts, trap, frame, sink),
+        TrapEvent::Call => serve_call(core, hosts, trap, changes, frame, source, sink),
+        TrapEvent::Stop => serve_stop(core, hosts, trap, changes, frame, sink),
     }
 }

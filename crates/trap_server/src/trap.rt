@@ -4,7 +4,7 @@ ghost use Rattle.std.specs.Prelude.{◌≡◌, ℕ, ◌+◌, ◌≤◌, true, fa
 ghost use Rattle.sbi_decode.specs.Registers.{RegisterFile, x_of};
 ghost use Rattle.trap_server.specs.declared.trap.Trap.{Trap as TrapOf};
 ghost use Rattle.trap_server.specs.Words.{word_at};
-ghost use Rattle.trap_server.specs.Traps.{HasControl, HasRegisters, IsTrapFrame, ReadsTrap, CountsRead};
+ghost use Rattle.trap_server.specs.Traps.{HasControl, HasCall, IsTrapFrame, ReadsTrap, CountsRead};
 
 use crate::ControlWords;
 use crate::frame::{TAG_CALL, TAG_CONTROL, TAG_STOP, TrapBytes, word};
@@ -14,7 +14,7 @@ use byte_streams::Source;
 use sbi_decode::Registers;
 
 /// The bytes of its frame.
-const TRAP_BYTES: usize = 352;
+const TRAP_BYTES: usize = 160;
 
 /// What happened to the world that runs on a hart.
 #[derive(Clone, Copy)]
@@ -25,15 +25,15 @@ pub enum TrapEvent {
     Stop,
 }
 
-/// A trap of a hart, with the registers and control words of the world that ran there; the program counter is that of the
-/// instruction that trapped.
+/// A trap of a hart, with the registers of a call, a0 to a7, and the control words of the world that ran there. Its other
+/// registers stay with the hart.
 #[derive(Clone, Copy)]
 pub struct Trap {
     /// What happened.
     pub event: TrapEvent,
     /// The hart on which it did, below the number of harts.
     pub hart: u8,
-    /// The registers as they were.
+    /// The registers as they were, of which a0 to a7 alone are known.
     pub registers: Registers,
     /// The control registers as they were.
     pub control: ControlWords,
@@ -51,14 +51,13 @@ impl Trap {
     }
 }
 
-/// Puts the registers in a frame, the program counter and then x1 to x31, into those of a trap.
+/// Puts a0 to a7 in a frame, which are x10 to x17, into the registers of a trap.
 #[inline(always)]
-fn registers_in(bytes: &TrapBytes, registers: &mut Registers)
-    ensures { HasRegisters bytes.now registers.new }
+fn call_in(bytes: &TrapBytes, registers: &mut Registers)
+    ensures { HasCall bytes.now registers.new }
 {
-    registers.set_pc(word(bytes, 2));
-    for n in 1..32 {
-        registers.set(n, word(bytes, n + 2));
+    for n in 10..18 {
+        registers.set(n, word(bytes, n - 8));
     }
 }
 
@@ -68,15 +67,15 @@ fn control_in(bytes: &TrapBytes) -> ControlWords
     ensures { HasControl bytes.now result }
 {
     ControlWords {
-        status: word(bytes, 35),
-        satp: word(bytes, 36),
-        mie: word(bytes, 37),
-        scounteren: word(bytes, 38),
-        senvcfg: word(bytes, 39),
-        hstatus: word(bytes, 40),
-        medeleg: word(bytes, 41),
-        mideleg: word(bytes, 42),
-        mode: word(bytes, 43),
+        status: word(bytes, 11),
+        satp: word(bytes, 12),
+        mie: word(bytes, 13),
+        scounteren: word(bytes, 14),
+        senvcfg: word(bytes, 15),
+        hstatus: word(bytes, 16),
+        medeleg: word(bytes, 17),
+        mideleg: word(bytes, 18),
+        mode: word(bytes, 19),
     }
 }
 
@@ -114,7 +113,7 @@ fn trap_in(bytes: &TrapBytes, harts: u8, trap: &mut Trap) -> bool
     if hart >= u64::from(harts) {
         return false;
     }
-    if word(bytes, 34) != TAG_CONTROL {
+    if word(bytes, 10) != TAG_CONTROL {
         return false;
     }
     if is_machine(control.mode) {
@@ -122,7 +121,7 @@ fn trap_in(bytes: &TrapBytes, harts: u8, trap: &mut Trap) -> bool
     }
     trap.event = event;
     trap.hart = hart as u8;
-    registers_in(bytes, &mut trap.registers);
+    call_in(bytes, &mut trap.registers);
     trap.control = control;
     true
 }

@@ -4,17 +4,17 @@ ghost use Rattle.std.specs.Prelude.{◌≡◌, ◌+◌, ◌≤◌, ◌<◌, ℕ,
 ghost use Rattle.platforms.specs.Platform.{PlatformLayout};
 ghost use Rattle.monitor_core.specs.States.{opening_monitor};
 ghost use Rattle.std.specs.Io.KnownBytes.{IsAtEnd};
-ghost use Rattle.monitor_core.specs.Monitors.{state_by};
 ghost use Rattle.trap_server.specs.Boot.{Boots, BootsOn, EndsAtFirst, IsFirst, others};
 ghost use Rattle.trap_server.specs.Answered.{AreAwake};
 ghost use Rattle.trap_server.specs.Ends.{CountsReads, CountsWrites};
 ghost use Rattle.trap_server.specs.Runs.{EndsEarly, Ran};
+ghost use Rattle.trap_server.specs.Sets.{bare};
 
 use crate::fault::{ServeFault, end, refuse};
 use crate::service::{NOTHING, serve_trap, write_answer};
 use crate::{EndReason, HostWords, NewLists, Trap, read_platform, read_trap};
 use byte_streams::{Sink, Source};
-use monitor_core::Monitor;
+use monitor_core::{Core, SetChanges};
 use platforms::{BootFault, Platform};
 use std::alloc::Global;
 
@@ -24,14 +24,14 @@ fn boot_on<W: Sink>(
     alloc: Global,
     platform: Box<Platform>,
     sink: &mut W,
-) -> Result<Monitor, ServeFault>
+) -> Result<Core, ServeFault>
     ensures boots { BootsOn result platform.value (W.contents sink.old) (W.contents sink.new) }
     ensures reads { (n : ℕ) → CountsReads result n n }
     ensures writes { CountsWrites result (W.failures sink.old) (W.failures sink.new)
         (W.stalls sink.old) (W.stalls sink.new) }
 {
-    match Monitor::boot(alloc, Box::into_inner(platform)) {
-        Ok(monitor) => Ok(monitor),
+    match Core::boot(alloc, Box::into_inner(platform)) {
+        Ok(core) => Ok(core),
         Err(BootFault::NeedsMoreEntries(count)) => {
             Err(refuse(sink, EndReason::NeedsEntries(count)))
         }
@@ -72,7 +72,7 @@ fn boot<R: Source, W: Sink>(
     alloc: Global,
     source: &mut R,
     sink: &mut W,
-) -> Result<Monitor, ServeFault>
+) -> Result<Core, ServeFault>
     ensures boots { Boots result (R.remaining source.old) (R.remaining source.new)
         (W.contents sink.old) (W.contents sink.new) }
     ensures reads { CountsReads result (R.failures source.old) (R.failures source.new) }
@@ -98,41 +98,43 @@ fn others(harts: u8) -> [bool; 4]
 /// it: so the frames are known to lie at a multiple of eight, and are read and written by the word.
 #[inline(never)]
 fn serve_booted<R: Source, W: Sink>(
-    monitor: &mut Monitor,
+    core: &mut Core,
     source: &mut R,
     sink: &mut W,
 ) -> Result<(), ServeFault>
-    requires { (layout : PlatformLayout) × (state_by monitor.old ≡ opening_monitor layout) }
+    requires { (layout : PlatformLayout) × (bare core.old ≡ opening_monitor layout) }
     ensures all { (before held : Option (List ℕ))
-        → Boots (Ok monitor.old) before (R.remaining source.old) held (W.contents sink.old)
+        → Boots (Ok core.old) before (R.remaining source.old) held (W.contents sink.old)
         → IfOk result (λ _. Ran before (R.remaining source.new) held (W.contents sink.new) [] []) }
     ensures at_end { IfOk result (λ _. IsAtEnd (R.remaining source.new)) }
     ensures early { (before held : Option (List ℕ))
-        → Boots (Ok monitor.old) before (R.remaining source.old) held (W.contents sink.old)
+        → Boots (Ok core.old) before (R.remaining source.old) held (W.contents sink.old)
         → IfErr result (λ fault.
         EndsEarly fault before (R.remaining source.new) held (W.contents sink.new)) }
     ensures reads { CountsReads result (R.failures source.old) (R.failures source.new) }
     ensures writes { CountsWrites result (W.failures sink.old) (W.failures sink.new)
         (W.stalls sink.old) (W.stalls sink.new) }
 {
-    let harts = monitor.harts();
+    let harts = core.harts();
     let mut hosts = HostWords::new();
-    let mut frame = [0; 1584];
+    let mut changes = SetChanges::none();
+    let mut frame = [0; 1424];
     match write_answer(
-        monitor,
+        core,
         &hosts,
         0,
         NOTHING,
         None,
         others(harts),
         NewLists::Host,
+        &changes,
         &mut frame,
         sink,
     ) {
         Ok(()) => {}
         Err(fault) => return Err(fault),
     }
-    let mut trap_frame = [0; 352];
+    let mut trap_frame = [0; 160];
     let mut trap = Trap::new();
     for _count in 0..u64::MAX {
         let is_there = match read_trap(source, harts, &mut trap_frame, &mut trap) {
@@ -142,7 +144,9 @@ fn serve_booted<R: Source, W: Sink>(
         if !is_there {
             return Ok(());
         }
-        match serve_trap(monitor, &mut hosts, &trap, &mut frame, source, sink) {
+        match serve_trap(
+            core, &mut hosts, &trap, &mut changes, &mut frame, source, sink,
+        ) {
             Ok(()) => {}
             Err(fault) => return Err(fault),
         }
@@ -172,9 +176,9 @@ pub fn serve_traps<R: Source, W: Sink>(
     ensures writes { CountsWrites result (W.failures sink.old) (W.failures sink.new)
         (W.stalls sink.old) (W.stalls sink.new) }
 {
-    let mut monitor = match boot(alloc, source, sink) {
-        Ok(monitor) => monitor,
+    let mut core = match boot(alloc, source, sink) {
+        Ok(core) => core,
         Err(fault) => return Err(fault),
     };
-    serve_booted(&mut monitor, source, sink)
+    serve_booted(&mut core, source, sink)
 }

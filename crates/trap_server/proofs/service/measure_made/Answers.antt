@@ -1,6 +1,7 @@
 use Rattle.std.proofs.Common.{◌∙◌, List, ℕ, ap}
 use Rattle.monitor_core.specs.Changes.{having_digest}
-use Rattle.monitor_core.specs.Monitors.{state_by}
+use Rattle.sbi_decode.specs.Registers.{zeros}
+use Rattle.trap_server.specs.Sets.{bare}
 use Rattle.trap_server.proofs.Served.{frame_reads, frame_writes, measure_stops}
 use Rattle.trap_server.proofs.service.measure_made.Goals as goal
 
@@ -10,7 +11,7 @@ returns-in-Ok-clause-measured g c =
       r.0,
       r.1,
       r.2,
-      λ e live. c.give_digest.ensures e live ∙ ap (having_digest (state_by c.args.monitor.now) c.args.id e) r.4,
+      λ e live. c.give_digest.ensures e (λ who. zeros) live ∙ ap (having_digest (bare c.args.core.now) c.args.id e) r.4,
       r.3,
       c.in-Ok.ensures.asked,
     )

@@ -1,107 +1,112 @@
-use Rattle.std.proofs.Common.{◌∙◌, ◌<◌, ap, sym, subst}
+use Rattle.std.proofs.Common.{◌∙◌, refl, sym, subst}
 use Rattle.sbi_decode.specs.Calls.{call_of}
+use Rattle.sbi_decode.specs.Registers.{RegisterFile}
+use Rattle.sbi_decode.specs.Runners.{Runner}
 use Rattle.enclave_table.specs.Enclaves.{Live}
 use Rattle.monitor_core.specs.Changes.{past_call, with_running}
 use Rattle.monitor_core.specs.Measured.{asked_in}
-use Rattle.monitor_core.specs.Monitors.{state_by}
+use Rattle.monitor_core.specs.SetChanges.{changed}
 use Rattle.monitor_core.specs.States.{MonitorState}
-use Rattle.monitor_core.proofs.Running.{call_there}
 use Rattle.trap_server.specs.Answered.{IsAnswer, given_on}
 use Rattle.trap_server.specs.Given.{host_words}
+use Rattle.trap_server.specs.Sets.{bare, with_sets}
 use Rattle.trap_server.proofs.Answering.{call_answered, call_unanswered, made_measured, made_to_measure, none_asked, nothing_made}
 use Rattle.trap_server.proofs.ListsKept.{made_by_lists}
 use Rattle.trap_server.proofs.Remeasured.{call_remeasured}
 use Rattle.trap_server.proofs.Served.{writes_then}
 use Rattle.trap_server.proofs.service.serve_call.Goals as goal
 
-pub serve-served-requires-clause-hart : goal.serve-served-requires-clause-hart
-serve-served-requires-clause-hart g c = subst (λ (s : MonitorState). c.args.trap.now.hart < s.table.layout.harts)
-    (sym c.put_registers.ensures.state) c.requires.hart
-
 pub serve-served-requires-clause-awake : goal.serve-served-requires-clause-awake
-serve-served-requires-clause-awake g c = ap (λ (s : MonitorState). s.marked c.args.trap.now.hart) c.put_registers.ensures.state
-    ∙ c.requires.awake c.args.trap.now.hart c.requires.hart
+serve-served-requires-clause-awake g c = c.requires.awake c.args.trap.now.hart c.requires.hart
 
 pub write_answer-requires-clause-made : goal.write_answer-requires-clause-made
 write_answer-requires-clause-made g c = λ is.
-    let s = state_by c.args.monitor.now in
-    let mid = state_by c.serve-served.new.self in
+    let s = bare c.args.core.now in
+    let mid = bare c.serve-served.new.self in
     let trap = c.args.trap.now in
-    let file = past_call trap.registers in
     let said = c.serve-served.result in
-    let step = call_there s (state_by c.put_registers.new.self) mid trap.hart trap.registers _ said.answer said.zero c.put_registers.ensures.state
-    c.serve-served.ensures.step in
+    let sets : Runner → RegisterFile = λ who. trap.registers in
+    let file = past_call trap.registers in
+    let step = c.serve-served.ensures.step sets refl in
     let m = made_by_lists (asked_in (call_of trap.registers)) said.answer said.zero (sym c.new_lists-lists.ensures ∙ is) in
-    let r = call_remeasured (call_of file) _ (with_running s trap.hart file) trap.hart said.answer said.zero mid m.0 c.cite_invariant.ensures.table step m.1 in
+    let r = call_remeasured (call_of file) _ (with_running (with_sets s sets) trap.hart file) trap.hart said.answer said.zero
+    (with_sets mid (changed trap.hart c.serve-served.new.changes sets)) m.0 c.cite_invariant.ensures.table step m.1 in
     (r.0, subst (λ (y : MonitorState). Live y.table said.answer.value r.0) (sym c.wake_all-woken.ensures.state) r.1)
 
 pub returns-in-Err-clause-served : goal.returns-in-Err-clause-served
 returns-in-Err-clause-served g c =
-    let s = state_by c.args.monitor.now in
-    let now = state_by c.wake_all-woken.new.monitor in
+    let s = bare c.args.core.now in
+    let now = bare c.wake_all-woken.new.core in
     let trap = c.args.trap.now in
     let said = c.serve-served.result in
+    let changes = c.serve-served.new.changes in
     let kept = host_words c.keep_words.new.hosts in
-    call_unanswered c.in-Err.fault (IsAnswer now (given_on now kept trap.hart) trap.hart said.answer said.zero c.wake_all-woken.result c.new_lists-lists.result)
-    trap said.answer s now
+    call_unanswered c.in-Err.fault (IsAnswer now (given_on now kept trap.hart) trap.hart said.answer said.zero c.wake_all-woken.result c.new_lists-lists.result
+    changes) trap said.answer s now
     (host_words c.args.hosts.now) kept _ _ _
-    (λ bytes is. call_answered s (state_by c.put_registers.new.self) (state_by c.serve-served.new.self) now (host_words c.args.hosts.now) kept trap _
-    said.answer said.zero c.wake_all-woken.result c.new_lists-lists.result c.harts-most.result bytes c.requires.call c.put_registers.ensures.state c.serve-served.ensures.step
+    (λ bytes is. call_answered s (bare c.serve-served.new.self) now (host_words c.args.hosts.now) kept trap changes _
+    said.answer said.zero c.wake_all-woken.result c.new_lists-lists.result c.harts-most.result bytes c.requires.call c.serve-served.ensures.step
     c.serve-served.ensures.platform c.cite_invariant.ensures.table c.harts-most.ensures.value c.harts-most.ensures.most c.wake_all-woken.ensures.state
     c.wake_all-woken.ensures.marks c.keep_words.ensures c.new_lists-lists.ensures is) c.in-Err.ensures.bytes
 
 pub returns-then-not-is_creation-clause-served : goal.returns-then-not-is_creation-clause-served
 returns-then-not-is_creation-clause-served g c =
     let wrote = c.in-Ok.ensures.bytes in
-    nothing_made (state_by c.args.monitor.now) (state_by c.wake_all-woken.new.monitor) (host_words c.args.hosts.now) (host_words c.keep_words.new.hosts)
+    nothing_made (bare c.args.core.now) (bare c.wake_all-woken.new.core) (host_words c.args.hosts.now) (host_words c.keep_words.new.hosts)
     c.args.trap.now c.serve-served.result.answer wrote.0 _ _ _
-    (call_answered (state_by c.args.monitor.now) (state_by c.put_registers.new.self) (state_by c.serve-served.new.self) (state_by c.wake_all-woken.new.monitor)
-    (host_words c.args.hosts.now) (host_words c.keep_words.new.hosts) c.args.trap.now _ c.serve-served.result.answer c.serve-served.result.zero
-    c.wake_all-woken.result c.new_lists-lists.result c.harts-most.result wrote.0 c.requires.call c.put_registers.ensures.state c.serve-served.ensures.step
+    (call_answered (bare c.args.core.now) (bare c.serve-served.new.self) (bare c.wake_all-woken.new.core)
+    (host_words c.args.hosts.now) (host_words c.keep_words.new.hosts) c.args.trap.now c.serve-served.new.changes _ c.serve-served.result.answer
+    c.serve-served.result.zero
+    c.wake_all-woken.result c.new_lists-lists.result c.harts-most.result wrote.0 c.requires.call c.serve-served.ensures.step
     c.serve-served.ensures.platform c.cite_invariant.ensures.table c.harts-most.ensures.value c.harts-most.ensures.most c.wake_all-woken.ensures.state
-    c.wake_all-woken.ensures.marks c.keep_words.ensures c.new_lists-lists.ensures wrote.1) (none_asked _ _ (sym c.is_creation.ensures ∙ c.if-not-is_creation.true)) wrote.2
+    c.wake_all-woken.ensures.marks c.keep_words.ensures c.new_lists-lists.ensures wrote.1) (none_asked _ _ (sym c.is_creation.ensures
+    ∙ c.if-not-is_creation.true)) wrote.2
 
 pub returns-in_default-clause-served : goal.returns-in_default-clause-served
 returns-in_default-clause-served g c =
     let wrote = c.in-Ok.ensures.bytes in
-    nothing_made (state_by c.args.monitor.now) (state_by c.wake_all-woken.new.monitor) (host_words c.args.hosts.now) (host_words c.keep_words.new.hosts)
+    nothing_made (bare c.args.core.now) (bare c.wake_all-woken.new.core) (host_words c.args.hosts.now) (host_words c.keep_words.new.hosts)
     c.args.trap.now c.serve-served.result.answer wrote.0 _ _ _
-    (call_answered (state_by c.args.monitor.now) (state_by c.put_registers.new.self) (state_by c.serve-served.new.self) (state_by c.wake_all-woken.new.monitor)
-    (host_words c.args.hosts.now) (host_words c.keep_words.new.hosts) c.args.trap.now _ c.serve-served.result.answer c.serve-served.result.zero
-    c.wake_all-woken.result c.new_lists-lists.result c.harts-most.result wrote.0 c.requires.call c.put_registers.ensures.state c.serve-served.ensures.step
+    (call_answered (bare c.args.core.now) (bare c.serve-served.new.self) (bare c.wake_all-woken.new.core)
+    (host_words c.args.hosts.now) (host_words c.keep_words.new.hosts) c.args.trap.now c.serve-served.new.changes _ c.serve-served.result.answer
+    c.serve-served.result.zero
+    c.wake_all-woken.result c.new_lists-lists.result c.harts-most.result wrote.0 c.requires.call c.serve-served.ensures.step
     c.serve-served.ensures.platform c.cite_invariant.ensures.table c.harts-most.ensures.value c.harts-most.ensures.most c.wake_all-woken.ensures.state
     c.wake_all-woken.ensures.marks c.keep_words.ensures c.new_lists-lists.ensures wrote.1) c.in_default.ensures.none wrote.2
 
 pub measure_made-requires-clause-live : goal.measure_made-requires-clause-live
 measure_made-requires-clause-live g c =
     let wrote = c.in-Ok.ensures.bytes in
-    (made_to_measure (state_by c.args.monitor.now) (state_by c.wake_all-woken.new.monitor) (host_words c.args.hosts.now) (host_words c.keep_words.new.hosts)
+    (made_to_measure (bare c.args.core.now) (bare c.wake_all-woken.new.core) (host_words c.args.hosts.now) (host_words c.keep_words.new.hosts)
     c.args.trap.now c.serve-served.result.answer wrote.0 c.in-Some.parts
-    (call_answered (state_by c.args.monitor.now) (state_by c.put_registers.new.self) (state_by c.serve-served.new.self) (state_by c.wake_all-woken.new.monitor)
-    (host_words c.args.hosts.now) (host_words c.keep_words.new.hosts) c.args.trap.now _ c.serve-served.result.answer c.serve-served.result.zero
-    c.wake_all-woken.result c.new_lists-lists.result c.harts-most.result wrote.0 c.requires.call c.put_registers.ensures.state c.serve-served.ensures.step
+    (call_answered (bare c.args.core.now) (bare c.serve-served.new.self) (bare c.wake_all-woken.new.core)
+    (host_words c.args.hosts.now) (host_words c.keep_words.new.hosts) c.args.trap.now c.serve-served.new.changes _ c.serve-served.result.answer
+    c.serve-served.result.zero
+    c.wake_all-woken.result c.new_lists-lists.result c.harts-most.result wrote.0 c.requires.call c.serve-served.ensures.step
     c.serve-served.ensures.platform c.cite_invariant.ensures.table c.harts-most.ensures.value c.harts-most.ensures.most c.wake_all-woken.ensures.state
     c.wake_all-woken.ensures.marks c.keep_words.ensures c.new_lists-lists.ensures wrote.1) c.in-Some.ensures.some).0
 
 pub measure_made-requires-clause-parts : goal.measure_made-requires-clause-parts
 measure_made-requires-clause-parts g c =
     let wrote = c.in-Ok.ensures.bytes in
-    (made_to_measure (state_by c.args.monitor.now) (state_by c.wake_all-woken.new.monitor) (host_words c.args.hosts.now) (host_words c.keep_words.new.hosts)
+    (made_to_measure (bare c.args.core.now) (bare c.wake_all-woken.new.core) (host_words c.args.hosts.now) (host_words c.keep_words.new.hosts)
     c.args.trap.now c.serve-served.result.answer wrote.0 c.in-Some.parts
-    (call_answered (state_by c.args.monitor.now) (state_by c.put_registers.new.self) (state_by c.serve-served.new.self) (state_by c.wake_all-woken.new.monitor)
-    (host_words c.args.hosts.now) (host_words c.keep_words.new.hosts) c.args.trap.now _ c.serve-served.result.answer c.serve-served.result.zero
-    c.wake_all-woken.result c.new_lists-lists.result c.harts-most.result wrote.0 c.requires.call c.put_registers.ensures.state c.serve-served.ensures.step
+    (call_answered (bare c.args.core.now) (bare c.serve-served.new.self) (bare c.wake_all-woken.new.core)
+    (host_words c.args.hosts.now) (host_words c.keep_words.new.hosts) c.args.trap.now c.serve-served.new.changes _ c.serve-served.result.answer
+    c.serve-served.result.zero
+    c.wake_all-woken.result c.new_lists-lists.result c.harts-most.result wrote.0 c.requires.call c.serve-served.ensures.step
     c.serve-served.ensures.platform c.cite_invariant.ensures.table c.harts-most.ensures.value c.harts-most.ensures.most c.wake_all-woken.ensures.state
     c.wake_all-woken.ensures.marks c.keep_words.ensures c.new_lists-lists.ensures wrote.1) c.in-Some.ensures.some).1
 
 pub returns-clause-served : goal.returns-clause-served
 returns-clause-served g c =
     let wrote = c.in-Ok.ensures.bytes in
-    made_measured c.measure_made.result (state_by c.args.monitor.now) (state_by c.wake_all-woken.new.monitor) (state_by c.measure_made.new.monitor)
+    made_measured c.measure_made.result (bare c.args.core.now) (bare c.wake_all-woken.new.core) (bare c.measure_made.new.core)
     (host_words c.args.hosts.now) (host_words c.keep_words.new.hosts) c.args.trap.now c.serve-served.result.answer wrote.0 c.in-Some.parts _ _ _ _ _
-    (call_answered (state_by c.args.monitor.now) (state_by c.put_registers.new.self) (state_by c.serve-served.new.self) (state_by c.wake_all-woken.new.monitor)
-    (host_words c.args.hosts.now) (host_words c.keep_words.new.hosts) c.args.trap.now _ c.serve-served.result.answer c.serve-served.result.zero
-    c.wake_all-woken.result c.new_lists-lists.result c.harts-most.result wrote.0 c.requires.call c.put_registers.ensures.state c.serve-served.ensures.step
+    (call_answered (bare c.args.core.now) (bare c.serve-served.new.self) (bare c.wake_all-woken.new.core)
+    (host_words c.args.hosts.now) (host_words c.keep_words.new.hosts) c.args.trap.now c.serve-served.new.changes _ c.serve-served.result.answer
+    c.serve-served.result.zero
+    c.wake_all-woken.result c.new_lists-lists.result c.harts-most.result wrote.0 c.requires.call c.serve-served.ensures.step
     c.serve-served.ensures.platform c.cite_invariant.ensures.table c.harts-most.ensures.value c.harts-most.ensures.most c.wake_all-woken.ensures.state
     c.wake_all-woken.ensures.marks c.keep_words.ensures c.new_lists-lists.ensures wrote.1)
     c.in-Some.ensures.some wrote.2 c.measure_made.ensures.measured

@@ -1,11 +1,21 @@
-use Rattle.std.proofs.Common.{◌≡◌, ℕ, List, Option, length, inl, refl, subst}
+use Rattle.std.proofs.Common.{◌≡◌, ◌∙◌, ℕ, List, Option, length, inl, ap, refl, subst}
+use Rattle.std.proofs.KnownBytes.{Appends-nil}
+use Rattle.sbi_decode.specs.Registers.{zeros}
+use Rattle.monitor_core.specs.States.{opening_monitor}
 use Rattle.enclave_table.specs.Boot.{IsBootFault}
 use Rattle.platforms.specs.declared.boot_fault.BootFault.TheVariants.{NeedsMoreEntries}
 use Rattle.trap_server.specs.Platforms.{IsPlatformFrame}
 use Rattle.trap_server.specs.declared.end.EndReason.TheVariants as refusals
-use Rattle.trap_server.specs.Boot.{StopsAtFirst}
+use Rattle.trap_server.specs.Boot.{MayOpen, StopsAtFirst}
 use Rattle.trap_server.proofs.Served.{refuse_why}
 use Rattle.trap_server.proofs.trap_loop.boot_on.Goals as goal
+
+pub returns-in-Ok-clause-boots : goal.returns-in-Ok-clause-boots
+returns-in-Ok-clause-boots g c = (
+  c.in-Ok.ensures.state (λ who. zeros) ∙ ap opening_monitor c.into_inner.ensures,
+  Appends-nil _,
+  subst MayOpen c.into_inner.ensures (c.in-Ok.ensures.rules, c.in-Ok.ensures.fits),
+)
 
 pub returns-in-Err-NeedsMoreEntries-clause-boots : goal.returns-in-Err-NeedsMoreEntries-clause-boots
 returns-in-Err-NeedsMoreEntries-clause-boots g c =
