@@ -59,12 +59,13 @@ There are three theorems, over one monitor (`monitor_core`), which the model and
    `step` say of one event. The code owes it there: `boot` and `step` each have a clause `after` (part 3).
 2. **The firmware** (`firmware_law`, part 6). It is about every list of traps that `serve_traps` of `trap_server` read and answered:
    which entries the list has that was answered last of each world, and the one that each hart loaded last, whose pages are asked for or
-   made zero, and whose registers and control words go on. The code owes it in the clauses `all` and `early` of `serve_traps`: the traps of `Ran` are such a list.
+   made zero, and whose registers and control words go on. The code owes it in the clauses `all` and `early` of `serve_traps`: the traps
+   of `Ran` are such a list.
 3. **A board** (`board_law`, part 7). It is about memory and harts around that loop, and so about what worlds do between traps. What the
    code around the loop owes is a premise there, in one definition (`DoesTrap`): each world keeps the list of entries that an answer last
    had for it, a hart judges by the list that it loaded last, the pages that an answer names are made zero, those that are read are
-   memory's, registers of floating point change with the world of a hart, and no world runs meanwhile. On a hart other worlds run while the pages of a new enclave are read, after its creation
-   was answered: until the next trap no world changes them (`pages_law`).
+   memory's, registers of floating point change with the world of a hart, and no world runs meanwhile. On a hart other worlds run while
+   the pages of a new enclave are read, after its creation was answered: until the next trap no world changes them (`pages_law`).
 
 The first and the third are of the same thing: each run of the model is a run of a board (`model_law`, part 8). Each access of the one
 is an access of the other, with what was said of it. Each call or interrupt is a trap with the same registers, whose answer says what
