@@ -76,7 +76,7 @@ static inline void act(struct world *world)
     world->pc += 4;
 }
 
-/* It waits in park. Its entries are kept like those of the others, and loaded before it starts. */
+/* It waits in park. The host's list may change meanwhile, and is loaded before it starts. */
 static void start_hart(const struct action *action)
 {
     struct world *world = &worlds[action->subject];

@@ -58,13 +58,14 @@ There are three theorems, over one monitor (`monitor_core`), which the model and
    which `step` and `run` made events happen. `After` is a list of such events, each with `Happens`, and `Happens` is what the clauses of
    `step` say of one event. The code owes it there: `boot` and `step` each have a clause `after` (part 3).
 2. **The firmware** (`firmware_law`, part 6). It is about every list of traps that `serve_traps` of `trap_server` read and answered:
-   which entries the registers in the bytes of an answer have, on each hart, whose pages are asked for or made zero, and whose registers
-   and control words go on. The code owes it in the clauses `all` and `early` of `serve_traps`: the traps of `Ran` are such a list.
+   which entries the list has that was answered last of each world, and the one that each hart loaded last, whose pages are asked for or
+   made zero, and whose registers and control words go on. The code owes it in the clauses `all` and `early` of `serve_traps`: the traps
+   of `Ran` are such a list.
 3. **A board** (`board_law`, part 7). It is about memory and harts around that loop, and so about what worlds do between traps. What the
-   code around the loop owes is a premise there, in one definition (`DoesTrap`): a hart judges by the registers in the last answer that
-   it loaded, the pages that an answer names are made zero, those that are read are memory's, registers of floating point change with the
-   world of a hart, and no world runs meanwhile. On a hart other worlds run while the pages of a new enclave are read, after its creation
-   was answered: until the next trap no world changes them (`pages_law`).
+   code around the loop owes is a premise there, in one definition (`DoesTrap`): each world keeps the list of entries that an answer last
+   had for it, a hart judges by the list that it loaded last, the pages that an answer names are made zero, those that are read are
+   memory's, registers of floating point change with the world of a hart, and no world runs meanwhile. On a hart other worlds run while
+   the pages of a new enclave are read, after its creation was answered: until the next trap no world changes them (`pages_law`).
 
 The first and the third are of the same thing: each run of the model is a run of a board (`model_law`, part 8). Each access of the one
 is an access of the other, with what was said of it. Each call or interrupt is a trap with the same registers, whose answer says what
@@ -79,8 +80,8 @@ the loop and gets from it are those of such a list.
 No theorem here is about these:
 
 - the C and assembly around the loop (`firmware/`): that a frame has the registers of the hart that trapped, that what an answer says is
-  loaded and made zero, that no hart runs a world while its entries change, that pages are read before the next trap. Part 7 takes this
-  as given. `firmware/README.md` has these rules; they are tested on QEMU;
+  kept, loaded and made zero, that no hart runs a world while its entries change, that pages are read before the next trap. Part 7 takes
+  this as given. `firmware/README.md` has these rules; they are tested on QEMU;
 - a build for RV64, which is a retargeted build of a proved module. It is tested on QEMU, and no verdict of a proof covers it;
 - a device whose bytes are not known, as standard input and output: part 5 speaks of streams that tell their bytes;
 - what a real hart does besides: caches, side channels, devices that reach memory by themselves, time.

@@ -2,12 +2,13 @@
 //! answers, and worlds that do what they like between traps.
 //!
 //! The firmware's theorem, `firmware_law` of `trap_server`, speaks of bytes: traps that came in, answers that went
-//! out. Here these bytes do something. A hart judges accesses by the registers in the last answer that it loaded, and
-//! by nothing else; an answer makes pages zero; the pages of a creation are read from memory; registers of floating
-//! point are kept and loaded where the world of a hart changes. These are the duties of the code around the monitor
-//! (`firmware/README.md`), in one definition, `specs/Board`. An event is an access by a world below machine mode, of
-//! any kind, address and value, a computation in floating point, or a trap that is served while no world runs. The
-//! pages of a new enclave may be read later than that, until the next trap: they stay ([`pages_law`]).
+//! out. Here these bytes do something. Each world keeps the list of entries that an answer last had for it. A hart
+//! judges accesses by the list that it loaded last, and by nothing else; an answer makes pages zero; the pages of a
+//! creation are read from memory; registers of floating point are kept and loaded where the world of a hart changes.
+//! These are the duties of the code around the monitor (`firmware/README.md`), in one definition, `specs/Board`. An
+//! event is an access by a world below machine mode, of any kind, address and value, a computation in floating point,
+//! or a trap that is served while no world runs. The pages of a new enclave may be read later than that, until the
+//! next trap: they stay ([`pages_law`]).
 //!
 //! For the layer above: after boot and any list of events, on one to four harts, each access is allowed exactly as
 //! the view of its world allows it, and no world but an enclave itself reads or changes its private pages, or its

@@ -3,7 +3,7 @@
 //!
 //! The harts are reached by standard input and output, as C has them: firmware supplies `read`, `write` and `rattle_errno`, of
 //! which `firmware/serve.c` is one. What is read is the next frame, what is written the next answer (`docs/FORMATS.md`,
-//! "Frames"). C passes nothing to the loop: the three parameters have no size. The structs are those of `firmware/decisions.h`.
+//! "Frames"). C passes nothing to the loop: the three parameters have no size. The structs are those of `firmware/board.h`.
 //!
 //! ```c
 //! int64_t pmpmon_serve(void);

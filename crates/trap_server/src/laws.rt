@@ -15,11 +15,11 @@ pub fn words_law()
 
 /// After any traps that were served and answered, on every platform that keeps its rules: the table is sound, and each enclave
 /// that is Running runs on just one hart.
-/// The registers in the bytes of the answer whose entries a hart loaded last mean what its world may do, and no list of
-/// entries that does is shorter; the hart has that many. Each creation and destruction was refused for want of entries exactly
-/// where a view after it needs more, want of memory aside. Pages that were asked for are memory and not the monitor's, and were
-/// read once; pages that were to be made zero are those of the enclave that was destroyed. Registers and control words are
-/// given to the world that they are of, and an enclave runs in user mode.
+/// The list that was answered last of each world that is there means what the world may do, and no list of entries that does
+/// is shorter; a hart has that many. The list that each hart loaded last is such a list of its world. Each creation and
+/// destruction was refused for want of entries exactly where a view after it needs more, want of memory aside. Pages that were
+/// asked for are memory and not the monitor's, and were read once; pages that were to be made zero are those of the enclave
+/// that was destroyed. Registers and control words are given to the world that they are of, and an enclave runs in user mode.
 pub fn firmware_law()
     ensures { (layout : PlatformLayout) (opened read written : List ℕ) (s : MonitorState)
         (kept : ℕ → ControlWords)
