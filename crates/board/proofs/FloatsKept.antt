@@ -57,8 +57,8 @@ pub floats_kept :
 floats_kept old trap frame read question answered new same right sound placed places x k =
     let hart = trap.hart in
     let a = k.says in
-    let word : word_at answered 2 ≡ world_number (new.monitor.worlds hart) % 2 ^ 64 = ap (λ b. word_at b 2) a.2
-    ∙ (says (head_of new.monitor hart k.answer k.cleared k.woken) (running_registers new.monitor hart) a.0 k.given).world_is in
+    let word : word_at answered 2 ≡ world_number (new.monitor.worlds hart) % 2 ^ 64 = ap (λ b. word_at b 2) a.puts.put
+    ∙ (says (head_of new.monitor hart k.answer a.used k.cleared k.woken k.lists) (running_registers new.monitor hart) k.given a.puts.are).world_is in
     let known : hart < old.monitor.table.layout.harts = x.is_trap.known in
     let next : runner_by hart (word_at answered 2) ≡ runner_on new.monitor hart = named_by new.monitor.table (new.monitor.worlds hart) hart
     (word_at answered 2) sound (places.current hart (subst (λ n. hart < n) (sym same) known)) word in

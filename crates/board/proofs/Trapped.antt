@@ -113,7 +113,7 @@ pub trap_kept :
     → KeepsMemory old new
 trap_kept old trap frame read question answered new right x k =
     let inside : IfSome k.cleared (λ range. range.first + range.count ≤ 2 ^ 44) = in_space k.cleared k.zeroes in
-    let words = named new.monitor k.given trap.hart k.answer k.cleared k.woken answered k.says inside in
+    let words = named new.monitor k.given trap.hart k.answer k.cleared k.woken k.lists answered k.says inside in
     let memory : (byte : ℕ) → new.memory byte ≡ cleared_by k.cleared old.memory byte = λ byte.
     x.cleared byte ∙ ap (λ first. zeroed old.memory first (word_at answered 7) byte) words.0
     ∙ ap (λ count. zeroed old.memory (pages_of k.cleared).first count byte) words.1 in
