@@ -22,9 +22,11 @@ use Rattle.sbi_decode.specs.Registers.{RegisterFile}
 use Rattle.sbi_decode.specs.Runners.{Runner}
 use Rattle.monitor_core.specs.SetChanges.{changed}
 use Rattle.monitor_core.specs.declared.set_changes.SetChanges.{SetChanges}
-use Rattle.trap_server.specs.Sets.{AreThere, with_sets}
+use Rattle.trap_server.specs.Answers.{lists_bytes}
+use Rattle.trap_server.specs.Sets.{AreThere, said_changes, with_sets}
+use Rattle.trap_server.proofs.LoadedBytes.{changes_back}
 use Rattle.trap_server.proofs.Bare.{answer_with}
-use Rattle.trap_server.specs.Answered.{AreAwake, IsAnswer, given_on, marks_of, new_lists, no_answer, unmarked}
+use Rattle.trap_server.specs.Answered.{AreAwake, AreWords, IsAnswer, given_on, head_of, marks_of, new_lists, no_answer, unmarked}
 use Rattle.trap_server.specs.Given.{GivesWords, keeping}
 use Rattle.trap_server.specs.PageDigest.{HasParts, question_of}
 use Rattle.trap_server.specs.Service.{AnswersCall, ServesAs, ServesStop}
@@ -52,6 +54,13 @@ unanswered fault Are trap answer old new hosts kept before held holds answers wr
       wrote.3.2,
     )
 
+-- an answer says what becomes of register sets
+pub says_changes :
+    (s : MonitorState) (given : ControlWords) (hart : ℕ) (answer : Answer) (cleared : Option PageRange) (woken : List Bool) (new : NewLists)
+    (changes : SetChanges) (bytes : List ℕ) → AreWords changes → IsAnswer s given hart answer cleared woken new changes bytes → said_changes bytes ≡ changes
+says_changes s given hart answer cleared woken new changes bytes words a =
+    ap said_changes a.puts.put ∙ changes_back (head_of s hart answer a.used cleared woken new) changes given (lists_bytes a.puts.are) words
+
 -- ---- an interrupt
 
 pub stop_served :
@@ -60,9 +69,9 @@ pub stop_served :
     → GivesWords hosts trap.hart (old.worlds trap.hart) (new.worlds trap.hart) trap.control kept given
     → ((bytes : List ℕ) → Are bytes → (sets : Runner → RegisterFile)
     → ServesStop (with_sets old sets) trap given changes [] [] bytes (with_sets new (changed trap.hart changes sets)))
-    → AreAwake new → new.table.layout ≡ old.table.layout
+    → ((bytes : List ℕ) → Are bytes → said_changes bytes ≡ changes) → AreAwake new → new.table.layout ≡ old.table.layout
     → Writes result Are held holds → Serves result trap old hosts new kept before before held holds
-stop_served (Ok done) Are trap old new hosts kept given changes before held holds is words served awake layout wrote =
+stop_served (Ok done) Are trap old new hosts kept given changes before held holds is words served said awake layout wrote =
     let bytes = wrote.0 in (
       [],
       [],
@@ -74,12 +83,13 @@ stop_served (Ok done) Are trap old new hosts kept given changes before held hold
         step = subst (λ (e : TrapEvent). ServesAs e (with_sets old sets) trap given changes [] [] bytes (with_sets new (changed trap.hart changes sets))) (sym is)
             (served bytes wrote.1 sets);
       },
+      said bytes wrote.1,
       awake,
       layout,
       Consumes-nil before,
       subst (Appends held holds) (sym (append-nil bytes)) wrote.2,
     )
-stop_served (Err fault) Are trap old new hosts kept given changes before held holds is words served awake layout wrote =
+stop_served (Err fault) Are trap old new hosts kept given changes before held holds is words served said awake layout wrote =
     unanswered fault Are trap no_answer old new hosts kept before held holds
     (λ bytes are. record {
       given = given;
@@ -102,6 +112,7 @@ pub record CallAnswered (old now : MonitorState) (hosts kept : ℕ → ControlWo
   pub words : GivesWords hosts trap.hart (old.worlds trap.hart) (now.worlds trap.hart) trap.control kept given
   pub answers : (sets : Runner → RegisterFile) → AreThere old trap sets
       → AnswersCall (with_sets old sets) trap given changes digest answer answered (with_sets now (changed trap.hart changes sets))
+  pub said : said_changes answered ≡ changes
   pub table : IsTable now.table
   pub awake : AreAwake now
   pub layout : now.table.layout ≡ old.table.layout
@@ -115,9 +126,9 @@ pub call_answered :
     (with_sets mid (changed trap.hart changes sets)))
     → mid.table.layout ≡ s.table.layout → IsTable mid.table → harts ≡ s.table.layout.harts → harts ≤ 4 → now ≡ unmarked 4 mid → woken ≡ marks_of mid
     → kept ≡ keeping (s.worlds trap.hart) hosts trap.hart trap.control
-    → new ≡ new_lists (asked_in (call_of trap.registers)) answer cleared
+    → new ≡ new_lists (asked_in (call_of trap.registers)) answer cleared → AreWords changes
     → IsAnswer now (given_on now kept trap.hart) trap.hart answer cleared woken new changes bytes → CallAnswered s now hosts kept trap answer bytes
-call_answered s mid now hosts kept trap changes digest answer cleared woken new harts bytes is step layout sound number most n w keeps l says =
+call_answered s mid now hosts kept trap changes digest answer cleared woken new harts bytes is step layout sound number most n w keeps l fit says =
     let given = given_on now kept trap.hart in
     let few : mid.table.layout.harts ≤ 4 = subst (λ l. l.harts ≤ 4) (sym layout) (subst (λ k. k ≤ 4) number most) in
     let lists = new_lists (asked_in (call_of trap.registers)) answer cleared in
@@ -136,6 +147,7 @@ call_answered s mid now hosts kept trap changes digest answer cleared woken new 
         woken = ap (λ (m : MonitorState). with_sets m (changed trap.hart changes sets)) n;
         goes_on = answer_with now (changed trap.hart changes sets) given trap.hart answer cleared (marks_of mid) lists changes bytes known;
       };
+      said = says_changes now given trap.hart answer cleared woken new changes bytes fit says;
       table = subst (λ (x : MonitorState). IsTable x.table) (sym n) sound;
       awake = quiet mid now n few;
       layout = ap (λ (x : MonitorState). x.table.layout) n ∙ layout;
@@ -183,6 +195,7 @@ nothing_made old now hosts kept trap answer bytes before held holds a none wrote
     step = subst (λ (e : TrapEvent). ServesAs e (with_sets old sets) trap a.given a.changes [] [] bytes (with_sets now (changed trap.hart a.changes sets)))
         (sym a.is_call) (record { digest = a.digest; answer = answer; answers = a.answers sets there; asks = inl (refl, refl, none) });
   },
+  a.said,
   a.awake,
   a.layout,
   Consumes-nil before,
@@ -240,6 +253,7 @@ made_measured (Ok done) old now new hosts kept trap answer bytes parts before af
               asks = inr (parts, made, refl, m.1, m.2, refl);
             });
           },
+      a.said,
       a.awake,
       a.layout,
       m.4,

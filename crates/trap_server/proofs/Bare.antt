@@ -22,10 +22,10 @@ pub answer_with :
     (s : MonitorState) (sets : Runner → RegisterFile) (given : ControlWords) (hart : ℕ) (answer : Answer) (cleared : Option PageRange) (woken : List Bool)
     (new : NewLists) (changes : SetChanges) (bytes : List ℕ) → IsAnswer s given hart answer cleared woken new changes bytes
     → IsAnswer (with_sets s sets) given hart answer cleared woken new changes bytes
-answer_with s sets given hart answer cleared woken new changes bytes a = record { used = a.used; needs = a.needs; words = a.words; puts = a.puts }
+answer_with s sets given hart answer cleared woken new changes bytes a = record { used = a.used; needs = a.needs; puts = a.puts }
 
 pub answer_bare :
     (s : MonitorState) (sets : Runner → RegisterFile) (given : ControlWords) (hart : ℕ) (answer : Answer) (cleared : Option PageRange) (woken : List Bool)
     (new : NewLists) (changes : SetChanges) (bytes : List ℕ) → IsAnswer (with_sets s sets) given hart answer cleared woken new changes bytes
     → IsAnswer s given hart answer cleared woken new changes bytes
-answer_bare s sets given hart answer cleared woken new changes bytes a = record { used = a.used; needs = a.needs; words = a.words; puts = a.puts }
+answer_bare s sets given hart answer cleared woken new changes bytes a = record { used = a.used; needs = a.needs; puts = a.puts }

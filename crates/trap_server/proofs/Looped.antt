@@ -20,7 +20,7 @@ use Rattle.trap_server.specs.Boot.{no_changes, Boots, BootsOn, EndsAtFirst, IsFi
 use Rattle.trap_server.specs.Platforms.{IsNoPlatform, IsPlatformFrame, ReadsPlatform}
 use Rattle.trap_server.specs.Traps.{IsNoTrap, IsTrapFrame, ReadsTrap}
 use Rattle.trap_server.specs.Answered.{AreAwake, IsAnswer, given_on, no_answer}
-use Rattle.trap_server.specs.Runs.{EndsEarly, Ran, RefusesNext, StopsBetween, StopsInside, first_words, trap_count}
+use Rattle.trap_server.specs.Runs.{AreSaid, EndsEarly, Ran, RefusesNext, StopsBetween, StopsInside, first_words, trap_count}
 use Rattle.trap_server.specs.Runs.{ServesTraps as Served}
 use Rattle.trap_server.specs.Runs.{next_trap, no_trap}
 use Rattle.trap_server.specs.Steps.{Serves}
@@ -38,6 +38,7 @@ pub record Progress (count : ℕ) (now : MonitorState) (hosts : ℕ → ControlW
   pub may_open : MayOpen layout
   pub begins : IsFirstAnswer layout opened
   pub served : Served (opening_monitor layout) first_words read written now hosts
+  pub said : AreSaid served
   pub counted : trap_count served ≡ count
   pub consumed : Consumes before after (first ++ read)
   pub appended : Appends held holds (opened ++ written)
@@ -65,6 +66,7 @@ opened_at layout first opened before after held middle holds size platform consu
   may_open = opens;
   begins = answer;
   served = no_trap;
+  said = tt;
   counted = refl;
   consumed = consumed_as before after first (first ++ []) (sym (append-nil first)) consumed;
   appended = appended_as held holds opened (opened ++ []) (sym (append-nil opened)) (Appends-trans held middle holds [] opened nothing wrote);
@@ -136,14 +138,15 @@ goes_on count old new hosts kept trap frame harts before now mid after held midd
   may_open = p.may_open;
   begins = p.begins;
   served = next_trap p.served trap frame s.0 s.1 s.2 s.3 new kept size (subst (λ k. IsTrapFrame frame k trap) n is) s.4;
+  said = (p.said, s.5);
   counted = ap (λ k. k + 1) p.counted;
   consumed = consumed_as before after ((p.first ++ p.read) ++ (frame ++ s.0)) (p.first ++ (p.read ++ (frame ++ s.0)))
       (append_assoc p.first p.read (frame ++ s.0))
-      (Consumes-trans before now after (p.first ++ p.read) (frame ++ s.0) p.consumed (Consumes-trans now mid after frame s.0 came s.7));
+      (Consumes-trans before now after (p.first ++ p.read) (frame ++ s.0) p.consumed (Consumes-trans now mid after frame s.0 came s.8));
   appended = appended_as held holds ((p.opened ++ p.written) ++ (s.2 ++ s.1)) (p.opened ++ (p.written ++ (s.2 ++ s.1)))
       (append_assoc p.opened p.written (s.2 ++ s.1))
-      (Appends-trans held middle holds (p.opened ++ p.written) (s.2 ++ s.1) p.appended s.8);
-  quiet = s.5;
+      (Appends-trans held middle holds (p.opened ++ p.written) (s.2 ++ s.1) p.appended s.9);
+  quiet = s.6;
 }
 
 -- what came and was written after them
@@ -164,6 +167,7 @@ ran count now hosts before mid after held middle holds beyond rest p came wrote 
   fits = p.may_open.1;
   begins = p.begins;
   served = p.served;
+  said = p.said;
   counted = p.counted;
   consumed = consumed_as before after ((p.first ++ p.read) ++ beyond) (p.first ++ (p.read ++ beyond)) (append_assoc p.first p.read beyond)
       (Consumes-trans before mid after (p.first ++ p.read) beyond p.consumed came);

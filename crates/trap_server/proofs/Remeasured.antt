@@ -164,7 +164,6 @@ answer_same :
     (woken : List Bool) (new : NewLists) (changes : SetChanges) (bytes : List ℕ) → Live s.table id e
     → IsAnswer s given hart answer cleared woken new changes bytes → IsAnswer (having_digest s id e digest) given hart answer cleared woken new changes bytes
 answer_same s id e digest given hart answer cleared woken new changes bytes live is = record {
-  words = is.words;
   used = is.used;
   needs = record {
     entries = is.needs.entries;

@@ -25,10 +25,6 @@ use Rattle.monitor_core.specs.Frames.{ClearsMemory, KeepsOthers}
 use Rattle.monitor_core.specs.Measured.{IsMade, asked_in}
 use Rattle.monitor_core.specs.States.{MonitorState, running_registers}
 use Rattle.monitor_core.specs.declared.set_changes.SetChanges.{SetChanges}
-use Rattle.trap_server.specs.Answers.{lists_bytes}
-use Rattle.trap_server.specs.Sets.{AreThere, said_changes, with_sets}
-use Rattle.trap_server.specs.declared.answer.NewLists.{NewLists}
-use Rattle.trap_server.proofs.LoadedBytes.{changes_back}
 use Rattle.monitor_core.specs.Switches.{HasExited, KeepsRegisters, runner_on}
 use Rattle.monitor_core.specs.Wants.{IsRefusedByNeed}
 use Rattle.monitor_core.specs.Worlds.{ArePlaced}
@@ -49,7 +45,7 @@ use Rattle.trap_server.specs.declared.trap.TrapEvent.TheVariants.{Call, Stop}
 use Rattle.trap_server.specs.declared.trap.Trap.{Trap}
 use Rattle.trap_server.specs.declared.words.ControlWords.{ControlWords}
 use Rattle.trap_server.specs.declared.answer.NewLists.TheVariants as lists
-use Rattle.trap_server.specs.Answered.{IsAnswer, head_of, marks_of, new_lists, no_answer, unmarked}
+use Rattle.trap_server.specs.Answered.{marks_of, new_lists, no_answer, unmarked}
 use Rattle.trap_server.specs.Firmware.{AreDestroyed, AreThose, AsksMemory, IsThere, KeepsTrap, called, is_new, private_pages}
 use Rattle.trap_server.specs.Given.{GivesWords, keeping, words_in}
 use Rattle.trap_server.specs.Service.{AsksFor, ServesAs, ServesCall, ServesStop, ServesTrap}
@@ -158,13 +154,6 @@ destroyed s mid new wiped woken memory (inr some) =
 past : (came file now : RegisterFile) → file ≡ past_call came → Through file now → AreThose Call came now
 past came file now is through = subst (λ f. Through f now) is through
 
--- an answer says what becomes of register sets
-says_changes :
-    (s : MonitorState) (given : ControlWords) (hart : ℕ) (answer : Answer) (cleared : Option PageRange) (woken : List Bool) (new : NewLists)
-    (changes : SetChanges) (bytes : List ℕ) → IsAnswer s given hart answer cleared woken new changes bytes → said_changes bytes ≡ changes
-says_changes s given hart answer cleared woken new changes bytes a =
-    ap said_changes a.puts.put ∙ changes_back (head_of s hart answer a.used cleared woken new) changes given (lists_bytes a.puts.are) a.words
-
 -- what every trap has, before which the table was sound and each enclave on one hart
 pub record IsReady (s : MonitorState) (hart : ℕ) : Type 0 where
   pub known : hart < s.table.layout.harts
@@ -212,7 +201,6 @@ call_kept s hosts kept trap given changes read question answered new ready there
       asks = asks_memory (asked_in (call_of trap.registers)) x.answer s.table (s.worlds hart) question read x.digest x.asks
           (λ parts made. made_passes call (λ of. x.digest) t hart x.answer a.cleared a.mid parts a.step
           (subst (λ c. IsMade (asked_in c) x.answer parts) (sym there) made));
-      told = says_changes new given hart x.answer a.cleared (marks_of a.mid) lists changes answered a.goes_on;
       zeroes = destroyed t a.mid new a.cleared a.woken (call_clears_memory call (λ parts. x.digest) t hart x.answer a.cleared a.mid ready.table a.step)
           (zeroed.cleared call (λ parts. x.digest) t hart x.answer a.cleared a.mid a.step);
       destroys = λ id gone. lost_call call (λ parts. x.digest) t hart x.answer a.cleared a.mid id gone.0 gone.1
@@ -273,7 +261,6 @@ stop_kept s hosts kept trap given changes read question answered new ready is wo
           (sym (ap (λ (y : MonitorState). enclave_at y.table.enclaves id) x.woken) ∙ gone.2) x.step);
       stays = λ other differs. ap (λ (y : MonitorState). y.worlds other) x.woken ∙ interrupt_elsewhere world t hart x.mid other differs x.step;
       others = woken_others t x.mid new hart x.woken ready.most (others_irq world t hart x.mid refl ready.known placed x.step);
-      told = says_changes new given hart no_answer None (marks_of x.mid) lists.Nothing changes answered x.goes_on;
       registers = woken_registers s x.mid new hart x.woken (interrupt_keeps_registers world t hart x.mid refl x.step);
       came = λ none. subst (λ (e : TrapEvent). AreThose e (running_registers s hart) (new.registers me)) (sym is)
           (ap (λ (y : MonitorState). y.registers me) x.woken ∙ interrupt_through world t hart x.mid refl x.step);

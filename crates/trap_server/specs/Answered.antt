@@ -105,7 +105,6 @@ pub record IsAnswer (s : MonitorState) (given : ControlWords) (hart : ℕ) (answ
     (bytes : List ℕ) : Type 0 where
   pub used : ℕ
   pub needs : Needs (current_view s.table (s.worlds hart)) used
-  pub words : AreWords changes
   pub puts : PutsLists s.table answer.value new (front_bytes
       (head_of s hart answer used cleared woken new) changes given) bytes
 

@@ -28,7 +28,7 @@ use Rattle.monitor_core.specs.Frames.{ClearsMemory}
 use Rattle.monitor_core.specs.States.{MonitorState, opening_monitor, running_registers}
 use Rattle.monitor_core.specs.SetChanges.{changed}
 use Rattle.monitor_core.specs.declared.set_changes.SetChanges.{SetChanges}
-use Rattle.trap_server.specs.Sets.{AreThere, said_changes, with_sets}
+use Rattle.trap_server.specs.Sets.{AreThere, with_sets}
 use Rattle.monitor_core.specs.Switches.{HasExited, IsGone, KeepsRegisters, runner_on}
 use Rattle.monitor_core.specs.Wants.{IsRefusedByNeed}
 use Rattle.monitor_core.specs.Worlds.{ArePlaced}
@@ -190,9 +190,7 @@ pub record KeepsTrap (old : MonitorState) (hosts : ℕ → ControlWords) (trap :
       → slice_index_or woken other false ≡ false
       → SameView (current_view old.table (old.worlds other))
       (current_view new.table (new.worlds other))
-  -- the answer says what becomes of the registers of each world; those of the one that trapped, if
-  -- that was no exit
-  pub told : said_changes answered ≡ changes
+  -- the registers of each world; those of the one that trapped, if that was no exit
   pub registers : KeepsRegisters old trap.hart new
   pub came : ((id : ℕ) → runner_on old trap.hart ≡ EnclaveOf id → HasExited old new id → ⊥)
       → AreThose trap.event (running_registers old trap.hart)

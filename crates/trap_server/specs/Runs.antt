@@ -1,5 +1,5 @@
 -- A run of the loop.
-use Rattle.std.specs.Prelude.{◌≡◌, ◌⊎◌, ℕ, ◌+◌, ◌-◌, ◌^◌, ◌<◌, List, [], ◌++◌, length, Option}
+use Rattle.std.specs.Prelude.{◌≡◌, ◌⊎◌, ℕ, ◌+◌, ◌-◌, ◌^◌, ◌<◌, List, [], ◌++◌, length, Option, ⊤}
 use Rattle.std.specs.Io.KnownBytes.{Appends, Consumes}
 use Rattle.platforms.specs.Platform.{IsLayout, PlatformLayout}
 use Rattle.enclave_table.specs.Boot.{opening_table}
@@ -20,6 +20,7 @@ use Rattle.trap_server.specs.Ends.{IsPart}
 use Rattle.trap_server.specs.Boot.{EndsAtFirst, IsFirstAnswer}
 use Rattle.trap_server.specs.Steps.{StopsTrap}
 use Rattle.trap_server.specs.Service.{ServesAll}
+use Rattle.trap_server.specs.Sets.{said_changes}
 use Rattle.monitor_core.specs.declared.set_changes.SetChanges.{SetChanges}
 
 -- traps that were served in turn, from one state and the hosts' control words to others: the bytes
@@ -58,6 +59,14 @@ KeepsWhatCame = (old : MonitorState) (hosts : ℕ
     → ControlWords) (served : ServesTraps old hosts read written new kept)
     → kept ≡ came_last hosts served
 
+-- the answer to each trap says what becomes of register sets
+abbrev pub AreSaid : {old : MonitorState} {hosts : ℕ
+    → ControlWords} {read written : List ℕ} {new : MonitorState} {kept : ℕ → ControlWords}
+    → ServesTraps old hosts read written new kept → Type 0
+AreSaid no_trap = ⊤
+AreSaid (next_trap served trap frame more question answered changes new kept size is step) =
+    AreSaid served × (said_changes answered ≡ changes)
+
 -- before any trap each host has the words with which it begins
 abbrev pub first_words : ℕ → ControlWords
 first_words hart = first_host_words
@@ -79,6 +88,7 @@ pub record Ran (before after held holds : Option (List ℕ)) (beyond rest : List
   pub fits : FitsIn layout.limit (host_view (opening_table layout))
   pub begins : IsFirstAnswer layout opened
   pub served : ServesTraps (opening_monitor layout) first_words read written state hosts
+  pub said : AreSaid served
   pub counted : trap_count served ≡ count
   pub consumed : Consumes before after (first ++ (read ++ beyond))
   pub appended : Appends held holds (opened ++ (written ++ rest))

@@ -1,5 +1,5 @@
 -- The register sets of hosts and enclaves, which lie with the harts. The loop keeps none.
-use Rattle.std.specs.Prelude.{◌≡◌, ℕ, ◌+◌, List}
+use Rattle.std.specs.Prelude.{◌≡◌, ℕ, zero, suc, ◌+◌, List}
 use Rattle.sbi_decode.specs.Calls.{call_of}
 use Rattle.sbi_decode.specs.Registers.{RegisterFile, zeros}
 use Rattle.sbi_decode.specs.Runners.{Runner}
@@ -28,10 +28,10 @@ AreThere s trap sets = call_of (sets (runner_on s trap.hart)) ≡ call_of trap.r
 
 -- the kind of a change by its number in a frame
 abbrev pub kind_by : ℕ → ChangeKind
-kind_by 1 = kinds.PastCall
-kind_by 2 = kinds.Answer
-kind_by 3 = kinds.Begin
-kind_by 4 = kinds.Clear
+kind_by (suc zero) = kinds.PastCall
+kind_by (suc (suc zero)) = kinds.Answer
+kind_by (suc (suc (suc zero))) = kinds.Begin
+kind_by (suc (suc (suc (suc zero)))) = kinds.Clear
 kind_by _ = kinds.Nothing
 
 -- the change that is in an answer from a word on: its kind, whose set it is, and two words

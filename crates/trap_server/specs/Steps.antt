@@ -19,7 +19,7 @@ use Rattle.trap_server.specs.Ends.{BreaksOff, IsPart}
 use Rattle.trap_server.specs.Given.{GivesWords}
 use Rattle.trap_server.specs.PageDigest.{ArePages, BreaksAtPage, StopsAtPage, question_of}
 use Rattle.trap_server.specs.Service.{AnswersCall, ServesAll, ServesStop}
-use Rattle.trap_server.specs.Sets.{AreThere, with_sets}
+use Rattle.trap_server.specs.Sets.{AreThere, said_changes, with_sets}
 use Rattle.sbi_decode.specs.Registers.{RegisterFile}
 use Rattle.sbi_decode.specs.Runners.{Runner}
 use Rattle.monitor_core.specs.SetChanges.{changed}
@@ -97,7 +97,8 @@ abbrev pub Serves : Result (Unit {0}) ServeFault → Trap → MonitorState → (
     → Option (List ℕ) → Type 0
 Serves (Ok done) trap old hosts new kept before after held holds =
     (read question answered : List ℕ) × (changes : SetChanges)
-    × ServesAll old hosts trap changes read question answered new kept × AreAwake new
+    × ServesAll old hosts trap changes read question answered new kept
+    × (said_changes answered ≡ changes) × AreAwake new
     × (new.table.layout ≡ old.table.layout) × Consumes before after read
     × Appends held holds (answered ++ question)
 Serves (Err fault) trap old hosts new kept before after held holds =

@@ -11,7 +11,7 @@ ghost use Rattle.monitor_core.specs.Changes.{without_mark};
 ghost use Rattle.trap_server.specs.Given.{host_words, keeping};
 ghost use Rattle.trap_server.specs.declared.answer.NewLists.{NewLists};
 ghost use Rattle.trap_server.specs.declared.answer.NewLists.TheVariants as NewLists;
-ghost use Rattle.trap_server.specs.Answered.{AreAwake, IsAnswer, PutsLists, given_on, marks_of, new_lists, status_word, unmarked};
+ghost use Rattle.trap_server.specs.Answered.{AreAwake, AreWords, IsAnswer, PutsLists, given_on, marks_of, new_lists, status_word, unmarked};
 ghost use Rattle.trap_server.specs.Ends.{CountsReads, CountsWrites};
 ghost use Rattle.trap_server.specs.PageDigest.{HasParts};
 ghost use Rattle.trap_server.specs.Sets.{bare};
@@ -112,6 +112,7 @@ fn put_frame(
     requires made { lists ≡ NewLists.HostAndMade
         → (e : Enclave) × Live (bare core.now).table answer.now.value e }
     ensures inside { result ≤ 1424 }
+    ensures words { AreWords changes.now }
     ensures answer { let s = bare core.now in
         IsAnswer s (given_on s (host_words hosts.now) hart) hart answer.now zero woken lists
         changes.now (take result frame.new) }
@@ -153,6 +154,7 @@ pub(crate) fn write_answer<W: Sink>(
     ensures bytes { let s = bare core.now in Writes result
         (IsAnswer s (given_on s (host_words hosts.now) hart) hart answer zero woken lists
         changes.now) (W.contents sink.old) (W.contents sink.new) }
+    ensures words { AreWords changes.now }
     ensures reads { (n : ℕ) → CountsReads result n n }
     ensures writes { CountsWrites result (W.failures sink.old) (W.failures sink.new)
         (W.stalls sink.old) (W.stalls sink.new) }

@@ -8,6 +8,14 @@ use Rattle.trap_server.specs.Answered.{PutsLists, head_of}
 use Rattle.trap_server.specs.Sets.{bare}
 use Rattle.trap_server.proofs.service.put_frame.Goals as goal
 
+pub returns-clause-words : goal.returns-clause-words
+returns-clause-words c = record {
+  sets = c.requires.sets;
+  first = c.put_front.ensures.first;
+  second = c.put_front.ensures.second;
+  third = c.put_front.ensures.third;
+}
+
 pub returns-clause-answer : goal.returns-clause-answer
 returns-clause-answer c =
     let s = bare c.args.core.now in
@@ -33,11 +41,5 @@ returns-clause-answer c =
     record {
       used = c.used.result;
       needs = c.used.ensures;
-      words = record {
-        sets = c.requires.sets;
-        first = c.put_front.ensures.first;
-        second = c.put_front.ensures.second;
-        third = c.put_front.ensures.third;
-      };
       puts = subst (λ bytes. PutsLists s.table answer.value c.args.lists bytes (take c.put_lists.result c.put_lists.new.frame)) front c.put_lists.ensures.lists;
     }

@@ -47,7 +47,7 @@ returns-in-Err-clause-served g c =
     (λ bytes is. call_answered s (bare c.serve-served.new.self) now (host_words c.args.hosts.now) kept trap changes _
     said.answer said.zero c.wake_all-woken.result c.new_lists-lists.result c.harts-most.result bytes c.requires.call c.serve-served.ensures.step
     c.serve-served.ensures.platform c.cite_invariant.ensures.table c.harts-most.ensures.value c.harts-most.ensures.most c.wake_all-woken.ensures.state
-    c.wake_all-woken.ensures.marks c.keep_words.ensures c.new_lists-lists.ensures is) c.in-Err.ensures.bytes
+    c.wake_all-woken.ensures.marks c.keep_words.ensures c.new_lists-lists.ensures c.in-Err.ensures.words is) c.in-Err.ensures.bytes
 
 pub returns-then-not-is_creation-clause-served : goal.returns-then-not-is_creation-clause-served
 returns-then-not-is_creation-clause-served g c =
@@ -59,7 +59,7 @@ returns-then-not-is_creation-clause-served g c =
     c.serve-served.result.zero
     c.wake_all-woken.result c.new_lists-lists.result c.harts-most.result wrote.0 c.requires.call c.serve-served.ensures.step
     c.serve-served.ensures.platform c.cite_invariant.ensures.table c.harts-most.ensures.value c.harts-most.ensures.most c.wake_all-woken.ensures.state
-    c.wake_all-woken.ensures.marks c.keep_words.ensures c.new_lists-lists.ensures wrote.1) (none_asked _ _ (sym c.is_creation.ensures
+    c.wake_all-woken.ensures.marks c.keep_words.ensures c.new_lists-lists.ensures c.in-Ok.ensures.words wrote.1) (none_asked _ _ (sym c.is_creation.ensures
     ∙ c.if-not-is_creation.true)) wrote.2
 
 pub returns-in_default-clause-served : goal.returns-in_default-clause-served
@@ -72,7 +72,7 @@ returns-in_default-clause-served g c =
     c.serve-served.result.zero
     c.wake_all-woken.result c.new_lists-lists.result c.harts-most.result wrote.0 c.requires.call c.serve-served.ensures.step
     c.serve-served.ensures.platform c.cite_invariant.ensures.table c.harts-most.ensures.value c.harts-most.ensures.most c.wake_all-woken.ensures.state
-    c.wake_all-woken.ensures.marks c.keep_words.ensures c.new_lists-lists.ensures wrote.1) c.in_default.ensures.none wrote.2
+    c.wake_all-woken.ensures.marks c.keep_words.ensures c.new_lists-lists.ensures c.in-Ok.ensures.words wrote.1) c.in_default.ensures.none wrote.2
 
 pub measure_made-requires-clause-live : goal.measure_made-requires-clause-live
 measure_made-requires-clause-live g c =
@@ -84,7 +84,7 @@ measure_made-requires-clause-live g c =
     c.serve-served.result.zero
     c.wake_all-woken.result c.new_lists-lists.result c.harts-most.result wrote.0 c.requires.call c.serve-served.ensures.step
     c.serve-served.ensures.platform c.cite_invariant.ensures.table c.harts-most.ensures.value c.harts-most.ensures.most c.wake_all-woken.ensures.state
-    c.wake_all-woken.ensures.marks c.keep_words.ensures c.new_lists-lists.ensures wrote.1) c.in-Some.ensures.some).0
+    c.wake_all-woken.ensures.marks c.keep_words.ensures c.new_lists-lists.ensures c.in-Ok.ensures.words wrote.1) c.in-Some.ensures.some).0
 
 pub measure_made-requires-clause-parts : goal.measure_made-requires-clause-parts
 measure_made-requires-clause-parts g c =
@@ -96,7 +96,7 @@ measure_made-requires-clause-parts g c =
     c.serve-served.result.zero
     c.wake_all-woken.result c.new_lists-lists.result c.harts-most.result wrote.0 c.requires.call c.serve-served.ensures.step
     c.serve-served.ensures.platform c.cite_invariant.ensures.table c.harts-most.ensures.value c.harts-most.ensures.most c.wake_all-woken.ensures.state
-    c.wake_all-woken.ensures.marks c.keep_words.ensures c.new_lists-lists.ensures wrote.1) c.in-Some.ensures.some).1
+    c.wake_all-woken.ensures.marks c.keep_words.ensures c.new_lists-lists.ensures c.in-Ok.ensures.words wrote.1) c.in-Some.ensures.some).1
 
 pub returns-clause-served : goal.returns-clause-served
 returns-clause-served g c =
@@ -108,7 +108,7 @@ returns-clause-served g c =
     c.serve-served.result.zero
     c.wake_all-woken.result c.new_lists-lists.result c.harts-most.result wrote.0 c.requires.call c.serve-served.ensures.step
     c.serve-served.ensures.platform c.cite_invariant.ensures.table c.harts-most.ensures.value c.harts-most.ensures.most c.wake_all-woken.ensures.state
-    c.wake_all-woken.ensures.marks c.keep_words.ensures c.new_lists-lists.ensures wrote.1)
+    c.wake_all-woken.ensures.marks c.keep_words.ensures c.new_lists-lists.ensures c.in-Ok.ensures.words wrote.1)
     c.in-Some.ensures.some wrote.2 c.measure_made.ensures.measured
 
 pub returns-clause-writes : goal.returns-clause-writes

@@ -5,7 +5,7 @@ use Rattle.trap_server.specs.Given.{host_words}
 use Rattle.trap_server.specs.Answered.{IsAnswer, given_on, marks_of, no_answer}
 use Rattle.trap_server.specs.Sets.{bare, with_sets}
 use Rattle.trap_server.specs.declared.answer.NewLists.TheVariants as lists
-use Rattle.trap_server.proofs.Answering.{stop_served}
+use Rattle.trap_server.proofs.Answering.{says_changes, stop_served}
 use Rattle.trap_server.proofs.Bare.{answer_with}
 use Rattle.trap_server.proofs.Served.{quiet}
 use Rattle.trap_server.proofs.service.serve_stop.Goals as goal
@@ -38,5 +38,6 @@ returns-clause-served g c =
       goes_on = answer_with new after given trap.hart no_answer None (marks_of mid) lists.Nothing changes bytes
           (subst (λ (w : List Bool). IsAnswer new given trap.hart no_answer None w lists.Nothing changes bytes) c.wake_all-woken.ensures.marks is);
     })
+    (λ bytes is. says_changes new given trap.hart no_answer None c.wake_all-woken.result lists.Nothing changes bytes c.write_answer.ensures.words is)
     (quiet mid new c.wake_all-woken.ensures.state few) (ap (λ (x : MonitorState). x.table.layout) c.wake_all-woken.ensures.state ∙ platform)
     c.write_answer.ensures.bytes

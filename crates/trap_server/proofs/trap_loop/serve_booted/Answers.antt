@@ -80,8 +80,8 @@ loop-count-preserved g c =
           (g.R.Source.remaining c.serve_trap.new.source)
           held (g.W.Sink.contents c.loop-count.sink)
           (g.W.Sink.contents c.serve_trap.new.sink) (c.loop-count.invariant.progress begun held booted) read.1 read.2 c.loop-count.invariant.harts read.3 s;
-      harts = c.loop-count.invariant.harts ∙ ap (λ l. l.harts) (sym s.6);
-      quiet = s.5;
+      harts = c.loop-count.invariant.harts ∙ ap (λ l. l.harts) (sym s.7);
+      quiet = s.6;
       reads = c.in-Ok-serve_trap.ensures.reads ∙ (c.in-Ok-read_trap.ensures.failures ∙ c.loop-count.invariant.reads);
       writes = (c.in-Ok-serve_trap.ensures.writes.0 ∙ c.loop-count.invariant.writes.0, c.in-Ok-serve_trap.ensures.writes.1 ∙ c.loop-count.invariant.writes.1);
     }
