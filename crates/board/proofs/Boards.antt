@@ -7,15 +7,19 @@ use Rattle.enclave_table.specs.Views.{current_view}
 use Rattle.monitor_core.proofs.Currents.{none_live}
 use Rattle.trap_server.specs.declared.trap.Trap.{Trap}
 use Rattle.trap_server.specs.Boot.{IsFirstAnswer}
-use Rattle.trap_server.specs.Firmware.{FirmwareHeadline, HasFewest, list_after, list_last, loaded_after, loaded_last}
+use Rattle.trap_server.specs.Firmware.{FirmwareHeadline, HasFewest, KeepsTrap, list_after, list_last, loaded_after, loaded_last}
 use Rattle.trap_server.specs.Runs.{ServesTraps, first_words, next_trap, no_trap}
 use Rattle.trap_server.specs.declared.words.ControlWords.{ControlWords}
 use Rattle.trap_server.specs.Words.{word_at}
 use Rattle.monitor_core.specs.States.{MonitorState, opening_monitor}
 use Rattle.board.specs.Board.{Board, BoardEvent, BoardRun, DoesAccess, DoesCompute, DoesTrap, Floats, HappensOn, access, computed, trapped}
-use Rattle.board.specs.Board.{booted, booted_board, happened}
+use Rattle.board.specs.Board.{booted, booted_board, happened, saved}
 use Rattle.board.specs.Headline.{AreMeasured, BoardHeadline, EachKeeps, IsServed, read_on, written_on}
 use Rattle.board.proofs.Fresh.{measured_access, measured_trap}
+use Rattle.board.proofs.Here.{call_there}
+use Rattle.sbi_decode.specs.Registers.{RegisterFile}
+use Rattle.sbi_decode.specs.Runners.{Runner}
+use Rattle.trap_server.specs.Sets.{with_sets}
 use Rattle.board.proofs.Accessed.{StepsPromise, access_kept}
 use Rattle.board.proofs.Floats.{computed_kept, runs_there}
 use Rattle.board.proofs.FloatsKept.{floats_kept}
@@ -35,8 +39,8 @@ FirmwareHolds =
 
 -- lists that were the same are so after an answer, and what a hart has loaded
 same_after : (answered : List ℕ) (a b : ℕ → List ℕ) → ((world : ℕ) → a world ≡ b world) → (world : ℕ) → list_after answered a world ≡ list_after answered b world
-same_after answered a b same zero = ap (λ bytes. if nat_lt 0 (word_at answered 9) then drop 416 answered else bytes) (same 0)
-same_after answered a b same (suc n) = ap (λ bytes. if word_at answered 9 == 2 && word_at answered 4 == suc n then drop 1000 answered else bytes) (same (suc n))
+same_after answered a b same zero = ap (λ bytes. if nat_lt 0 (word_at answered 9) then drop 256 answered else bytes) (same 0)
+same_after answered a b same (suc n) = ap (λ bytes. if word_at answered 9 == 2 && word_at answered 4 == suc n then drop 840 answered else bytes) (same (suc n))
 
 same_loaded : (answered : List ℕ) (a b : ℕ → List ℕ) (before after : List ℕ) (hart : ℕ) → ((world : ℕ) → a world ≡ b world) → before ≡ after
     → loaded_after answered a before hart ≡ loaded_after answered b after hart
@@ -89,7 +93,7 @@ module _ (law : FirmwareHolds) (steps : StepsPromise) (layout : PlatformLayout) 
       (came gone : List ℕ) (old : Board) (trap : Trap) (frame read question answered : List ℕ) (new : Board) → IsServed layout opened came gone old
       → DoesTrap old trap frame read question answered new → IsServed layout opened (came ++ (frame ++ read)) (gone ++ (answered ++ question)) new
   next_served came gone old trap frame read question answered new before x = record {
-    served = next_trap before.served trap frame read question answered new.monitor new.hosts x.size x.is_trap x.served;
+    served = next_trap before.served trap frame read question answered x.changes new.monitor new.hosts x.size x.is_trap x.served;
     keeps = λ world. x.keeps world ∙ same_after answered old.lists (list_last opened before.served) before.keeps world;
     loads = λ hart. x.loads hart ∙ same_loaded answered new.lists (list_after answered (list_last opened before.served)) (old.loaded hart)
         (loaded_last opened before.served hart) hart
@@ -114,12 +118,14 @@ module _ (law : FirmwareHolds) (steps : StepsPromise) (layout : PlatformLayout) 
   by_event events old new run (trapped trap frame read question answered) x before =
       let next = next_served (read_on run) (written_on run) old trap frame read question answered new before.served x in
       let f = firmware (read_on run ++ (frame ++ read)) (written_on run ++ (answered ++ question)) new next in
-      let k = f.each.1 in
+      let k : KeepsTrap (saved old trap) old.hosts trap x.changes read question answered new.monitor new.hosts =
+      subst (λ (sets : Runner → RegisterFile). KeepsTrap (saved old trap) old.hosts trap x.changes read question answered (with_sets new.monitor sets) new.hosts)
+      (sym x.sets) (f.each.1 (saved old trap).registers (call_there old trap)) in
       let kept = trap_kept old trap frame read question answered new before.table x k in
       let floats = floats_kept old trap frame read question answered new (ap (λ l. l.harts) (f.platform ∙ sym before.platform)) before.table f.table
       before.worlds f.worlds x k in
       headline (events ++ trapped trap frame read question answered ∷ []) new (happened run (trapped trap frame read question answered) x) next
-      (measured_trap old trap frame read question answered new before.table x kept before.measured) (before.each, (kept, floats))
+      (measured_trap old trap frame read question answered new before.table x kept before.measured) (before.each, (kept, floats, k.registers))
 
   pub board_kept : (events : List BoardEvent) (board : Board) (run : BoardRun layout opened events board) → BoardHeadline layout opened events board run
   board_kept _ _ (booted memory floats kept) = headline [] (booted_board layout opened memory floats kept) (booted memory floats kept)

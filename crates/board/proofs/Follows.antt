@@ -1,5 +1,5 @@
 -- A call or an interrupt on two states of the monitor that differ in what runs on other harts alone.
-use Rattle.std.proofs.Common.{◌≡◌, ◌≢◌, ◌∙◌, inl, inr, ℕ, ◌<◌, ◌==◌, Bool, true, false, if◌then◌else◌, List, [], Option, Some, None, refl, ap, sym, subst}
+use Rattle.std.proofs.Common.{◌≡◌, ◌≢◌, ◌∙◌, inl, inr, ℕ, ◌+◌, ◌<◌, ◌==◌, Bool, true, false, if◌then◌else◌, List, [], Option, Some, None, refl, ap, sym, subst}
 use Rattle.std.proofs.lemmas.Bool.{eq-eqb, ne_eqb}
 use Rattle.pmp_encoding.specs.declared.pages.PageRange.{PageRange}
 use Rattle.measurement.specs.Requests.{parts_of}
@@ -11,7 +11,16 @@ use Rattle.sbi_decode.specs.declared.calls.Call.TheVariants as calls
 use Rattle.sbi_decode.specs.declared.world.World.{World}
 use Rattle.sbi_decode.specs.declared.world.World.TheVariants.{Host, Enclave as InEnclave}
 use Rattle.enclave_table.specs.Enclaves.{EnclaveTable}
-use Rattle.monitor_core.specs.Changes.{answering, back_to_host, first_registers, in_world, is_same, marking_others, with_registers, with_running}
+use Rattle.enclave_table.specs.Tables.{IsCurrent}
+use Rattle.enclave_table.proofs.Places.{live_above}
+use Rattle.monitor_core.specs.Answers.{world_number}
+use Rattle.monitor_core.specs.Changes.{answering, back_to_host, first_registers, in_world, is_same, marking_others, past_call, with_registers, with_running}
+use Rattle.monitor_core.specs.SetChanges.{change, changed, no_change, owner_of, with_set}
+use Rattle.monitor_core.specs.declared.set_changes.ChangeKind.TheVariants as kinds
+use Rattle.monitor_core.specs.declared.set_changes.SetChange.{SetChange}
+use Rattle.monitor_core.specs.declared.set_changes.SetChanges.{SetChanges}
+use Rattle.monitor_core.proofs.Said.{answered_is, back_said, begun_is, cleared_is, owner_is, passed_is}
+use Rattle.trap_server.specs.Sets.{with_sets}
 use Rattle.monitor_core.specs.Measured.{asked_in}
 use Rattle.monitor_core.specs.States.{MonitorState, running_registers}
 use Rattle.monitor_core.specs.Steps.{DoesCall, Interrupts}
@@ -107,124 +116,201 @@ abbrev pub digest_by : (Create → List ℕ) → Option Create → List ℕ
 digest_by digests None = []
 digest_by digests (Some asked) = digests (parts_of asked)
 
--- the same call on the other state, in which a creation gets that digest
-abbrev pub Followed : Option Call → (Create → List ℕ) → MonitorState → ℕ → ℕ → Answer → Option PageRange → MonitorState → Type 0
-Followed call digests t harts hart answer zero new = (that : MonitorState)
-    × DoesCall call (λ parts. digest_by digests (asked_in call)) t hart answer zero that × Follows harts hart new that
+-- who runs on a hart is named by the number of its world
+pub owner_current : (table : EnclaveTable) (hart : ℕ) (world : World) → IsCurrent table world → owner_of hart (world_number world) ≡ runner_of hart world
+owner_current table hart Host current = refl
+owner_current table hart (InEnclave id) current = owner_is hart id (live_above table.enclaves id current.0 current.1)
 
-module _ (digests : Create → List ℕ) (table : EnclaveTable) (worlds : ℕ → World) (rs rt : Runner → RegisterFile) (ms mt : ℕ → Bool) (harts hart : ℕ)
-    (answer : Answer) (zero : Option PageRange) (new : MonitorState) where
+-- changes of register sets, by the number of who trapped
+abbrev passed : ℕ → SetChange
+passed n = record { kind = kinds.PastCall; enclave = n; first = 0; second = 0 }
+
+abbrev put_words : ℕ → ℕ → ℕ → SetChange
+put_words n first second = record { kind = kinds.Answer; enclave = n; first = first; second = second }
+
+abbrev cleared : ℕ → SetChange
+cleared n = record { kind = kinds.Clear; enclave = n; first = 0; second = 0 }
+
+abbrev begun : ℕ → ℕ → SetChange
+begun n pc = record { kind = kinds.Begin; enclave = n; first = pc; second = 0 }
+
+abbrev then : SetChange → SetChange → SetChange → SetChanges
+then first second third = record { first = first; second = second; third = third }
+
+-- a call of the world on a hart, on a state that has a table, worlds and marks, and any register sets of the harts' worlds. The
+-- model's state has other registers, and the same of each that runs on no other hart
+module _ (digests : Create → List ℕ) (table : EnclaveTable) (worlds : ℕ → World) (rs actual : Runner → RegisterFile) (ms mt : ℕ → Bool) (harts hart : ℕ)
+    (answer : Answer) (zero : Option PageRange) (new : MonitorState) (own : owner_of hart (world_number (worlds hart)) ≡ runner_of hart (worlds hart)) where
   abbrev s : MonitorState
   s = record { table = table; worlds = worlds; registers = rs; marked = ms }
 
-  abbrev t : MonitorState
-  t = record { table = table; worlds = worlds; registers = rt; marked = mt }
+  abbrev base : (Runner → RegisterFile) → MonitorState
+  base sets = record { table = table; worlds = worlds; registers = sets; marked = mt }
 
-  pub call_follows : (call : Option Call) → IsAlone harts hart s → Follows harts hart s t → DoesCall call digests s hart answer zero new
-      → Followed call digests t harts hart answer zero new
-  call_follows None alone f x =
-      (answering t hart _ 0, record { state = refl; told = x.told; zeroes = x.zeroes }, after harts hart new _ _ x.state (answered harts hart s t _ 0 alone f))
-  call_follows (Some (calls.Create base text_pages data_pages shared_base shared_count entry_offset)) alone f (inl x) = (
-    marking_others (answering (record t { table = x.1 }) hart 0 x.0) hart,
-    inl (
-      x.0,
-      x.1,
-      record { passes = x.2.passes; next = x.2.next; added = x.2.added; host_fits = x.2.host_fits; enclave_fits = x.2.enclave_fits },
-      record { state = refl; told = x.3.told; zeroes = x.3.zeroes },
-    ),
-    after harts hart new _ _ x.3.state
-        (marked harts hart (answering (record s { table = x.1 }) hart 0 x.0) (answering (record t { table = x.1 }) hart 0 x.0)
-        (answered harts hart (record s { table = x.1 }) (record t { table = x.1 }) 0 x.0 alone (with_table harts hart s t x.1 f))),
+  abbrev who : Runner
+  who = runner_of hart (worlds hart)
+
+  abbrev n : ℕ
+  n = world_number (worlds hart)
+
+  -- the sets past the call
+  abbrev t : (Runner → RegisterFile) → MonitorState
+  t sets = with_running (base sets) hart (past_call (sets who))
+
+  abbrev none : Runner → RegisterFile
+  none other = zeros
+
+  abbrev pub Followed : Option Call → Type 0
+  Followed call = (mid : MonitorState) × (changes : SetChanges)
+      × ((sets : Runner → RegisterFile) → DoesCall call (λ parts. digest_by digests (asked_in call)) (t sets) hart answer zero
+      (with_sets mid (changed hart changes sets)))
+      × Follows harts hart new (with_sets mid (changed hart changes actual))
+
+  -- a state that is as such changes have it
+  given : (call : Option Call) (that : (Runner → RegisterFile) → MonitorState) (changes : SetChanges)
+      → ((sets : Runner → RegisterFile) → with_sets (that none) (changed hart changes sets) ≡ that sets)
+      → ((sets : Runner → RegisterFile) (z : MonitorState) → z ≡ that sets
+      → DoesCall call (λ parts. digest_by digests (asked_in call)) (t sets) hart answer zero z)
+      → Follows harts hart new (that actual) → Followed call
+  given call that changes same does follows = (
+    that none,
+    changes,
+    λ sets. does sets (with_sets (that none) (changed hart changes sets)) (same sets),
+    subst (Follows harts hart new) (sym (same actual)) follows,
   )
-  call_follows (Some (calls.Create base text_pages data_pages shared_base shared_count entry_offset)) alone f (inr x) = (
-    answering t hart _ 0,
-    inr (x.0, x.1, record { state = refl; told = x.2.told; zeroes = x.2.zeroes }),
-    after harts hart new _ _ x.2.state (answered harts hart s t _ 0 alone f),
-  )
+
+  -- the sets go past the call
+  past_regs : (sets : Runner → RegisterFile) → change hart (passed n) sets ≡ (t sets).registers
+  past_regs sets = passed_is hart (passed n) sets who refl own
+
+  -- and are answered there
+  told_regs : (first second : ℕ) (sets : Runner → RegisterFile) → changed hart (then (passed n) (put_words n first second) no_change) sets
+      ≡ (answering (t sets) hart first second).registers
+  told_regs first second sets = ap (change hart (put_words n first second)) (past_regs sets)
+      ∙ answered_is hart (put_words n first second) (t sets).registers who n first second refl own
+
+  -- a call that changes a0 and a1 alone
+  told : (call : Option Call) (first second : ℕ)
+      → ((sets : Runner → RegisterFile) (z : MonitorState) → z ≡ answering (t sets) hart first second
+      → DoesCall call (λ parts. digest_by digests (asked_in call)) (t sets) hart answer zero z)
+      → IsAlone harts hart s → Follows harts hart s (t actual) → new ≡ answering s hart first second → Followed call
+  told call first second does alone f is =
+      given call (λ sets. answering (t sets) hart first second) (then (passed n) (put_words n first second) no_change)
+      (λ sets. ap (with_sets (answering (t none) hart first second)) (told_regs first second sets)) does
+      (after harts hart new _ _ is (answered harts hart s (t actual) first second alone f))
+
+  -- the host goes on, of a hart whose sets are these
+  back_same : (m : (Runner → RegisterFile) → MonitorState) (second third : SetChange) (first word : ℕ) (sets : Runner → RegisterFile)
+      → third ≡ put_words 0 first word → change hart second (t sets).registers ≡ (m sets).registers
+      → record (in_world (m sets) hart Host) { registers = changed hart (then (passed n) second third) sets } ≡ back_to_host (m sets) hart first word
+  back_same m second third first word sets is regs =
+      ap (λ r. record (in_world (m sets) hart Host) { registers = change hart third r }) (ap (change hart second) (past_regs sets) ∙ regs)
+      ∙ back_said (m sets) hart first word third is
+
+  pub call_follows : (call : Option Call) → IsAlone harts hart s → Follows harts hart s (t actual) → DoesCall call digests s hart answer zero new
+      → Followed call
+  call_follows None alone f x = told None _ 0 (λ sets z is. record { state = is; told = x.told; zeroes = x.zeroes }) alone f x.state
+  call_follows (Some (calls.Create base text_pages data_pages shared_base shared_count entry_offset)) alone f (inl x) =
+      let call = Some (calls.Create base text_pages data_pages shared_base shared_count entry_offset) in
+      let that = λ (sets : Runner → RegisterFile). marking_others (answering (record (t sets) { table = x.1 }) hart 0 x.0) hart in
+      given call that (then (passed n) (put_words n 0 x.0) no_change) (λ sets. ap (with_sets (that none)) (told_regs 0 x.0 sets))
+      (λ sets z is. inl (
+        x.0,
+        x.1,
+        record { passes = x.2.passes; next = x.2.next; added = x.2.added; host_fits = x.2.host_fits; enclave_fits = x.2.enclave_fits },
+        record { state = is; told = x.3.told; zeroes = x.3.zeroes },
+      ))
+      (after harts hart new _ _ x.3.state
+      (marked harts hart (answering (record s { table = x.1 }) hart 0 x.0) (answering (record (t actual) { table = x.1 }) hart 0 x.0)
+      (answered harts hart (record s { table = x.1 }) (record (t actual) { table = x.1 }) 0 x.0 alone (with_table harts hart s (t actual) x.1 f))))
+  call_follows (Some (calls.Create base text_pages data_pages shared_base shared_count entry_offset)) alone f (inr x) =
+      told (Some (calls.Create base text_pages data_pages shared_base shared_count entry_offset)) _ 0
+      (λ sets z is. inr (x.0, x.1, record { state = is; told = x.2.told; zeroes = x.2.zeroes })) alone f x.2.state
   call_follows (Some (calls.Destroy id)) alone f (inl x) =
       let s1 = record s { table = x.1 } in
-      let t1 = record t { table = x.1 } in (
-        marking_others (answering (with_registers t1 (EnclaveOf id) zeros) hart 0 0) hart,
-        inl (x.0, x.1, x.2, record { state = refl; told = x.3.told; zeroes = x.3.zeroes }),
-        after harts hart new _ _ x.3.state
-            (marked harts hart (answering (with_registers s1 (EnclaveOf id) zeros) hart 0 0) (answering (with_registers t1 (EnclaveOf id) zeros) hart 0 0)
-            (answered harts hart (with_registers s1 (EnclaveOf id) zeros) (with_registers t1 (EnclaveOf id) zeros) 0 0 alone
-            (put_one harts hart s1 t1 (EnclaveOf id) zeros (with_table harts hart s t x.1 f)))),
-      )
-  call_follows (Some (calls.Destroy id)) alone f (inr x) = (
-    answering t hart _ 0,
-    inr (x.0, x.1, record { state = refl; told = x.2.told; zeroes = x.2.zeroes }),
-    after harts hart new _ _ x.2.state (answered harts hart s t _ 0 alone f),
-  )
+      let t1 = λ (sets : Runner → RegisterFile). record (t sets) { table = x.1 } in
+      let that = λ (sets : Runner → RegisterFile). marking_others (answering (with_registers (t1 sets) (EnclaveOf id) zeros) hart 0 0) hart in
+      let g = x.2.passes.1.0 in
+      let low = live_above table.enclaves id g.0 g.1 in
+      given (Some (calls.Destroy id)) that (then (passed n) (cleared id) (put_words n 0 0))
+      (λ sets. ap (with_sets (that none)) (ap (λ r. change hart (put_words n 0 0) (change hart (cleared id) r)) (past_regs sets)
+      ∙ ap (change hart (put_words n 0 0)) (cleared_is hart (cleared id) (t sets).registers (EnclaveOf id) refl (owner_is hart id low))
+      ∙ answered_is hart (put_words n 0 0) (with_set (t sets).registers (EnclaveOf id) zeros) who n 0 0 refl own))
+      (λ sets z is. inl (x.0, x.1, x.2, record { state = is; told = x.3.told; zeroes = x.3.zeroes }))
+      (after harts hart new _ _ x.3.state
+      (marked harts hart (answering (with_registers s1 (EnclaveOf id) zeros) hart 0 0) (answering (with_registers (t1 actual) (EnclaveOf id) zeros) hart 0 0)
+      (answered harts hart (with_registers s1 (EnclaveOf id) zeros) (with_registers (t1 actual) (EnclaveOf id) zeros) 0 0 alone
+      (put_one harts hart s1 (t1 actual) (EnclaveOf id) zeros (with_table harts hart s (t actual) x.1 f)))))
+  call_follows (Some (calls.Destroy id)) alone f (inr x) =
+      told (Some (calls.Destroy id)) _ 0 (λ sets z is. inr (x.0, x.1, record { state = is; told = x.2.told; zeroes = x.2.zeroes })) alone f x.2.state
   call_follows (Some (calls.Run id)) alone f (inl x) =
       let s1 = record s { table = x.1 } in
-      let t1 = record t { table = x.1 } in
-      let file = first_registers id x.0.parts in (
-        in_world (with_registers t1 (EnclaveOf id) file) hart (InEnclave id),
-        inl (x.0, x.1, x.2, x.3, record { state = refl; told = x.4.told; zeroes = x.4.zeroes }),
-        after harts hart new _ _ x.4.state
-            (moved harts hart (with_registers s1 (EnclaveOf id) file) (with_registers t1 (EnclaveOf id) file) (InEnclave id)
-            (put_one harts hart s1 t1 (EnclaveOf id) file (with_table harts hart s t x.1 f))),
-      )
-  call_follows (Some (calls.Run id)) alone f (inr x) = (
-    answering t hart _ 0,
-    inr (x.0, x.1, record { state = refl; told = x.2.told; zeroes = x.2.zeroes }),
-    after harts hart new _ _ x.2.state (answered harts hart s t _ 0 alone f),
-  )
+      let t1 = λ (sets : Runner → RegisterFile). record (t sets) { table = x.1 } in
+      let file = first_registers id x.0.parts in
+      let pc = x.0.parts.base + x.0.parts.entry_offset in
+      let that = λ (sets : Runner → RegisterFile). in_world (with_registers (t1 sets) (EnclaveOf id) file) hart (InEnclave id) in
+      given (Some (calls.Run id)) that (then (passed n) (begun id pc) no_change)
+      (λ sets. ap (with_sets (that none)) (ap (change hart (begun id pc)) (past_regs sets)
+      ∙ begun_is hart (begun id pc) (t sets).registers id pc (live_above table.enclaves id x.0 x.2) refl refl refl))
+      (λ sets z is. inl (x.0, x.1, x.2, x.3, record { state = is; told = x.4.told; zeroes = x.4.zeroes }))
+      (after harts hart new _ _ x.4.state
+      (moved harts hart (with_registers s1 (EnclaveOf id) file) (with_registers (t1 actual) (EnclaveOf id) file) (InEnclave id)
+      (put_one harts hart s1 (t1 actual) (EnclaveOf id) file (with_table harts hart s (t actual) x.1 f))))
+  call_follows (Some (calls.Run id)) alone f (inr x) =
+      told (Some (calls.Run id)) _ 0 (λ sets z is. inr (x.0, x.1, record { state = is; told = x.2.told; zeroes = x.2.zeroes })) alone f x.2.state
   call_follows (Some calls.Stop) alone f (inl x) =
       let s1 = record s { table = x.1 } in
-      let t1 = record t { table = x.1 } in (
-        back_to_host (answering t1 hart 0 0) hart 1 0,
-        inl (x.0, x.1, x.2, record { state = refl; told = x.3.told; zeroes = x.3.zeroes }),
-        after harts hart new _ _ x.3.state
-            (back harts hart (answering s1 hart 0 0) (answering t1 hart 0 0) 1 0 (answered harts hart s1 t1 0 0 alone (with_table harts hart s t x.1 f))),
-      )
-  call_follows (Some calls.Stop) alone f (inr x) = (
-    answering t hart _ 0,
-    inr (x.0, x.1, record { state = refl; told = x.2.told; zeroes = x.2.zeroes }),
-    after harts hart new _ _ x.2.state (answered harts hart s t _ 0 alone f),
-  )
+      let m = λ (sets : Runner → RegisterFile). answering (record (t sets) { table = x.1 }) hart 0 0 in
+      given (Some calls.Stop) (λ sets. back_to_host (m sets) hart 1 0) (then (passed n) (put_words n 0 0) (put_words 0 1 0))
+      (λ sets. back_same m (put_words n 0 0) (put_words 0 1 0) 1 0 sets refl
+      (answered_is hart (put_words n 0 0) (t sets).registers who n 0 0 refl own))
+      (λ sets z is. inl (x.0, x.1, x.2, record { state = is; told = x.3.told; zeroes = x.3.zeroes }))
+      (after harts hart new _ _ x.3.state
+      (back harts hart (answering s1 hart 0 0) (m actual) 1 0 (answered harts hart s1 (record (t actual) { table = x.1 }) 0 0 alone
+      (with_table harts hart s (t actual) x.1 f))))
+  call_follows (Some calls.Stop) alone f (inr x) =
+      told (Some calls.Stop) _ 0 (λ sets z is. inr (x.0, x.1, record { state = is; told = x.2.told; zeroes = x.2.zeroes })) alone f x.2.state
   call_follows (Some (calls.Resume id)) alone f (inl x) =
       let s1 = record s { table = x.1 } in
-      let t1 = record t { table = x.1 } in (
-        in_world t1 hart (InEnclave id),
-        inl (x.0, x.1, x.2, x.3, record { state = refl; told = x.4.told; zeroes = x.4.zeroes }),
-        after harts hart new _ _ x.4.state (moved harts hart s1 t1 (InEnclave id) (with_table harts hart s t x.1 f)),
-      )
-  call_follows (Some (calls.Resume id)) alone f (inr x) = (
-    answering t hart _ 0,
-    inr (x.0, x.1, record { state = refl; told = x.2.told; zeroes = x.2.zeroes }),
-    after harts hart new _ _ x.2.state (answered harts hart s t _ 0 alone f),
-  )
+      let that = λ (sets : Runner → RegisterFile). in_world (record (t sets) { table = x.1 }) hart (InEnclave id) in
+      given (Some (calls.Resume id)) that (then (passed n) no_change no_change) (λ sets. ap (with_sets (that none)) (past_regs sets))
+      (λ sets z is. inl (x.0, x.1, x.2, x.3, record { state = is; told = x.4.told; zeroes = x.4.zeroes }))
+      (after harts hart new _ _ x.4.state (moved harts hart s1 (record (t actual) { table = x.1 }) (InEnclave id) (with_table harts hart s (t actual) x.1 f)))
+  call_follows (Some (calls.Resume id)) alone f (inr x) =
+      told (Some (calls.Resume id)) _ 0 (λ sets z is. inr (x.0, x.1, record { state = is; told = x.2.told; zeroes = x.2.zeroes })) alone f x.2.state
   call_follows (Some (calls.Exit value)) alone f (inl x) =
       let s1 = record s { table = x.1 } in
-      let t1 = record t { table = x.1 } in (
-        back_to_host (with_registers t1 (EnclaveOf x.0) zeros) hart 0 value,
-        inl (x.0, x.1, x.2, record { state = refl; told = x.3.told; zeroes = x.3.zeroes }),
-        after harts hart new _ _ x.3.state
-            (back harts hart (with_registers s1 (EnclaveOf x.0) zeros) (with_registers t1 (EnclaveOf x.0) zeros) 0 value
-            (put_one harts hart s1 t1 (EnclaveOf x.0) zeros (with_table harts hart s t x.1 f))),
-      )
-  call_follows (Some (calls.Exit value)) alone f (inr x) = (
-    answering t hart _ 0,
-    inr (x.0, x.1, record { state = refl; told = x.2.told; zeroes = x.2.zeroes }),
-    after harts hart new _ _ x.2.state (answered harts hart s t _ 0 alone f),
-  )
-  call_follows (Some (calls.Measure id k)) alone f (inl x) = (
-    answering t hart 0 x.0,
-    inl (x.0, x.1, record { state = refl; told = x.2.told; zeroes = x.2.zeroes }),
-    after harts hart new _ _ x.2.state (answered harts hart s t 0 x.0 alone f),
-  )
-  call_follows (Some (calls.Measure id k)) alone f (inr x) = (
-    answering t hart _ 0,
-    inr (x.0, x.1, record { state = refl; told = x.2.told; zeroes = x.2.zeroes }),
-    after harts hart new _ _ x.2.state (answered harts hart s t _ 0 alone f),
-  )
+      let m = λ (sets : Runner → RegisterFile). with_registers (record (t sets) { table = x.1 }) (EnclaveOf x.0) zeros in
+      let low = live_above table.enclaves x.0 x.2.turned.0 x.2.turned.1 in
+      given (Some (calls.Exit value)) (λ sets. back_to_host (m sets) hart 0 value) (then (passed n) (cleared x.0) (put_words 0 0 value))
+      (λ sets. back_same m (cleared x.0) (put_words 0 0 value) 0 value sets refl
+      (cleared_is hart (cleared x.0) (t sets).registers (EnclaveOf x.0) refl (owner_is hart x.0 low)))
+      (λ sets z is. inl (x.0, x.1, x.2, record { state = is; told = x.3.told; zeroes = x.3.zeroes }))
+      (after harts hart new _ _ x.3.state
+      (back harts hart (with_registers s1 (EnclaveOf x.0) zeros) (m actual) 0 value
+      (put_one harts hart s1 (record (t actual) { table = x.1 }) (EnclaveOf x.0) zeros (with_table harts hart s (t actual) x.1 f))))
+  call_follows (Some (calls.Exit value)) alone f (inr x) =
+      told (Some (calls.Exit value)) _ 0 (λ sets z is. inr (x.0, x.1, record { state = is; told = x.2.told; zeroes = x.2.zeroes })) alone f x.2.state
+  call_follows (Some (calls.Measure id k)) alone f (inl x) =
+      told (Some (calls.Measure id k)) 0 x.0 (λ sets z is. inl (x.0, x.1, record { state = is; told = x.2.told; zeroes = x.2.zeroes })) alone f x.2.state
+  call_follows (Some (calls.Measure id k)) alone f (inr x) =
+      told (Some (calls.Measure id k)) _ 0 (λ sets z is. inr (x.0, x.1, record { state = is; told = x.2.told; zeroes = x.2.zeroes })) alone f x.2.state
 
-  pub irq_follows : (world : World) → Follows harts hart s t → Interrupts world s hart new
-      → (that : MonitorState) × Interrupts world t hart that × Follows harts hart new that
-  irq_follows Host f x = (t, refl, after harts hart new s t x f)
+  -- an interrupt
+  abbrev pub Interrupted : World → Type 0
+  Interrupted world = (mid : MonitorState) × (changes : SetChanges)
+      × ((sets : Runner → RegisterFile) → Interrupts world (base sets) hart (with_sets mid (changed hart changes sets)))
+      × Follows harts hart new (with_sets mid (changed hart changes actual))
+
+  pub irq_follows : (world : World) → Follows harts hart s (base actual) → Interrupts world s hart new → Interrupted world
+  irq_follows Host f x = (base none, then no_change no_change no_change, λ sets. refl, after harts hart new s (base actual) x f)
   irq_follows (InEnclave id) f x =
       let s1 = record s { table = x.0 } in
-      let t1 = record t { table = x.0 } in
-      (back_to_host t1 hart 1 0, (x.0, x.1, refl), after harts hart new _ _ x.2 (back harts hart s1 t1 1 0 (with_table harts hart s t x.0 f)))
+      let m = λ (sets : Runner → RegisterFile). record (base sets) { table = x.0 } in
+      let same = λ (sets : Runner → RegisterFile). back_said (m sets) hart 1 0 (put_words 0 1 0) refl in (
+        back_to_host (m none) hart 1 0,
+        then (put_words 0 1 0) no_change no_change,
+        λ sets. (x.0, x.1, same sets),
+        subst (Follows harts hart new) (sym (same actual)) (after harts hart new _ _ x.2 (back harts hart s1 (m actual) 1 0
+        (with_table harts hart s (base actual) x.0 f))),
+      )

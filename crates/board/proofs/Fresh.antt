@@ -21,7 +21,7 @@ use Rattle.enclave_table.specs.declared.enclave.Stage.{Stage}
 use Rattle.enclave_table.specs.declared.enclave.Stage.TheVariants.{Exited, Fresh, Running, Stopped}
 use Rattle.enclave_table.proofs.Places.{live_above, live_inside, set_same, set_other}
 use Rattle.monitor_core.specs.Changes.{past_call, with_running}
-use Rattle.monitor_core.specs.States.{MonitorState}
+use Rattle.monitor_core.specs.States.{MonitorState, running_registers}
 use Rattle.monitor_core.specs.Steps.{DoesCall, Interrupts}
 use Rattle.monitor_core.specs.Worlds.{ArePlaced}
 use Rattle.monitor_core.specs.declared.answer.Answer.{Answer}
@@ -34,8 +34,10 @@ use Rattle.trap_server.specs.declared.trap.TrapEvent.{TrapEvent}
 use Rattle.trap_server.specs.declared.trap.TrapEvent.TheVariants as traps
 use Rattle.trap_server.specs.declared.trap.Trap.{Trap}
 use Rattle.trap_server.specs.declared.words.ControlWords.{ControlWords}
+use Rattle.monitor_core.specs.declared.set_changes.SetChanges.{SetChanges}
 use Rattle.trap_server.specs.Service.{ServesAs}
-use Rattle.board.specs.Board.{Board, DoesTrap}
+use Rattle.board.proofs.Here.{served_here}
+use Rattle.board.specs.Board.{Board, DoesTrap, saved}
 use Rattle.board.specs.Headline.{AreMeasured, KeepsAccess, KeepsMemory}
 use Rattle.board.specs.Stays.{KeepsFreshPages}
 use Rattle.board.proofs.Made.{Absent}
@@ -131,17 +133,17 @@ fresh_irq (InEnclave k) s hart new id e live fresh x = turned s.table x.0 k id S
     (subst (λ t. Live t id e) (ap (λ y. y.table) x.2) live) fresh
 
 fresh_served :
-    (event : TrapEvent) (s : MonitorState) (trap : Trap) (given : ControlWords) (read question answered : List ℕ) (new : MonitorState) (id : ℕ) (e : Enclave)
+    (event : TrapEvent) (s : MonitorState) (trap : Trap) (given : ControlWords) (changes : SetChanges) (read question answered : List ℕ) (new : MonitorState) (id : ℕ) (e : Enclave)
     → IsTable s.table → Live new.table id e → e.state ≡ Fresh
-    → ServesAs event s trap given read question answered new → Live s.table id e ⊎ Absent s.table id
-fresh_served traps.Call s trap given read question answered new id e right live fresh x =
-    let file = past_call trap.registers in
+    → ServesAs event s trap given changes read question answered new → Live s.table id e ⊎ Absent s.table id
+fresh_served traps.Call s trap given changes read question answered new id e right live fresh x =
+    let file = past_call (running_registers s trap.hart) in
     let a = x.answers in
     let now : Live a.mid.table id e = subst (λ (y : MonitorState). Live y.table id e) a.woken live in
     fresh_call (call_of file) (λ parts. x.digest) (with_running s trap.hart file) trap.hart x.answer a.cleared a.mid id e right now fresh a.step
-fresh_served traps.Stop s trap given read question answered new id e right live fresh x =
+fresh_served traps.Stop s trap given changes read question answered new id e right live fresh x =
     let now : Live x.mid.table id e = subst (λ (y : MonitorState). Live y.table id e) x.woken live in
-    inl (fresh_irq (s.worlds trap.hart) (with_running s trap.hart trap.registers) trap.hart x.mid id e now fresh x.step)
+    inl (fresh_irq (s.worlds trap.hart) s trap.hart x.mid id e now fresh x.step)
 
 -- where an enclave is new none is gone
 kept_call :
@@ -162,18 +164,18 @@ kept_call call digests s hart answer pages new id e none live x other g was gone
     ]
 
 none_gone :
-    (event : TrapEvent) (s : MonitorState) (trap : Trap) (given : ControlWords) (read question answered : List ℕ) (new : MonitorState) (id : ℕ) (e : Enclave)
-    → Absent s.table id → Live new.table id e → ServesAs event s trap given read question answered new
+    (event : TrapEvent) (s : MonitorState) (trap : Trap) (given : ControlWords) (changes : SetChanges) (read question answered : List ℕ) (new : MonitorState) (id : ℕ) (e : Enclave)
+    → Absent s.table id → Live new.table id e → ServesAs event s trap given changes read question answered new
     → (other : ℕ) (g : Enclave) → Live s.table other g → Absent new.table other → ⊥
-none_gone traps.Call s trap given read question answered new id e none live x other g was gone =
-    let file = past_call trap.registers in
+none_gone traps.Call s trap given changes read question answered new id e none live x other g was gone =
+    let file = past_call (running_registers s trap.hart) in
     let a = x.answers in
     let now : Live a.mid.table id e = subst (λ (y : MonitorState). Live y.table id e) a.woken live in
     let lost : Absent a.mid.table other = subst (λ (y : MonitorState). Absent y.table other) a.woken gone in
     kept_call (call_of file) (λ parts. x.digest) (with_running s trap.hart file) trap.hart x.answer a.cleared a.mid id e none now a.step other g was lost
-none_gone traps.Stop s trap given read question answered new id e none live x other g was gone =
+none_gone traps.Stop s trap given changes read question answered new id e none live x other g was gone =
     let lost : Absent x.mid.table other = subst (λ (y : MonitorState). Absent y.table other) x.woken gone in
-    lost_irq (s.worlds trap.hart) (with_running s trap.hart trap.registers) trap.hart x.mid other g was lost x.step
+    lost_irq (s.worlds trap.hart) s trap.hart x.mid other g was lost x.step
 
 -- the digest of the same bytes
 same_bytes : (memory other : ℕ → ℕ) (address count : ℕ) → ((byte : ℕ) → address ≤ byte → byte < address + count → memory byte ≡ other byte)
@@ -229,14 +231,16 @@ pub stays_over_creation : (old : Board) (trap : Trap) (frame read question answe
     → DoesTrap old trap frame read question answered new → KeepsMemory old new → (id byte : ℕ) (e : Enclave) → Absent old.monitor.table id
     → Live new.monitor.table id e → new.memory byte ≡ old.memory byte
 stays_over_creation old trap frame read question answered new x k id byte e none live =
-    k.stays (λ other gone. none_gone trap.event old.monitor trap x.served.given read question answered new.monitor id e none live x.served.step
+    let one = served_here old trap frame read question answered new x in
+    k.stays (λ other gone. none_gone trap.event (saved old trap) trap one.given x.changes read question answered new.monitor id e none live one.step
     other gone.0 gone.1 gone.2) byte
 
 -- over a trap
 pub measured_trap : (old : Board) (trap : Trap) (frame read question answered : List ℕ) (new : Board) → IsTable old.monitor.table
     → DoesTrap old trap frame read question answered new → KeepsMemory old new → AreMeasured old → AreMeasured new
 measured_trap old trap frame read question answered new right x k before = λ id e live fresh.
-    elim (fresh_served trap.event old.monitor trap x.served.given read question answered new.monitor id e right live fresh x.served.step) [
+    let one = served_here old trap frame read question answered new x in
+    elim (fresh_served trap.event (saved old trap) trap one.given x.changes read question answered new.monitor id e right live fresh one.step) [
       | inl was ↦ before id e was fresh ∙ same_measured old.memory new.memory e.parts (λ byte own. sym (k.private id byte e e (was, own) (live, own)))
       | inr none ↦ k.digest id e none live ∙ same_measured old.memory new.memory e.parts
           (λ byte own. sym (stays_over_creation old trap frame read question answered new x k id byte e none live))

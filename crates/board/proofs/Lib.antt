@@ -2,6 +2,7 @@ mod Named
 mod Runners
 mod Floats
 mod Made
+mod Here
 mod Accessed
 mod Trapped
 mod Fresh

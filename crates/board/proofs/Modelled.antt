@@ -86,8 +86,8 @@ module _ (law : BoardHolds) (layout : PlatformLayout) (opened : List ℕ) (rules
       registers = λ who. zeros;
       marked = λ hart. false;
       hosts = first_words;
-      lists = λ world. drop 416 opened;
-      loaded = λ hart. drop 416 opened;
+      lists = λ world. drop 256 opened;
+      loaded = λ hart. drop 256 opened;
       runs = booted (λ byte. 0) (λ hart. no_floats) (λ who. no_floats);
       waits = λ who off. refl;
     };

@@ -5,8 +5,8 @@ use Rattle.byteorder.specs.Endian.{little_bytes, little_number}
 use Rattle.byteorder.specs.Numbers.{little_from-bytes, little_number-reads_back}
 use Rattle.pmp_encoding.specs.declared.pages.PageRange.{PageRange}
 use Rattle.pmp_encoding.specs.declared.region.Entry.{Entry}
-use Rattle.sbi_decode.specs.Registers.{RegisterFile}
-use Rattle.monitor_core.specs.States.{MonitorState, running_registers}
+use Rattle.monitor_core.specs.States.{MonitorState}
+use Rattle.monitor_core.specs.declared.set_changes.SetChanges.{SetChanges}
 use Rattle.monitor_core.specs.Answers.{world_number}
 use Rattle.monitor_core.specs.declared.answer.Answer.{Answer}
 use Rattle.trap_server.specs.declared.answer.Head.{Head}
@@ -21,10 +21,10 @@ abbrev pub Names : List ℕ → PageRange → Type 0
 Names bytes range = (word_at bytes 6 ≡ range.first) × (word_at bytes 7 ≡ range.count)
 
 -- the words at their places are those that were put there, where they have 64 bits
-in_bytes : (head : Head) (file : RegisterFile) (control : ControlWords) (lists : List (List Entry)) → (pages_of head.zero).first < 2 ^ 64
-    → (pages_of head.zero).count < 2 ^ 64 → Names (answer_bytes head file control lists) (pages_of head.zero)
-in_bytes head file control lists first count =
-    let bytes = answer_bytes head file control lists in
+in_bytes : (head : Head) (changes : SetChanges) (control : ControlWords) (lists : List (List Entry)) → (pages_of head.zero).first < 2 ^ 64
+    → (pages_of head.zero).count < 2 ^ 64 → Names (answer_bytes head changes control lists) (pages_of head.zero)
+in_bytes head changes control lists first count =
+    let bytes = answer_bytes head changes control lists in
     (little_number-reads_back 8 (pages_of head.zero).first (drop 56 bytes) first, little_number-reads_back 8 (pages_of head.zero).count (drop 64 bytes) count)
 
 -- pages in the space
@@ -36,11 +36,11 @@ small (Some range) inside = (omega (arith, inside), omega (arith, inside))
 -- an answer names the pages that are to be made zero
 pub named :
     (s : MonitorState) (given : ControlWords) (hart : ℕ) (answer : Answer) (cleared : Option PageRange) (woken : List Bool) (new : NewLists)
-    (bytes : List ℕ) → IsAnswer s given hart answer cleared woken new bytes
+    (changes : SetChanges) (bytes : List ℕ) → IsAnswer s given hart answer cleared woken new changes bytes
     → IfSome cleared (λ range. range.first + range.count ≤ 2 ^ 44) → Names bytes (pages_of cleared)
-named s given hart answer cleared woken new bytes a inside =
+named s given hart answer cleared woken new changes bytes a inside =
     let low = small cleared inside in
-    let put = in_bytes (head_of s hart answer a.used cleared woken new) (running_registers s hart) given a.puts.are low.0 low.1 in
+    let put = in_bytes (head_of s hart answer a.used cleared woken new) changes given a.puts.are low.0 low.1 in
     (ap (λ b. word_at b 6) a.puts.put ∙ put.0, ap (λ b. word_at b 7) a.puts.put ∙ put.1)
 
 -- a word that was put, as 64 bits
@@ -54,10 +54,10 @@ pub record Says (bytes : List ℕ) (world status value used : ℕ) : Type 0 wher
   pub value_is : word_at bytes 4 ≡ value % 2 ^ 64
   pub used_is : word_at bytes 5 ≡ used % 2 ^ 64
 
-pub says : (head : Head) (file : RegisterFile) (control : ControlWords) (lists : List (List Entry))
-    → Says (answer_bytes head file control lists) (world_number head.world) head.status head.value head.used
-says head file control lists =
-    let bytes = answer_bytes head file control lists in
+pub says : (head : Head) (changes : SetChanges) (control : ControlWords) (lists : List (List Entry))
+    → Says (answer_bytes head changes control lists) (world_number head.world) head.status head.value head.used
+says head changes control lists =
+    let bytes = answer_bytes head changes control lists in
     record {
       world_is = put_word (world_number head.world) (drop 24 bytes);
       status_is = put_word head.status (drop 32 bytes);

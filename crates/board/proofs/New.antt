@@ -23,7 +23,7 @@ use Rattle.monitor_core.specs.Measured.{IsMade, asked_in}
 use Rattle.monitor_core.specs.States.{MonitorState, running_registers}
 use Rattle.monitor_core.specs.Steps.{DoesCall}
 use Rattle.monitor_core.specs.declared.answer.Answer.{Answer}
-use Rattle.trap_server.specs.Answered.{head_of, marks_of, status_word}
+use Rattle.trap_server.specs.Answered.{head_of, marks_of, new_lists, status_word}
 use Rattle.trap_server.specs.PageDigest.{question_of}
 use Rattle.trap_server.specs.Service.{AnswersCall, ServesAs, ServesCall}
 use Rattle.trap_server.specs.Words.{word_at}
@@ -31,6 +31,7 @@ use Rattle.trap_server.specs.declared.trap.TrapEvent.{TrapEvent}
 use Rattle.trap_server.specs.declared.trap.TrapEvent.TheVariants as traps
 use Rattle.trap_server.specs.declared.trap.Trap.{Trap}
 use Rattle.trap_server.specs.declared.words.ControlWords.{ControlWords}
+use Rattle.monitor_core.specs.declared.set_changes.SetChanges.{SetChanges}
 use Rattle.board.specs.Board.{SaysMade}
 use Rattle.board.proofs.Fresh.{placed}
 use Rattle.board.proofs.Made.{Absent, made_call, made_irq}
@@ -92,21 +93,22 @@ as_word id low = omega (arith, low)
 some_question : (parts : Create) → question_of parts ≢ []
 some_question parts is = cc
 
-module _ (s : MonitorState) (trap : Trap) (given : ControlWords) (read question answered : List ℕ) (new : MonitorState) (right : IsTable s.table)
-    (x : ServesCall s trap given read question answered new) where
-  abbrev a : AnswersCall s trap given x.digest x.answer answered new
+module _ (s : MonitorState) (trap : Trap) (given : ControlWords) (changes : SetChanges) (read question answered : List ℕ) (new : MonitorState) (right : IsTable s.table)
+    (there : call_of (running_registers s trap.hart) ≡ call_of trap.registers) (x : ServesCall s trap given changes read question answered new) where
+  abbrev a : AnswersCall s trap given changes x.digest x.answer answered new
   a = x.answers
 
   abbrev file : RegisterFile
-  file = past_call trap.registers
+  file = past_call (running_registers s trap.hart)
 
   abbrev t : MonitorState
   t = with_running s trap.hart file
 
   -- the words of the answer
-  words : Says answered (world_number (new.worlds trap.hart)) (status_word x.answer.status) x.answer.value (length a.goes_on.0)
-  words = subst (λ bytes. Says bytes (world_number (new.worlds trap.hart)) (status_word x.answer.status) x.answer.value (length a.goes_on.0)) (sym a.goes_on.2)
-      (says (head_of new trap.hart x.answer a.cleared (marks_of a.mid)) (running_registers new trap.hart) a.goes_on.0 given)
+  words : Says answered (world_number (new.worlds trap.hart)) (status_word x.answer.status) x.answer.value a.goes_on.used
+  words = subst (λ bytes. Says bytes (world_number (new.worlds trap.hart)) (status_word x.answer.status) x.answer.value a.goes_on.used)
+      (sym a.goes_on.puts.put) (says (head_of new trap.hart x.answer a.goes_on.used a.cleared (marks_of a.mid)
+      (new_lists (asked_in (call_of trap.registers)) x.answer a.cleared)) changes given a.goes_on.puts.are)
 
   done : (parts : Create) → IsMade (asked_in (call_of file)) x.answer parts → IsDone t x.answer a.mid
   done parts m = ended (call_of file) (λ all. x.digest) t trap.hart x.answer a.cleared a.mid parts m a.step
@@ -125,7 +127,7 @@ module _ (s : MonitorState) (trap : Trap) (given : ControlWords) (read question 
   call_said who m = elim x.asks [
     | inl none ↦ absurd (m.0 none.0)
     | inr some ↦
-        let d = done some.0 some.1 in
+        let d = done some.0 (subst (λ c. IsMade (asked_in c) x.answer some.0) (sym there) some.1) in
         let live : Live a.mid.table d.id d.made = ap (λ (table : EnclaveTable). enclave_at table.enclaves d.id) d.table
         ∙ set_same s.table.enclaves d.id (Some d.made) d.above (inside d) in
         (d.id, d.made, m.1 ∙ ap EnclaveOf (value_is d), d.free, subst (λ (y : MonitorState). Live y.table d.id d.made) (sym a.woken) live)
@@ -136,7 +138,7 @@ module _ (s : MonitorState) (trap : Trap) (given : ControlWords) (read question 
       let now : Live a.mid.table id e = subst (λ (y : MonitorState). Live y.table id e) a.woken live in
       let made = made_call (call_of file) (λ all. x.digest) t trap.hart x.answer a.cleared a.mid id e right none now a.step in
       let asked : question ≢ [] = λ is. elim x.asks [
-        | inl nothing ↦ nothing.2 e.parts made.0
+        | inl nothing ↦ nothing.2 e.parts (subst (λ c. IsMade (asked_in c) x.answer e.parts) there made.0)
         | inr some ↦ some_question some.0 (sym some.2 ∙ is)
       ] in
       let d = done e.parts made.0 in
@@ -150,18 +152,18 @@ module _ (s : MonitorState) (trap : Trap) (given : ControlWords) (read question 
 
 -- a trap that says it of one is its creation
 pub said_new :
-    (event : TrapEvent) (s : MonitorState) (trap : Trap) (given : ControlWords) (read question answered : List ℕ) (new : MonitorState) → IsTable s.table
-    → ServesAs event s trap given read question answered new → (who : Runner) → SaysMade question answered who
+    (event : TrapEvent) (s : MonitorState) (trap : Trap) (given : ControlWords) (changes : SetChanges) (read question answered : List ℕ) (new : MonitorState) → IsTable s.table
+    → call_of (running_registers s trap.hart) ≡ call_of trap.registers → ServesAs event s trap given changes read question answered new → (who : Runner) → SaysMade question answered who
     → (id : ℕ) × (e : Enclave) × (who ≡ EnclaveOf id) × Absent s.table id × Live new.table id e
-said_new traps.Call s trap given read question answered new right x who m = call_said s trap given read question answered new right x who m
-said_new traps.Stop s trap given read question answered new right x who m = absurd (m.0 x.nothing_asked)
+said_new traps.Call s trap given changes read question answered new right there x who m = call_said s trap given changes read question answered new right there x who m
+said_new traps.Stop s trap given changes read question answered new right there x who m = absurd (m.0 x.nothing_asked)
 
 -- and its creation says it of one that is new, which is Fresh
 pub new_said :
-    (event : TrapEvent) (s : MonitorState) (trap : Trap) (given : ControlWords) (read question answered : List ℕ) (new : MonitorState) → IsTable s.table
-    → ServesAs event s trap given read question answered new → (id : ℕ) (e : Enclave) → Absent s.table id → Live new.table id e
+    (event : TrapEvent) (s : MonitorState) (trap : Trap) (given : ControlWords) (changes : SetChanges) (read question answered : List ℕ) (new : MonitorState) → IsTable s.table
+    → call_of (running_registers s trap.hart) ≡ call_of trap.registers → ServesAs event s trap given changes read question answered new → (id : ℕ) (e : Enclave) → Absent s.table id → Live new.table id e
     → SaysMade question answered (EnclaveOf id) × (e.state ≡ Fresh)
-new_said traps.Call s trap given read question answered new right x id e none live = call_new s trap given read question answered new right x id e none live
-new_said traps.Stop s trap given read question answered new right x id e none live =
+new_said traps.Call s trap given changes read question answered new right there x id e none live = call_new s trap given changes read question answered new right there x id e none live
+new_said traps.Stop s trap given changes read question answered new right there x id e none live =
     let now : Live x.mid.table id e = subst (λ (y : MonitorState). Live y.table id e) x.woken live in
-    absurd (made_irq (s.worlds trap.hart) (with_running s trap.hart trap.registers) trap.hart x.mid id e none now x.step)
+    absurd (made_irq (s.worlds trap.hart) s trap.hart x.mid id e none now x.step)

@@ -1,5 +1,5 @@
 -- The frame of a trap.
-use Rattle.std.proofs.Common.{◌≡◌, ◌∙◌, ℕ, zero, suc, ◌+◌, ◌<◌, ◌≤◌, List, [], ◌∷◌, ◌++◌, length, slice_index, refl, ap, sym, arith}
+use Rattle.std.proofs.Common.{◌≡◌, ◌∙◌, ℕ, zero, suc, ◌+◌, ◌-◌, ◌<◌, ◌≤◌, List, [], ◌∷◌, ◌++◌, length, slice_index, refl, ap, sym, arith}
 use Rattle.sbi_decode.specs.Registers.{RegisterFile, x_of}
 use Rattle.trap_server.specs.Traps.{IsTagOf, IsTrapFrame}
 use Rattle.trap_server.specs.Words.{call_tag, control_tag, stop_tag, word_at}
@@ -50,31 +50,31 @@ abbrev last_words : List ℕ
 last_words = control_tag ∷ (0 ∷ (0 ∷ (0 ∷ (0 ∷ (0 ∷ (0 ∷ (0 ∷ (0 ∷ (0 ∷ [])))))))))
 
 abbrev trap_words : TrapEvent → ℕ → RegisterFile → List ℕ
-trap_words event hart file = tag_of event ∷ (hart ∷ (file.pc ∷ (xs_from file 1 31 ++ last_words)))
+trap_words event hart file = tag_of event ∷ (hart ∷ (xs_from file 10 8 ++ last_words))
 
 abbrev pub trap_frame : TrapEvent → ℕ → RegisterFile → List ℕ
 trap_frame event hart file = frame_words (trap_words event hart file)
 
-size_of : (event : TrapEvent) (hart : ℕ) (file : RegisterFile) → length (trap_words event hart file) ≡ 44
+size_of : (event : TrapEvent) (hart : ℕ) (file : RegisterFile) → length (trap_words event hart file) ≡ 20
 size_of event hart file = refl
 
-pub frame_size : (event : TrapEvent) (hart : ℕ) (file : RegisterFile) → length (trap_frame event hart file) ≡ 352
+pub frame_size : (event : TrapEvent) (hart : ℕ) (file : RegisterFile) → length (trap_frame event hart file) ≡ 160
 frame_size event hart file =
     let all = length_words (trap_words event hart file) in
     let many = size_of event hart file in
     omega (arith, all, many)
 
-word_in : (event : TrapEvent) (hart : ℕ) (file : RegisterFile) (k : ℕ) → k < 44
+word_in : (event : TrapEvent) (hart : ℕ) (file : RegisterFile) (k : ℕ) → k < 20
     → word_at (trap_frame event hart file) k ≡ slice_index (trap_words event hart file) k
 word_in event hart file k low = let many = size_of event hart file in word_back (trap_words event hart file) k (omega (arith, low, many))
 
-x_in : (event : TrapEvent) (hart : ℕ) (file : RegisterFile) (n : ℕ) → 1 ≤ n → n < 32 → x_of file n ≡ word_at (trap_frame event hart file) (n + 2)
-x_in event hart file zero one low = absurd (omega (arith, one))
-x_in event hart file (suc m) one low =
-    let place : suc m + 2 ≡ suc (suc (suc m)) = omega arith in
-    let number : 1 + m ≡ suc m = omega arith in
-    sym (ap (word_at (trap_frame event hart file)) place ∙ word_in event hart file (suc (suc (suc m))) (omega (arith, low))
-    ∙ x_at file 1 31 m last_words (omega (arith, low)) ∙ ap (x_of file) number)
+x_in : (event : TrapEvent) (hart : ℕ) (file : RegisterFile) (n : ℕ) → 10 ≤ n → n < 18 → x_of file n ≡ word_at (trap_frame event hart file) (n - 8)
+x_in event hart file n low high =
+    let m = n - 10 in
+    let place : n - 8 ≡ suc (suc m) = omega (arith, low) in
+    let number : 10 + m ≡ n = omega (arith, low) in
+    sym (ap (word_at (trap_frame event hart file)) place ∙ word_in event hart file (suc (suc m)) (omega (arith, low, high))
+    ∙ x_at file 10 8 m last_words (omega (arith, low, high)) ∙ ap (x_of file) number)
 
 pub frame_is : (event : TrapEvent) (hart harts : ℕ) (file : RegisterFile) → hart < harts
     → IsTrapFrame (trap_frame event hart file) harts (trap_on event hart file)
@@ -82,18 +82,18 @@ frame_is event hart harts file known = record {
   tag = tag_is event (word_at (trap_frame event hart file) 0) (word_in event hart file 0 (omega arith));
   hart = word_in event hart file 1 (omega arith);
   known = known;
-  registers = record { pc = sym (word_in event hart file 2 (omega arith)); xs = x_in event hart file };
-  control_follows = word_in event hart file 34 (omega arith);
+  call = x_in event hart file;
+  control_follows = word_in event hart file 10 (omega arith);
   control = record {
-    status = sym (word_in event hart file 35 (omega arith));
-    satp = sym (word_in event hart file 36 (omega arith));
-    mie = sym (word_in event hart file 37 (omega arith));
-    scounteren = sym (word_in event hart file 38 (omega arith));
-    senvcfg = sym (word_in event hart file 39 (omega arith));
-    hstatus = sym (word_in event hart file 40 (omega arith));
-    medeleg = sym (word_in event hart file 41 (omega arith));
-    mideleg = sym (word_in event hart file 42 (omega arith));
-    mode = sym (word_in event hart file 43 (omega arith));
+    status = sym (word_in event hart file 11 (omega arith));
+    satp = sym (word_in event hart file 12 (omega arith));
+    mie = sym (word_in event hart file 13 (omega arith));
+    scounteren = sym (word_in event hart file 14 (omega arith));
+    senvcfg = sym (word_in event hart file 15 (omega arith));
+    hstatus = sym (word_in event hart file 16 (omega arith));
+    medeleg = sym (word_in event hart file 17 (omega arith));
+    mideleg = sym (word_in event hart file 18 (omega arith));
+    mode = sym (word_in event hart file 19 (omega arith));
   };
   below = refl;
 }

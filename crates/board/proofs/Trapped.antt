@@ -15,7 +15,7 @@ use Rattle.enclave_table.specs.Tables.{IsTable}
 use Rattle.enclave_table.specs.declared.enclave.Enclave.{Enclave}
 use Rattle.monitor_core.specs.Changes.{past_call, with_running}
 use Rattle.monitor_core.specs.Measured.{IsMade, asked_in}
-use Rattle.monitor_core.specs.States.{MonitorState}
+use Rattle.monitor_core.specs.States.{MonitorState, running_registers}
 use Rattle.monitor_core.specs.Switches.{IsGone}
 use Rattle.monitor_core.specs.declared.answer.Answer.{Answer}
 use Rattle.hart_sim.specs.Memory.{measured_in, zeroed}
@@ -23,11 +23,13 @@ use Rattle.trap_server.specs.declared.trap.TrapEvent.{TrapEvent}
 use Rattle.trap_server.specs.declared.trap.TrapEvent.TheVariants.{Call, Stop}
 use Rattle.trap_server.specs.declared.trap.Trap.{Trap}
 use Rattle.trap_server.specs.declared.words.ControlWords.{ControlWords}
+use Rattle.monitor_core.specs.declared.set_changes.SetChanges.{SetChanges}
 use Rattle.trap_server.specs.Answers.{pages_of}
 use Rattle.trap_server.specs.Firmware.{AreDestroyed, KeepsTrap}
 use Rattle.trap_server.specs.Service.{AsksFor, ServesAs}
 use Rattle.trap_server.specs.Words.{word_at}
-use Rattle.board.specs.Board.{Board, DoesTrap, ReadsMemory}
+use Rattle.board.proofs.Here.{call_there, served_here}
+use Rattle.board.specs.Board.{Board, DoesTrap, ReadsMemory, saved}
 use Rattle.board.specs.Headline.{KeepsMemory}
 use Rattle.board.proofs.Made.{Absent, made_call, made_irq}
 use Rattle.board.proofs.Named.{named}
@@ -89,31 +91,32 @@ only_parts None answer parts one m n = absurd m
 only_parts (Some asked) answer parts one m n = n.0 ∙ sym m.0
 
 new_digest :
-    (event : TrapEvent) (s : MonitorState) (trap : Trap) (given : ControlWords) (read question answered : List ℕ) (new : MonitorState) (memory : ℕ → ℕ) (id : ℕ)
-    (e : Enclave) → IsTable s.table → ReadsMemory memory read → Absent s.table id → Live new.table id e
-    → ServesAs event s trap given read question answered new → e.digest ≡ measured_in memory e.parts
-new_digest Call s trap given read question answered new memory id e right reads none live x =
+    (event : TrapEvent) (s : MonitorState) (trap : Trap) (given : ControlWords) (changes : SetChanges) (read question answered : List ℕ) (new : MonitorState) (memory : ℕ → ℕ) (id : ℕ)
+    (e : Enclave) → IsTable s.table → call_of (running_registers s trap.hart) ≡ call_of trap.registers → ReadsMemory memory read → Absent s.table id
+    → Live new.table id e → ServesAs event s trap given changes read question answered new → e.digest ≡ measured_in memory e.parts
+new_digest Call s trap given changes read question answered new memory id e right there reads none live x =
     let hart = trap.hart in
-    let file = past_call trap.registers in
+    let file = past_call (running_registers s hart) in
     let t = with_running s hart file in
     let a = x.answers in
     let now : Live a.mid.table id e = subst (λ (y : MonitorState). Live y.table id e) a.woken live in
     let made = made_call (call_of file) (λ parts. x.digest) t hart x.answer a.cleared a.mid id e right none now a.step in
     let asked = asked_in (call_of trap.registers) in
-    made.1 ∙ digest_is asked x.answer question read x.digest memory e.parts x.asks reads made.0 (λ one m. only_parts asked x.answer e.parts one made.0 m)
-new_digest Stop s trap given read question answered new memory id e right reads none live x =
+    let parts = subst (λ c. IsMade (asked_in c) x.answer e.parts) there made.0 in
+    made.1 ∙ digest_is asked x.answer question read x.digest memory e.parts x.asks reads parts (λ one m. only_parts asked x.answer e.parts one parts m)
+new_digest Stop s trap given changes read question answered new memory id e right there reads none live x =
     let hart = trap.hart in
-    let t = with_running s hart trap.registers in
+    let t = s in
     let now : Live x.mid.table id e = subst (λ (y : MonitorState). Live y.table id e) x.woken live in
     absurd (made_irq (s.worlds hart) t hart x.mid id e none now x.step)
 
 pub trap_kept :
     (old : Board) (trap : Trap) (frame read question answered : List ℕ) (new : Board) → IsTable old.monitor.table
-    → DoesTrap old trap frame read question answered new → KeepsTrap old.monitor old.hosts trap read question answered new.monitor new.hosts
-    → KeepsMemory old new
+    → (x : DoesTrap old trap frame read question answered new)
+    → KeepsTrap (saved old trap) old.hosts trap x.changes read question answered new.monitor new.hosts → KeepsMemory old new
 trap_kept old trap frame read question answered new right x k =
     let inside : IfSome k.cleared (λ range. range.first + range.count ≤ 2 ^ 44) = in_space k.cleared k.zeroes in
-    let words = named new.monitor k.given trap.hart k.answer k.cleared k.woken k.lists answered k.says inside in
+    let words = named new.monitor k.given trap.hart k.answer k.cleared k.woken k.lists x.changes answered k.says inside in
     let memory : (byte : ℕ) → new.memory byte ≡ cleared_by k.cleared old.memory byte = λ byte.
     x.cleared byte ∙ ap (λ first. zeroed old.memory first (word_at answered 7) byte) words.0
     ∙ ap (λ count. zeroed old.memory (pages_of k.cleared).first count byte) words.1 in
@@ -122,8 +125,10 @@ trap_kept old trap frame read question answered new right x k =
       monitor = λ byte own. memory byte ∙ monitor_stays k.cleared old.monitor new.monitor old.memory byte k.zeroes own;
       zeroes = λ id gone byte. memory byte ∙ ap (λ cleared. cleared_by cleared old.memory byte) (k.destroys id gone);
       stays = λ none byte. memory byte ∙ all_stay k.cleared old.monitor new.monitor old.memory byte k.zeroes none;
-      digest = λ id e none live. new_digest trap.event old.monitor trap x.served.given read question answered new.monitor old.memory id e right x.pages none
-          live x.served.step;
+      digest = λ id e none live.
+          let one = served_here old trap frame read question answered new x in
+          new_digest trap.event (saved old trap) trap one.given x.changes read question answered new.monitor old.memory id e right (call_there old trap) x.pages
+          none live one.step;
     }
   where
     in_space : (cleared : Option PageRange) → IfSome cleared (AreDestroyed old.monitor new.monitor)

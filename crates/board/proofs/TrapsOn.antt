@@ -8,7 +8,11 @@ use Rattle.platforms.specs.Platform.{PlatformLayout}
 use Rattle.sbi_decode.specs.Registers.{RegisterFile}
 use Rattle.sbi_decode.specs.Runners.{Runner}
 use Rattle.enclave_table.specs.Views.{current_view}
-use Rattle.monitor_core.specs.States.{MonitorState, running_registers}
+use Rattle.monitor_core.specs.Changes.{with_running}
+use Rattle.monitor_core.specs.SetChanges.{changed}
+use Rattle.monitor_core.specs.States.{MonitorState}
+use Rattle.monitor_core.specs.declared.set_changes.SetChanges.{SetChanges}
+use Rattle.trap_server.specs.Sets.{AreThere, with_sets}
 use Rattle.monitor_core.specs.Answers.{world_number}
 use Rattle.monitor_core.specs.declared.answer.Answer.{Answer}
 use Rattle.monitor_core.proofs.Equal.{equal}
@@ -29,12 +33,18 @@ use Rattle.board.proofs.TrapFrames.{frame_is, frame_size, trap_frame, trap_on}
 use Rattle.board.proofs.Trapped.{none_in}
 use Rattle.board.proofs.OnBoards.{OnBoard, Waits, monitor_of}
 
--- what a trap on a hart leaves of the monitor, and what it does on the state of a board
+-- the register sets that a trap finds on a board that is as a state
+abbrev pub found : (layout : PlatformLayout) (opened : List ℕ) (seen : List BoardEvent) (old : MachineState) (hart : ℕ) (file : RegisterFile)
+    → OnBoard layout opened seen old → Runner → RegisterFile
+found layout opened seen old hart file on = (with_running (monitor_of old on.registers on.marked) hart file).registers
+
+-- what a trap on a hart leaves of the monitor, and what it does on the state of a board, whatever the register sets are
 pub record TrapLeaves (layout : PlatformLayout) (opened : List ℕ) (seen : List BoardEvent) (kind : TrapEvent) (old new : MachineState) (hart : ℕ)
     (file : RegisterFile) (on : OnBoard layout opened seen old) : Type 0 where
   pub answer : Answer
   pub cleared : Option PageRange
   pub mid : MonitorState
+  pub changes : SetChanges
   pub read : List ℕ
   pub question : List ℕ
   pub used : ℕ
@@ -44,13 +54,16 @@ pub record TrapLeaves (layout : PlatformLayout) (opened : List ℕ) (seen : List
   pub worlds : new.worlds ≡ mid.worlds
   pub bytes : (byte : ℕ) → new.bytes byte ≡ zeroed old.bytes (pages_of cleared).first (pages_of cleared).count byte
   pub inside : IfSome cleared (λ range. range.first + range.count ≤ 2 ^ 44)
-  pub waits : (who : Runner) → Waits new who → mid.registers who ≡ new.registers who
+  pub waits : (who : Runner) → Waits new who → changed hart changes (found layout opened seen old hart file on) who ≡ new.registers who
   pub needs : Needs (current_view new.table (new.worlds hart)) used
   pub lists : AreLists new.table answer.value which are
   pub reads : ReadsMemory old.bytes read
-  pub serves : (given : ControlWords) (answered : List ℕ) (that : MonitorState) → that ≡ unmarked 4 mid
-      → IsAnswer that given hart answer cleared (marks_of mid) which answered
-      → ServesAs kind (monitor_of old on.registers on.marked) (trap_on kind hart file) given read question answered that
+  pub serves : (given : ControlWords) (answered : List ℕ) (that : MonitorState)
+      → ((sets : Runner → RegisterFile) → with_sets that sets ≡ unmarked 4 (with_sets mid sets))
+      → IsAnswer that given hart answer cleared (marks_of mid) which changes answered
+      → (sets : Runner → RegisterFile) → AreThere (monitor_of old on.registers on.marked) (trap_on kind hart file) sets
+      → ServesAs kind (with_sets (monitor_of old on.registers on.marked) sets) (trap_on kind hart file) given changes read question answered
+      (with_sets that (changed hart changes sets))
 
 pub trap_seen :
     (layout : PlatformLayout) (opened : List ℕ) (seen : List BoardEvent) (kind : TrapEvent) (old new : MachineState) (hart : ℕ) (file : RegisterFile)
@@ -59,8 +72,9 @@ pub trap_seen :
     × Says answered (world_number (new.worlds hart)) (status_word x.answer.status) x.answer.value x.used
 trap_seen layout opened seen kind old new hart file on known x =
     let trap = trap_on kind hart file in
-    let that = monitor_of new x.mid.registers (unmarked 4 x.mid).marked in
-    let same : that ≡ unmarked 4 x.mid = equal (record {
+    let sets = changed hart x.changes (found layout opened seen old hart file on) in
+    let that = monitor_of new sets (unmarked 4 x.mid).marked in
+    let same : (all : Runner → RegisterFile) → with_sets that all ≡ unmarked 4 (with_sets x.mid all) = λ all. equal (record {
       table = x.table;
       worlds = λ h. ap (λ w. w h) x.worlds;
       registers = λ who. refl;
@@ -69,18 +83,18 @@ trap_seen layout opened seen kind old new hart file on known x =
     let kept = keeping (old.worlds hart) on.hosts hart trap.control in
     let given = words_in (new.worlds hart) (kept hart) in
     let head = head_of that hart x.answer x.used x.cleared (marks_of x.mid) x.which in
-    let answered = answer_bytes head (running_registers that hart) given x.are in
-    let is_answer : IsAnswer that given hart x.answer x.cleared (marks_of x.mid) x.which answered = record {
+    let answered = answer_bytes head x.changes given x.are in
+    let is_answer : IsAnswer that given hart x.answer x.cleared (marks_of x.mid) x.which x.changes answered = record {
       used = x.used;
       needs = x.needs;
       puts = record { are = x.are; lists = x.lists; put = refl };
     } in
-    let words = named that given hart x.answer x.cleared (marks_of x.mid) x.which answered is_answer x.inside in
+    let words = named that given hart x.answer x.cleared (marks_of x.mid) x.which x.changes answered is_answer x.inside in
     let lists : ℕ → List ℕ = list_after answered on.lists in
     let loaded : ℕ → List ℕ = λ h. loaded_after answered lists (on.loaded h) h in (
       answered,
       record {
-        registers = x.mid.registers;
+        registers = sets;
         marked = (unmarked 4 x.mid).marked;
         hosts = kept;
         lists = lists;
@@ -88,11 +102,13 @@ trap_seen layout opened seen kind old new hart file on known x =
         runs = happened on.runs (trapped trap (trap_frame kind hart file) x.read x.question answered) (record {
           size = frame_size kind hart file;
           is_trap = frame_is kind hart old.table.layout.harts file known;
-          served = record {
+          changes = x.changes;
+          served = λ all there. record {
             given = given;
             words = record { keeps = refl; gives = refl };
-            step = x.serves given answered that same is_answer;
+            step = x.serves given answered that same is_answer all there;
           };
+          sets = refl;
           pages = x.reads;
           cleared = λ byte.
               x.bytes byte ∙ sym (ap (λ first. zeroed old.bytes first (word_at answered 7) byte) words.0
@@ -110,7 +126,7 @@ trap_seen layout opened seen kind old new hart file on known x =
         });
         waits = x.waits;
       },
-      says head (running_registers that hart) given x.are,
+      says head x.changes given x.are,
     )
 
 -- memory as the model clears it

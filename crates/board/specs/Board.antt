@@ -21,7 +21,10 @@ use Rattle.trap_server.specs.declared.words.ControlWords.{ControlWords}
 use Rattle.trap_server.specs.Firmware.{list_after, loaded_after, loaded_pairs}
 use Rattle.trap_server.specs.PageDigest.{ArePages}
 use Rattle.trap_server.specs.Runs.{first_words}
-use Rattle.trap_server.specs.Service.{ServesTrap}
+use Rattle.monitor_core.specs.Changes.{with_running}
+use Rattle.monitor_core.specs.SetChanges.{changed}
+use Rattle.monitor_core.specs.declared.set_changes.SetChanges.{SetChanges}
+use Rattle.trap_server.specs.Service.{ServesAll}
 use Rattle.trap_server.specs.Traps.{IsTrapFrame}
 use Rattle.trap_server.specs.Words.{word_at}
 
@@ -115,16 +118,24 @@ ReadsMemory memory read =
     (first count : ℕ) (pages : List (List ℕ)) → ArePages first count read pages
     → pages ≡ pages_from (λ page. bytes_at memory (page * 4096) 4096) first count
 
--- a trap is served, and meanwhile no world runs. Its frame has any registers. The pages that were
--- read are memory's; those that the answer names, in its words 6 and 7, are made zero; the lists
+-- the register sets as a trap finds them: the world that trapped has any registers, which are saved
+-- in its own. Its frame has a0 to a7 of them
+abbrev pub saved : Board → Trap → MonitorState
+saved old trap = with_running old.monitor trap.hart trap.registers
+
+-- a trap is served, whatever the register sets are, and meanwhile no world runs. The sets change as
+-- the answer says; nothing else changes them. The pages that were read are memory's; those that the answer names, in its words 6 and 7, are made zero; the lists
 -- that it has are kept for their worlds; the hart that it names loads the list of the world that it
 -- names, and each that it wakes the host's, before any world goes on; and registers of floating point
 -- change with the world of the hart that trapped
 pub record DoesTrap (old : Board) (trap : Trap) (frame read question answered : List ℕ)
     (new : Board) : Type 0 where
-  pub size : length frame ≡ 352
+  pub size : length frame ≡ 160
   pub is_trap : IsTrapFrame frame old.monitor.table.layout.harts trap
-  pub served : ServesTrap old.monitor old.hosts trap read question answered new.monitor new.hosts
+  pub changes : SetChanges
+  pub served :
+      ServesAll old.monitor old.hosts trap changes read question answered new.monitor new.hosts
+  pub sets : new.monitor.registers ≡ changed trap.hart changes (saved old trap).registers
   pub pages : ReadsMemory old.memory read
   pub cleared : (byte : ℕ) → new.memory byte
       ≡ zeroed old.memory (word_at answered 6) (word_at answered 7) byte
@@ -149,8 +160,8 @@ booted_board layout opened memory floats kept = record {
   monitor = opening_monitor layout;
   hosts = first_words;
   memory = memory;
-  lists = λ world. drop 416 opened;
-  loaded = λ hart. drop 416 opened;
+  lists = λ world. drop 256 opened;
+  loaded = λ hart. drop 256 opened;
   floats = floats;
   kept = kept;
 }

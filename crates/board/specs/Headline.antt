@@ -18,7 +18,7 @@ use Rattle.enclave_table.specs.declared.enclave.Enclave.{Enclave}
 use Rattle.enclave_table.specs.declared.enclave.Stage.TheVariants.{Fresh}
 use Rattle.monitor_core.specs.Changes.{is_same}
 use Rattle.monitor_core.specs.States.{opening_monitor}
-use Rattle.monitor_core.specs.Switches.{IsGone, runner_on}
+use Rattle.monitor_core.specs.Switches.{IsGone, KeepsRegisters, runner_on}
 use Rattle.monitor_core.specs.Worlds.{ArePlaced}
 use Rattle.hart_sim.specs.Memory.{measured_in}
 use Rattle.hart_sim.specs.Steps.{verdict}
@@ -26,7 +26,7 @@ use Rattle.trap_server.specs.Answered.{AreAwake}
 use Rattle.trap_server.specs.Firmware.{HasFewest, list_last, loaded_last}
 use Rattle.trap_server.specs.Runs.{ServesTraps, first_words}
 use Rattle.board.specs.Board.{Board, BoardEvent, BoardRun, access, computed, trapped, booted}
-use Rattle.board.specs.Board.{Floats, happened, no_floats}
+use Rattle.board.specs.Board.{Floats, happened, no_floats, saved}
 
 -- what a host or an enclave has in registers of floating point, by what is in each hart's and what
 -- is kept: of the harts below n that of the one on which it runs, and what is kept for it where it
@@ -114,7 +114,7 @@ abbrev pub Keeps : BoardEvent → Board → Board → Type 0
 Keeps (access hart a value said) old new = KeepsAccess old hart a said new
 Keeps (computed hart floats) old new = KeepsOtherFloats old hart floats new
 Keeps (trapped trap frame read question answered) old new = KeepsMemory old new
-    × KeepsFloats old new
+    × KeepsFloats old new × KeepsRegisters (saved old trap) trap.hart new.monitor
 
 -- so it is for each event of a run
 abbrev pub EachKeeps : {layout : PlatformLayout} {opened : List ℕ} {events : List BoardEvent}

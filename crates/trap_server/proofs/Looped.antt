@@ -5,6 +5,8 @@ use Rattle.std.specs.Io.KnownBytes.{Appends, Consumes}
 use Rattle.std.proofs.KnownBytes.{Appends-trans, Consumes-trans}
 use Rattle.platforms.specs.Platform.{PlatformLayout}
 use Rattle.monitor_core.specs.declared.steps.Core.{Core}
+use Rattle.monitor_core.specs.SetChanges.{no_change}
+use Rattle.monitor_core.specs.declared.set_changes.SetChanges.{SetChanges}
 use Rattle.monitor_core.specs.States.{MonitorState, opening_monitor}
 use Rattle.trap_server.specs.declared.words.ControlWords.{ControlWords}
 use Rattle.trap_server.specs.declared.trap.Trap.{Trap}
@@ -72,6 +74,18 @@ opened_at layout first opened before after held middle holds size platform consu
   appended = appended_as held holds opened (opened ++ []) (sym (append-nil opened)) (Appends-trans held middle holds [] opened nothing wrote);
   quiet = λ hart known. refl;
 }
+
+-- before any trap nothing becomes of register sets
+none_is : (changes : SetChanges) → changes.first ≡ no_change → changes.second ≡ no_change → changes.third ≡ no_change → changes ≡ no_changes
+none_is changes a b c = ap (λ x. record changes { first = x }) a ∙ ap (λ x. record { first = no_change; second = x; third = changes.third }) b
+    ∙ ap (λ x. record { first = no_change; second = no_change; third = x }) c
+
+pub with_none :
+    (s : MonitorState) (given : ControlWords) (woken : List Bool) (changes : SetChanges) (bytes : List ℕ) → changes.first ≡ no_change
+    → changes.second ≡ no_change → changes.third ≡ no_change → IsAnswer s given 0 no_answer None woken lists.Host changes bytes
+    → IsAnswer s given 0 no_answer None woken lists.Host no_changes bytes
+with_none s given woken changes bytes a b c is =
+    subst (λ (x : SetChanges). IsAnswer s given 0 no_answer None woken lists.Host x bytes) (none_is changes a b c) is
 
 -- the answer to the platform
 pub opens :

@@ -2,31 +2,35 @@ use Rattle.std.proofs.Common.{◌≡◌, ◌<◌, ◌∙◌, Bool, ◌^◌, ◌-
 use Rattle.std.proofs.KnownBytes.{Appends-nil, Consumes-nil}
 use Rattle.trap_server.specs.Sets.{bare}
 use Rattle.trap_server.specs.Given.{host_words}
-use Rattle.trap_server.specs.Answered.{AreAwake}
+use Rattle.trap_server.specs.Answered.{AreAwake, given_on}
 use Rattle.trap_server.specs.Traps.{ReadsTrap}
-use Rattle.trap_server.proofs.Looped.{answer_stops, begins, goes_on, next_refused, ran, read_stops, trap_stops}
+use Rattle.trap_server.proofs.Looped.{answer_stops, begins, goes_on, next_refused, ran, read_stops, trap_stops, with_none}
 use Rattle.trap_server.proofs.Served.{frame_after, frame_reads, read_after, read_at, trap_writes, write_after}
 use Rattle.trap_server.proofs.trap_loop.serve_booted.Goals as goal
 
 pub returns-in-Err-clause-early : goal.returns-in-Err-clause-early
 returns-in-Err-clause-early g c = λ begun held booted.
     let w = c.in-Err.ensures.bytes in
+    let known = with_none (bare c.args.core.now) (given_on (bare c.args.core.now) (host_words c.new-hosts.result) 0) c.others.result c.none-changes.result w.1
+    c.none-changes.ensures.first c.none-changes.ensures.second c.none-changes.ensures.third w.2 in
     inl (answer_stops c.in-Err.fault (bare c.args.core.now)
     (host_words c.new-hosts.result) booted.0 booted.1 w.1 w.3.0 c.harts-harts.result c.others.result begun (g.R.Source.remaining c.args.source.now) held
     (g.W.Sink.contents c.args.sink.now) (g.W.Sink.contents c.write_answer.new.sink) booted.2 booted.3 booted.4 c.new-hosts.ensures booted.5 booted.6
     c.harts-harts.ensures.value
-    c.others.ensures w.0 w.2 w.3.1 w.3.2)
+    c.others.ensures w.0 known w.3.1 w.3.2)
 
 pub loop-count-init : goal.loop-count-init
 loop-count-init g c =
     let w = c.in-Ok.ensures.bytes in
+    let known = with_none (bare c.args.core.now) (given_on (bare c.args.core.now) (host_words c.new-hosts.result) 0) c.others.result c.none-changes.result w.0
+    c.none-changes.ensures.first c.none-changes.ensures.second c.none-changes.ensures.third w.1 in
     record {
       progress = λ begun held booted. begins (bare c.args.core.now) (host_words c.new-hosts.result) booted.0 booted.1 w.0 c.harts-harts.result
           c.others.result
           begun (g.R.Source.remaining c.args.source.now) held
           (g.W.Sink.contents c.args.sink.now) (g.W.Sink.contents c.write_answer.new.sink) booted.2 booted.3 booted.4 c.new-hosts.ensures booted.5
           booted.6 booted.7
-          c.harts-harts.ensures.value c.others.ensures w.1 w.2;
+          c.harts-harts.ensures.value c.others.ensures known w.2;
       harts = c.harts-harts.ensures.value;
       quiet = subst AreAwake (sym c.requires.1) (λ hart known. refl);
       reads = refl;
