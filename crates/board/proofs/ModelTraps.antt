@@ -18,7 +18,10 @@ use Rattle.monitor_core.specs.Steps.{DoesCall, Interrupts}
 use Rattle.monitor_core.proofs.Cases.{both}
 use Rattle.monitor_core.proofs.Cleared.{call_clears_memory}
 use Rattle.monitor_core.proofs.Layouts.{call_keeps_layout, interrupt_keeps_layout}
-use Rattle.monitor_core.proofs.Put.{same_self}
+use Rattle.monitor_core.proofs.Put.{put_there, same_self}
+use Rattle.monitor_core.specs.SetChanges.{changed, owner_of}
+use Rattle.trap_server.specs.Sets.{with_sets}
+use Rattle.trap_server.proofs.Bare.{answer_with}
 use Rattle.monitor_core.proofs.SoundTables.{call_keeps_table}
 use Rattle.hart_trace.specs.declared.event.Event.TheVariants as events
 use Rattle.hart_trace.specs.declared.reply.Reply.{Reply}
@@ -28,7 +31,7 @@ use Rattle.hart_sim.specs.Memory.{measured_in}
 use Rattle.hart_sim.specs.Replies.{RepliesWith}
 use Rattle.hart_sim.specs.States.{MachineState, awoken, core_of, with_core}
 use Rattle.hart_sim.specs.Steps.{Serves}
-use Rattle.trap_server.specs.Answered.{new_lists, no_answer}
+use Rattle.trap_server.specs.Answered.{marks_of, new_lists, no_answer}
 use Rattle.trap_server.specs.declared.answer.NewLists.TheVariants as lists
 use Rattle.trap_server.specs.declared.trap.TrapEvent.TheVariants as traps
 use Rattle.trap_server.proofs.ListsKept.{made_by_lists}
@@ -36,13 +39,13 @@ use Rattle.trap_server.proofs.Remeasured.{call_remeasured}
 use Rattle.board.specs.Board.{BoardEvent, trapped}
 use Rattle.board.specs.Model.{IsOneTrap, SaysReply}
 use Rattle.board.proofs.Asked.{asks, frames_of_memory}
-use Rattle.board.proofs.Follows.{Follows, IsElsewhere, call_follows, digest_by, irq_follows}
+use Rattle.board.proofs.Follows.{Follows, IsElsewhere, call_follows, digest_by, irq_follows, owner_current}
 use Rattle.board.proofs.Rooms.{AllFit, call_fits, irq_fits, lists_fit}
 use Rattle.board.proofs.Runners.{same_is}
 use Rattle.board.proofs.Runners.{alone as alone_on}
 use Rattle.board.proofs.TrapFrames.{trap_frame, trap_on}
 use Rattle.board.proofs.OnBoards.{IsGood, Next, OnBoard, Waits, monitor_of}
-use Rattle.board.proofs.TrapsOn.{TrapLeaves, clears, trap_seen}
+use Rattle.board.proofs.TrapsOn.{TrapLeaves, clears, found, trap_seen}
 
 module _ (layout : PlatformLayout) (opened : List ℕ) (seen : List BoardEvent) (s : MachineState) (hart : ℕ) (reply : Reply) (new : MachineState)
     (known : hart < s.table.layout.harts) (on : OnBoard layout opened seen s) (good : IsGood layout s on.registers on.marked on.loaded) where
@@ -50,24 +53,33 @@ module _ (layout : PlatformLayout) (opened : List ℕ) (seen : List BoardEvent) 
   alone : IsElsewhere s.table.layout.harts s.worlds hart (runner_of hart (s.worlds hart))
   alone other low differ = alone_on (monitor_of s on.registers on.marked) hart other good.worlds known low differ
 
-  -- the same registers of all that run on no other hart, once those of the hart were put there
-  put_follows : (file : RegisterFile) → Follows s.table.layout.harts hart (with_running (core_of (awoken s hart)) hart file)
-      (with_running (monitor_of s on.registers on.marked) hart file)
+  -- who runs on the hart has a set
+  own : owner_of hart (world_number (s.worlds hart)) ≡ runner_of hart (s.worlds hart)
+  own = owner_current s.table hart (s.worlds hart) (good.worlds.current hart known)
+
+  -- the same registers of all that run on no other hart, once those of the hart were put there and went past the call
+  put_follows : (file : RegisterFile) → Follows s.table.layout.harts hart (with_running (core_of (awoken s hart)) hart (past_call file))
+      (with_running (with_running (monitor_of s on.registers on.marked) hart file) hart
+      (past_call (running_registers (with_running (monitor_of s on.registers on.marked) hart file) hart)))
   put_follows file = record {
     table = refl;
     worlds = refl;
     registers = λ who off.
         let runs = runner_of hart (s.worlds hart) in
+        let there = with_running (monitor_of s on.registers on.marked) hart file in
+        let past = past_call (running_registers there hart) in
         both (is_same who runs)
-        (λ yes. ap (λ b. if b then file else on.registers who) yes ∙ sym (ap (λ b. if b then file else s.registers who) yes))
+        (λ yes. ap (λ b. if b then past else there.registers who) yes ∙ ap past_call (put_there (monitor_of s on.registers on.marked) hart file)
+        ∙ sym (ap (λ b. if b then past_call file else s.registers who) yes))
         (λ no.
         let waits : Waits s who = λ h low is. both (h == hart)
         (λ here.
         let same : h ≡ hart = eqb-true h hart here in
-        let own : who ≡ runs = is ∙ ap (λ (n : ℕ). runner_of n (s.worlds n)) same in
-        both_ways (is_same who runs) no (ap (λ w. is_same w runs) own ∙ same_self runs))
-        (λ there. off h low (λ same. both_ways (h == hart) there (eq-eqb h hart same)) is) in
-        ap (λ b. if b then file else on.registers who) no ∙ on.waits who waits ∙ sym (ap (λ b. if b then file else s.registers who) no));
+        let mine : who ≡ runs = is ∙ ap (λ (n : ℕ). runner_of n (s.worlds n)) same in
+        both_ways (is_same who runs) no (ap (λ w. is_same w runs) mine ∙ same_self runs))
+        (λ elsewhere. off h low (λ same. both_ways (h == hart) elsewhere (eq-eqb h hart same)) is) in
+        ap (λ b. if b then past else there.registers who) no ∙ ap (λ b. if b then file else on.registers who) no ∙ on.waits who waits
+        ∙ sym (ap (λ b. if b then past_call file else s.registers who) no));
   }
 
   -- a call
@@ -82,31 +94,35 @@ module _ (layout : PlatformLayout) (opened : List ℕ) (seen : List BoardEvent) 
       let digests = measured_in s.bytes in
       let old = with_running (core_of (awoken s hart)) hart gone in
       let base = monitor_of s on.registers on.marked in
-      let now = with_running base hart gone in
+      let sets = found layout opened seen s hart file on in
+      let now = with_running (with_running base hart file) hart (past_call (running_registers (with_running base hart file) hart)) in
       let answer = x.0 in
       let pages = x.1 in
       let core = x.2 in
       let does = x.3 in
       let is = x.4 in
-      let f = call_follows digests s.table s.worlds old.registers now.registers old.marked now.marked s.table.layout.harts hart answer pages core call alone
-      (put_follows gone) does in
+      let f = call_follows digests s.table s.worlds old.registers sets old.marked on.marked s.table.layout.harts hart answer pages core own call alone
+      (put_follows file) does in
       let mid = f.0 in
+      let changes = f.1 in
+      let here = with_sets mid (changed hart changes sets) in
       let layout_is : new.table.layout ≡ s.table.layout = ap (λ n. n.table.layout) is ∙ call_keeps_layout call digests old hart answer pages core does in
-      let table : new.table ≡ mid.table = ap (λ n. n.table) is ∙ sym f.2.table in
-      let worlds : new.worlds ≡ mid.worlds = ap (λ n. n.worlds) is ∙ sym f.2.worlds in
+      let table : new.table ≡ mid.table = ap (λ n. n.table) is ∙ sym f.3.table in
+      let worlds : new.worlds ≡ mid.worlds = ap (λ n. n.worlds) is ∙ sym f.3.worlds in
       let new_fit : AllFit new.table = subst AllFit (sym (ap (λ n. n.table) is)) (call_fits call digests old hart answer pages core good.table does fit) in
       let a = asks (asked_in call) answer s.bytes in
       let which = new_lists (asked_in call) answer pages in
       let made : which ≡ lists.HostAndMade → (e : Enclave) × Live new.table answer.value e = λ is.
       let m = made_by_lists (asked_in call) answer pages is in
-      let r = call_remeasured call (digest_by digests (asked_in call)) now hart answer pages mid m.0
-      (call_keeps_table call (λ parts. digest_by digests (asked_in call)) now hart answer pages mid f.1 good.table) f.1 m.1 in
+      let r = call_remeasured call (digest_by digests (asked_in call)) now hart answer pages here m.0
+      (call_keeps_table call (λ parts. digest_by digests (asked_in call)) now hart answer pages here (f.2 sets) good.table) (f.2 sets) m.1 in
       (r.0, subst (λ t. Live t answer.value r.0) (sym table) r.1) in
       let l = lists_fit which new.table answer.value new_fit made in (
         record {
           answer = answer;
           cleared = pages;
           mid = mid;
+          changes = changes;
           read = a.1;
           question = a.0;
           used = x.5.0;
@@ -117,19 +133,30 @@ module _ (layout : PlatformLayout) (opened : List ℕ) (seen : List BoardEvent) 
           bytes = λ byte. ap (λ n. n.bytes byte) is ∙ clears pages s.bytes byte;
           inside = in_space pages (call_clears_memory call digests old hart answer pages core good.table does);
           waits = λ who off.
-              f.2.registers who (λ other under differ is_there.
+              f.3.registers who (λ other under differ is_there.
               off other (subst (λ l. other < l.harts) (sym layout_is) under)
               (is_there ∙ ap (λ w. runner_of other (w other)) (sym (ap (λ n. n.worlds) is))))
               ∙ sym (ap (λ n. n.registers who) is);
           needs = x.5.1;
           lists = l.1;
           reads = a.3;
-          serves = λ given answered that same goes_on. record {
-            digest = digest_by digests (asked_in call);
-            answer = answer;
-            answers = record { cleared = pages; mid = mid; step = f.1; woken = same; goes_on = goes_on };
-            asks = a.2;
-          };
+          serves = λ given answered that same goes_on all there.
+              let after = changed hart changes all in
+              let any = with_sets base all in
+              let past = past_call (running_registers any hart) in
+              record {
+                digest = digest_by digests (asked_in call);
+                answer = answer;
+                answers = record {
+                  cleared = pages;
+                  mid = with_sets mid after;
+                  step = subst (λ c. DoesCall c (λ parts. digest_by digests (asked_in call)) (with_running any hart past) hart answer pages
+                      (with_sets mid after)) (sym there) (f.2 all);
+                  woken = same after;
+                  goes_on = answer_with that after given hart answer pages (marks_of mid) which changes answered goes_on;
+                };
+                asks = a.2;
+              };
         },
         new_fit,
         x.5.2,
@@ -177,17 +204,18 @@ module _ (layout : PlatformLayout) (opened : List ℕ) (seen : List BoardEvent) 
       let core = x.0 in
       let does = x.1 in
       let is = x.2 in
-      let f = irq_follows (measured_in s.bytes) s.table s.worlds old.registers now.registers old.marked now.marked s.table.layout.harts hart no_answer None core
-      world own_follows does in
+      let f = irq_follows (measured_in s.bytes) s.table s.worlds old.registers now.registers old.marked on.marked s.table.layout.harts hart no_answer None core
+      own world own_follows does in
       let mid = f.0 in
       let layout_is : new.table.layout ≡ s.table.layout = ap (λ n. n.table.layout) is ∙ interrupt_keeps_layout world old hart core does in
-      let table : new.table ≡ mid.table = ap (λ n. n.table) is ∙ sym f.2.table in
-      let worlds : new.worlds ≡ mid.worlds = ap (λ n. n.worlds) is ∙ sym f.2.worlds in
+      let table : new.table ≡ mid.table = ap (λ n. n.table) is ∙ sym f.3.table in
+      let worlds : new.worlds ≡ mid.worlds = ap (λ n. n.worlds) is ∙ sym f.3.worlds in
       let new_fit : AllFit new.table = subst AllFit (sym (ap (λ n. n.table) is)) (irq_fits world old hart core does fit) in (
         record {
           answer = no_answer;
           cleared = None;
           mid = mid;
+          changes = f.1;
           read = [];
           question = [];
           used = x.3.0;
@@ -198,21 +226,23 @@ module _ (layout : PlatformLayout) (opened : List ℕ) (seen : List BoardEvent) 
           bytes = λ byte. ap (λ n. n.bytes byte) is ∙ clears None s.bytes byte;
           inside = tt;
           waits = λ who off.
-              f.2.registers who (λ other under differ is_there.
+              f.3.registers who (λ other under differ is_there.
               off other (subst (λ l. other < l.harts) (sym layout_is) under)
               (is_there ∙ ap (λ w. runner_of other (w other)) (sym (ap (λ n. n.worlds) is))))
               ∙ sym (ap (λ n. n.registers who) is);
           needs = x.3.1;
           lists = refl;
           reads = frames_of_memory s.bytes 0 0;
-          serves = λ given answered that same goes_on. record {
-            mid = mid;
-            nothing_asked = refl;
-            nothing_read = refl;
-            step = f.1;
-            woken = same;
-            goes_on = goes_on;
-          };
+          serves = λ given answered that same goes_on all there.
+              let after = changed hart f.1 all in
+              record {
+                mid = with_sets mid after;
+                nothing_asked = refl;
+                nothing_read = refl;
+                step = f.2 all;
+                woken = same after;
+                goes_on = answer_with that after given hart no_answer None (marks_of mid) lists.Nothing f.1 answered goes_on;
+              };
         },
         new_fit,
         x.3.2,

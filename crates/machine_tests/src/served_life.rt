@@ -8,7 +8,7 @@ use std::alloc::Global;
 use std::process::Abort;
 
 /// The words of an answer before its lists, and those of a list.
-const FRONT: u64 = 52;
+const FRONT: u64 = 32;
 
 const LIST: u64 = 73;
 
@@ -70,16 +70,15 @@ fn put_trap(
     function: u64,
     arguments: [u64; 3],
 ) {
-    let mut words = [0; 44];
+    let mut words = [0; 20];
     words[0] = tag;
     words[1] = hart;
-    words[2] = 0x8040_0000;
-    words[12] = arguments[0];
-    words[13] = arguments[1];
-    words[14] = arguments[2];
-    words[18] = function;
-    words[19] = EXTENSION;
-    words[34] = CONTROL_TAG;
+    words[2] = arguments[0];
+    words[3] = arguments[1];
+    words[4] = arguments[2];
+    words[8] = function;
+    words[9] = EXTENSION;
+    words[10] = CONTROL_TAG;
     put_words(rt, frames, &words);
 }
 
