@@ -234,9 +234,10 @@ def worlds(folder, told):
         said = booted(folder / name / "pmpmon-virt.elf", race, 2)
         told(f"{name} the stop of other harts, a page that became an enclave's {want.strip()}", said == want, said if said != want else "")
     said = booted(folder / "with/pmpmon-virt.elf", host(folder / "two_hosts.elf", "sbi_host.S", "two_hosts.S", "two_hosts.c"), 2)
-    told("two harts enter two enclaves, and each host has its own words", said == "both harts were in an enclave: 1\nwrong 0\n", said)
+    told("two harts enter two enclaves, and each host has its own words", said == TWO_HOSTS, said)
     sbi(folder / "with/pmpmon-virt.elf", folder, told)
     payloads = [host(folder / f"reset-{it}.elf", "harts.S", "reset_enclave.S", "reset.c", flags=(f"-DHARTS={it}",)) for it in (1, 2)]
+    sets(folder, told)
     floats(folder, told)
     devices(folder, told)
     storm(folder, told)
@@ -247,6 +248,8 @@ def worlds(folder, told):
     hostile(folder, told)
 
 
+# What a host of two harts finds that enter two enclaves.
+TWO_HOSTS = "both harts were in an enclave: 1\nwrong 0\n"
 # What an enclave reads of the counters, where its host lets its own programs read them.
 CLOCK = "time, let in: it is now 1\ntime, let in with all: it is now 1\ntime, kept out: cause 2\ntime, kept out alone: cause 2\n"
 CLOCK += "cycles, let in: cause 2\ninstructions, let in: cause 2\n"
@@ -269,6 +272,42 @@ def floats(folder, told):
         built(folder / "two.toml", folder / f"floats-{left}", f"-DLEAVE_FLOATS={left}")
         said = booted(folder / f"floats-{left}/pmpmon-virt.elf", payloads["d"], 2)
         told(f"without {name} others come out", want in said, said if want not in said else "")
+
+
+# What a host and two enclaves find that have numbers of their own in their registers.
+SETS = "made 1\nmade 2\nrun 1: 1 0\nrun 2: 1 0\nresume 1: 0 256\nrun what has exited 1: -111 0\nresume 2: 0 512\ndestroy 1: 0 0\nmade 1\n"
+SETS += "run 1: 1 0\ndestroy what has stopped 1: 0 0\nmade 1\nrun 1: 1 0\nresume 1: 0 256\nwrong 0\n"
+# A build for a try leaves out a kind of change of a register set, all zeros, or whose set is which (firmware/registers.c).
+NO_PAST_CALL, NO_TWO_WORDS, NO_FIRST_ENTRY, NO_ZERO_AT_END, NO_ZERO, ONE_ENCLAVES, ONE_HOSTS = range(1, 8)
+REGISTERS_LEFT_OUT = {NO_PAST_CALL: "the way past a call", NO_TWO_WORDS: "a0 and a1 of an answer", NO_FIRST_ENTRY: "a first entry"}
+REGISTERS_LEFT_OUT |= {NO_ZERO: "the zeros of a set", ONE_ENCLAVES: "a set of each enclave"}
+
+
+def sets_of(image, payload):
+    """What a board says on which two enclaves have exited, and whether nothing of their registers is left in the monitor's memory."""
+    with Wired(image, payload, 1) as board:
+        board.has_ended(20)
+        # (after the sets of four hosts, of x1 to x31 and the program counter)
+        left = [board.word(symbol(image, "register_sets") + 264 * (4 + enclave) + 8 * word) for enclave in (0, 1) for word in range(1, 33)]
+    return board.said, not any(left)
+
+
+def sets(folder, told):
+    """Registers of a host and its enclaves; and builds in which something of them is left out."""
+    payload = host(folder / "sets.elf", "harts.S", "sets.S", "sets.c")
+    said, is_zero = sets_of(FIRMWARE / "out/pmpmon-virt.elf", payload)
+    told("a host and two enclaves have registers of their own, which an enclave begins with zeros", said == SETS, said if said != SETS else "")
+    told("nothing of the registers of an enclave that exited is left in the monitor's memory", is_zero)
+    for left, name in REGISTERS_LEFT_OUT.items():
+        built(FIRMWARE / "platform.toml", folder / f"sets-{left}", f"-DLEAVE_REGISTERS={left}")
+        said = booted(folder / f"sets-{left}/pmpmon-virt.elf", payload, 1, seconds=10)
+        told(f"without {name} others come out", said != SETS, said if said == SETS else "")
+    built(FIRMWARE / "platform.toml", folder / "sets-end", f"-DLEAVE_REGISTERS={NO_ZERO_AT_END}")
+    said, is_zero = sets_of(folder / "sets-end/pmpmon-virt.elf", payload)
+    told("without the zeros at an enclave's end its registers are left there, and no other enclave finds them", said == SETS and not is_zero)
+    built(folder / "two.toml", folder / "sets-hosts", f"-DLEAVE_REGISTERS={ONE_HOSTS}")
+    said = booted(folder / "sets-hosts/pmpmon-virt.elf", folder / "two_hosts.elf", 2, seconds=10)
+    told("without a set of the host of each hart two hosts go wrong", said != TWO_HOSTS, said if said == TWO_HOSTS else "")
 
 
 def boards(folder, told):
