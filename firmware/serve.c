@@ -40,11 +40,11 @@ static int is_aligned(const void *at)
 static int64_t read_trap(void *to)
 {
     struct trap_frame *frame = is_aligned(to) ? to : (void *)words;
-    unsigned hart;
+    const struct world *world;
     frame->tag = next_trap();
-    hart = this_hart();
-    frame->hart = hart;
-    copy_words(frame->call, worlds[hart].registers->x + 10, 8);
+    frame->hart = this_hart();
+    world = &worlds[frame->hart];
+    copy_words(frame->call, world->registers->x + 10, 8);
     frame->control_tag = TAG_CONTROL;
     control_read(&frame->control);
     if (!is_aligned(to))
@@ -112,16 +112,12 @@ static void change_lists(const struct answer_frame *answer)
     stop_harts(0); /* they go on */
 }
 
-/* How many bytes an answer has, by how many lists it says that there are. */
-static uint64_t answer_size(const struct answer_frame *answer)
-{
-    return offsetof(struct answer_frame, lists) + answer->list_count * sizeof answer->lists[0];
-}
-
 /* No world reaches the pages that are made zero: they were an enclave's, and are closed to the host until its entries change. */
-static int64_t written_answer(const struct answer_frame *answer)
+static int64_t written_answer(const struct answer_frame *answer, uint64_t n)
 {
     struct world *world = &worlds[answer->hart];
+    if (answer->list_count > 2 || n != offsetof(struct answer_frame, lists) + answer->list_count * sizeof answer->lists[0])
+        return -1;
     if (answer->zero_count) {
         make_zero(answer->zero_first, answer->zero_count);
         private_end(answer->zero_first, answer->zero_count);
@@ -137,7 +133,7 @@ static int64_t written_answer(const struct answer_frame *answer)
     registers_change(answer);
     world->number = answer->world;
     answered(answer);
-    return (int64_t)answer_size(answer);
+    return (int64_t)n;
 }
 
 /* An answer has made an enclave, whose number its hart finds in a1. Its pages are asked for while other harts run. */
@@ -159,8 +155,8 @@ int64_t write(uint64_t descriptor, const void *from, uint64_t n)
     if (!is_aligned(from))
         from = memcpy(words, from, n);
     tag = *(const uint64_t *)from;
-    if (tag == TAG_ANSWER && ((const struct answer_frame *)from)->list_count <= 2 && n == answer_size(from))
-        return written_answer(from);
+    if (tag == TAG_ANSWER)
+        return written_answer(from, n);
     if (tag == TAG_MEASURE && n == sizeof(struct measure_frame))
         return written_measure(from);
     if (tag == TAG_END && n == sizeof(struct end_frame))

@@ -279,8 +279,9 @@ SETS = "made 1\nmade 2\nrun 1: 1 0\nrun 2: 1 0\nresume 1: 0 256\nrun what has ex
 SETS += "run 1: 1 0\ndestroy what has stopped 1: 0 0\nmade 1\nrun 1: 1 0\nresume 1: 0 256\nwrong 0\n"
 # A build for a try leaves out a kind of change of a register set, all zeros, or whose set is which (firmware/registers.c).
 NO_PAST_CALL, NO_TWO_WORDS, NO_FIRST_ENTRY, NO_ZERO_AT_END, NO_ZERO, ONE_ENCLAVES, ONE_HOSTS = range(1, 8)
-REGISTERS_LEFT_OUT = {NO_PAST_CALL: "the way past a call", NO_TWO_WORDS: "a0 and a1 of an answer", NO_FIRST_ENTRY: "a first entry"}
-REGISTERS_LEFT_OUT |= {NO_ZERO: "the zeros of a set", ONE_ENCLAVES: "a set of each enclave"}
+REGISTERS_LEFT_OUT = {NO_PAST_CALL: ("the way past a call", "the board did not end"), NO_TWO_WORDS: ("a0 and a1 of an answer", "run 1: 1 1\n")}
+REGISTERS_LEFT_OUT |= {NO_FIRST_ENTRY: ("a first entry", "resume 1: 1 0\n"), NO_ZERO: ("the zeros of a set", "run 1: 0 7\n")}
+REGISTERS_LEFT_OUT |= {ONE_ENCLAVES: ("a set of each enclave", "resume 1: 1 0\n")}
 
 
 def sets_of(image, payload):
@@ -298,10 +299,10 @@ def sets(folder, told):
     said, is_zero = sets_of(FIRMWARE / "out/pmpmon-virt.elf", payload)
     told("a host and two enclaves have registers of their own, which an enclave begins with zeros", said == SETS, said if said != SETS else "")
     told("nothing of the registers of an enclave that exited is left in the monitor's memory", is_zero)
-    for left, name in REGISTERS_LEFT_OUT.items():
+    for left, (name, want) in REGISTERS_LEFT_OUT.items():
         built(FIRMWARE / "platform.toml", folder / f"sets-{left}", f"-DLEAVE_REGISTERS={left}")
         said = booted(folder / f"sets-{left}/pmpmon-virt.elf", payload, 1, seconds=10)
-        told(f"without {name} others come out", said != SETS, said if said == SETS else "")
+        told(f"without {name} others come out", want in said, said if want not in said else "")
     built(FIRMWARE / "platform.toml", folder / "sets-end", f"-DLEAVE_REGISTERS={NO_ZERO_AT_END}")
     said, is_zero = sets_of(folder / "sets-end/pmpmon-virt.elf", payload)
     told("without the zeros at an enclave's end its registers are left there, and no other enclave finds them", said == SETS and not is_zero)
