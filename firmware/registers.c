@@ -39,19 +39,16 @@ static inline void change(struct registers *set, const struct set_change *change
     }
 }
 
-static inline struct registers *set_of(uint64_t hart, uint64_t whose)
+static inline struct registers *set_of(struct registers *host, uint64_t whose)
 {
-    if (LEAVE_REGISTERS == WHICH_ENCLAVE && whose)
-        whose = 1;
-    if (LEAVE_REGISTERS == WHICH_HOST)
-        hart = 0;
-    return &register_sets[place_of(hart, whose)];
+    return whose ? &register_sets[place_of(0, LEAVE_REGISTERS == WHICH_ENCLAVE ? 1 : whose)] : host;
 }
 
 void registers_change(const struct answer_frame *answer)
 {
+    struct registers *host = &register_sets[LEAVE_REGISTERS == WHICH_HOST ? 0 : answer->hart];
     for (const struct set_change *it = answer->changes; it < answer->changes + 3; it++)
         if (it->kind && it->kind != LEAVE_REGISTERS)
-            change(set_of(answer->hart, it->whose), it);
-    worlds[answer->hart].registers = set_of(answer->hart, answer->world);
+            change(set_of(host, it->whose), it);
+    worlds[answer->hart].registers = set_of(host, answer->world);
 }
