@@ -182,7 +182,7 @@ def largest(folder):
 
 
 def most_taken(on_hart, folder, told):
-    """What a life takes on a small platform and on the board's own, whose map is a deeper tree: less than 32 KiB of stack, 64 KiB of heap."""
+    """What a life takes on a small platform and on the board's own, whose map is a deeper tree: less than 24 KiB of stack, 36 KiB of heap."""
     trace, most = folder / "most.trace", {}
     trace.write_text(LIFE)
     for platform in (platform_with(folder, 1), FIRMWARE / "platform.toml"):
@@ -190,13 +190,13 @@ def most_taken(on_hart, folder, told):
         for it in notes.splitlines():
             most[it.split()[1]] = max(most.get(it.split()[1], 0), int(it.split()[2]))
     numbers = f"stack {most['stack']}, heap {most['heap']} bytes; instructions {most['other']} of a switch, {most['owning']} until a creation is answered"
-    told(f"the monitor's most: {numbers}", most["stack"] < 32768 and most["heap"] < 65536 and most["other"] < 1590)
+    told(f"the monitor's most: {numbers}", most["stack"] < 24576 and most["heap"] < 36864 and most["other"] < 840)
     # (a hart of QEMU has sixteen entries, and loads the first sixteen of what a boot on 64 answers)
     trace.write_text("")
     on_hart.platform_of = lambda path: ({"harts": 4}, 128)
     _, notes, _ = on_hart.report_of(largest(folder), trace, has_notes=True)
     most = {it.split()[1]: int(it.split()[2]) for it in notes.splitlines() if it.startswith("note ")}
-    told(f"a boot on the largest platform: {notes.replace(chr(10), ', ')}", most and most["stack"] < 32768 and most["heap"] < 163840)
+    told(f"a boot on the largest platform: {notes.replace(chr(10), ', ')}", most and most["stack"] < 24576 and most["heap"] < 135168)
 
 
 def booted(image, payload, harts, *more, seconds=240):
@@ -449,7 +449,7 @@ def races(folder, told):
     right = len(counts) == 4 and "odd" not in said and min(counts.values()) > counts[255] // 4
     told("an enclave that calls for ever takes no other hart's time", right, " ".join(f"{it}: {n}" for it, n in counts.items()) if right else said)
     said = booted(FIRMWARE / "out/pmpmon-virt.elf", host(folder / "pause.elf", "harts.S", "two_hosts.S", "pause.c"), 1, *kind(16), "-icount", "shift=0")
-    most = {"create": 16 * 280000, "destroy": 80000, "base": 210, "measure": 1750, "resume": 3450}
+    most = {"create": 16 * 265000, "destroy": 63000, "base": 205, "measure": 950, "resume": 2120}
     taken = {name: int(n) for name, n in re.findall(r"(\w+) (\d+)\n", said)}
     right = taken.pop("error", 1) == 0 and taken.keys() == most.keys() and all(taken[it] < most[it] for it in most)
     told("instructions of a creation of 16 pages, its destruction, calls for SBI's base and a digest, and a resume and stop", right, said.replace("\n", " "))
