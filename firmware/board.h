@@ -20,11 +20,20 @@ enum { GO_ON, TICK, TO_HANDLER, ANSWER, SET_TIMER, INTERRUPT_HARTS, FENCE_INSTRU
 enum { START_HART = PUT_BYTE + 1, STOP_HART, SHUT_DOWN, FAIL, REBOOT };
 enum { MONITOR = REBOOT + 1, ENCLAVE_CALL, ENCLAVE_STOP, ENCLAVE_TICK };
 
+/* The registers of a host or an enclave, where trap.S saves and loads them. In x0's place is the hart that its world runs on. */
+struct registers {
+    union {
+        struct world *hart;
+        uint64_t x[32];
+    };
+    uint64_t pc;
+};
+
 /* What there is of each hart. */
 struct world {
-    uint8_t stack[1616];         /* its own, which ends where the registers begin */
-    uint64_t x[32];              /* of its world; x[0]'s place is free */
-    uint64_t pc, cause, value;   /* where its world goes on, and what the last trap told */
+    uint8_t stack[1872];         /* its own, which ends where the rest begins */
+    struct registers *registers; /* of its world */
+    uint64_t cause, value;       /* what the last trap told */
     volatile uint32_t is_out;    /* the hart is not halted: its world may run */
     volatile uint32_t is_wanted; /* it is to leave the place where it is parked */
     uint32_t last_number;        /* of the lock */
@@ -38,8 +47,15 @@ struct world {
     const struct bank *bank; /* the list of its world */
 } __attribute__((aligned(16)));
 extern struct world worlds[MOST_HARTS];
-_Static_assert(sizeof(struct world) == 1 << 11 && offsetof(struct world, x) == 1616, "trap.S counts on it");
-_Static_assert(offsetof(struct world, is_out) == 1616 + 35 * 8, "trap.S counts on it");
+_Static_assert(sizeof(struct world) == 1 << 11 && offsetof(struct world, registers) == 1872, "trap.S counts on it");
+_Static_assert(offsetof(struct world, is_out) == 1872 + 3 * 8, "trap.S counts on it");
+
+/* Where what is kept for a host or an enclave has its place: first those of the hosts of the harts, then enclaves by their number. */
+#define MOST_WORLDS (MOST_HARTS + MOST_ENCLAVES)
+static inline uint64_t place_of(uint64_t hart, uint64_t world)
+{
+    return world ? MOST_HARTS - 1 + world : hart;
+}
 
 /* trap.S: the hart that calls lets go of the monitor and runs its world until a trap needs the monitor, or is parked until another
    hart wants it. The monitor goes on as the next hart that comes, whose struct world is told. `instructions` counts since the hart
@@ -84,6 +100,13 @@ int serve_alone(struct world *world);
 /* What is done with an answer, and with the end, beside loading it. */
 void answered(const struct answer_frame *answer);
 _Noreturn void ended(const struct end_frame *end);
+
+/* registers.c: the registers of hosts and enclaves, by their places. */
+extern struct registers register_sets[MOST_WORLDS];
+/* A set as a world begins: all zero but the pc and a0. */
+void registers_begin(struct registers *set, uint64_t pc, uint64_t a0);
+/* What an answer says of them is done. */
+void registers_change(const struct answer_frame *answer);
 
 /* control.c: the registers of machine and supervisor mode that decide what a world can do, read for a frame and written from
    one on the hart that calls. */

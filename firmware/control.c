@@ -138,15 +138,15 @@ void control_to_handler(struct world *world)
 {
     uint64_t status = READ(mstatus), handler = READ(stvec);
     uint64_t before = (status & SIE ? SPIE : 0) | (status & MPP_SUPERVISOR ? SPP : 0);
-    WRITE(sepc, world->pc);
+    WRITE(sepc, world->registers->pc);
     WRITE(scause, world->cause);
     WRITE(stval, world->value);
     WRITE(mstatus, (status & ~(SIE | SPIE | SPP | MPP | MPV)) | before | MPP_SUPERVISOR);
     if (!lacks[this_hart()][NUMBER_hstatus])
         WRITE(0x600, (READ(0x600) & ~SPV) | (status & MPV ? SPV : 0));
-    world->pc = handler & ~3ul;
+    world->registers->pc = handler & ~3ul;
     if (handler & 1 && world->cause & INTERRUPT)
-        world->pc += 4 * (world->cause & ~INTERRUPT);
+        world->registers->pc += 4 * (world->cause & ~INTERRUPT);
 }
 
 /* The hart has run no world, or the host stopped it: the host will be the next, in supervisor mode. mstatus comes last: a look at a

@@ -8,12 +8,7 @@
 struct floats {
     uint64_t f[32], fcsr;
 };
-static struct floats sets[MOST_HARTS + MOST_ENCLAVES];
-
-static struct floats *set_of(uint64_t hart, uint64_t world)
-{
-    return &sets[world ? MOST_HARTS - 1 + world : hart];
-}
+static struct floats sets[MOST_WORLDS];
 
 /* What a hart has of them. Where floats are in its integer registers (Zfinx) it has fcsr alone, which no FS closes. */
 enum { NONE, FCSR_ALONE, SINGLES, DOUBLES };
@@ -60,14 +55,14 @@ void floats_change(struct world *self, uint64_t world)
         if (!self->number || (status & FLOATS_DIRTY) == FLOATS_DIRTY)
             keep(self, left);
     }
-    self->floats = set_of(this_hart(), world);
+    self->floats = &sets[place_of(this_hart(), world)];
     load(self);
 }
 
 void floats_begin(uint64_t enclave)
 {
     if (LEAVE_FLOATS != ZEROS)
-        memset(set_of(0, enclave), 0, sizeof(struct floats));
+        memset(&sets[place_of(0, enclave)], 0, sizeof(struct floats));
 }
 
 /* What a hart has is found by trying. Its host begins with zeros. */
@@ -83,7 +78,7 @@ void floats_at_start(struct world *self)
         self->floats_kind = FCSR_ALONE;
     else
         self->floats_kind = DOES(".option push\n .option arch, +d\n fmv.x.d t1, f0\n .option pop\n") ? DOUBLES : SINGLES;
-    self->floats = set_of(this_hart(), 0);
+    self->floats = &sets[place_of(this_hart(), 0)];
     memset(self->floats, 0, sizeof(struct floats));
     if (self->floats_kind)
         load(self);

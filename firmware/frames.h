@@ -35,9 +35,9 @@ struct control_words {
     uint64_t status, satp, mie, scounteren, senvcfg, hstatus, medeleg, mideleg, mode;
 };
 
-/* Read for each trap: a call, or what stops an enclave, an interrupt or a thing that it may not do. */
+/* Read for each trap: a call, or what stops an enclave, an interrupt or a thing that it may not do. call[0] is a0. */
 struct trap_frame {
-    uint64_t tag, hart, pc, x[31], control_tag;
+    uint64_t tag, hart, call[8], control_tag;
     struct control_words control;
 };
 
@@ -52,10 +52,19 @@ struct bank {
     uint64_t used, cfg[8], addr[64];
 };
 
+/* What becomes of a register set: that of an enclave by its number, or where `whose` is 0 that of the host of the answer's hart. The
+   pc goes past a call; two words are put into a0 and a1; all is zero but the pc and a0, `first` and `whose`; or all is zero. */
+enum { NO_CHANGE, PAST_CALL, TWO_WORDS, FIRST_ENTRY, ALL_ZERO };
+struct set_change {
+    uint64_t kind, whose, first, second;
+};
+
 /* Written: with what a hart goes on, and after it the lists of entries that are new, of which it is list_count: the host's, and that
-   of the enclave that was made, whose number is the value. x[0] is x1. */
+   of the enclave that was made, whose number is the value. The changes are made in their order. */
 struct answer_frame {
-    uint64_t tag, hart, world, status, value, used, zero_first, zero_count, wake, list_count, pc, x[31], control_tag;
+    uint64_t tag, hart, world, status, value, used, zero_first, zero_count, wake, list_count;
+    struct set_change changes[3];
+    uint64_t control_tag;
     struct control_words control;
     struct bank lists[2];
 };
@@ -71,8 +80,8 @@ struct end_frame {
 };
 
 _Static_assert(sizeof(struct platform_frame) == 1336, "167 words");
-_Static_assert(sizeof(struct trap_frame) == 352, "44 words");
+_Static_assert(sizeof(struct trap_frame) == 160, "20 words");
 _Static_assert(sizeof(struct page_frame) == 4112, "514 words");
-_Static_assert(offsetof(struct answer_frame, lists) == 416, "52 words");
-_Static_assert(sizeof(struct answer_frame) == 416 + 2 * 584, "and 73 for each list");
+_Static_assert(offsetof(struct answer_frame, lists) == 256, "32 words");
+_Static_assert(sizeof(struct answer_frame) == 256 + 2 * 584, "and 73 for each list");
 #endif

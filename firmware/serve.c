@@ -9,8 +9,8 @@ struct bank host_bank;
 static uint64_t enclave_banks[MOST_ENCLAVES + 1][9 + ENTRIES];
 
 /* A hart begins with the host's entries and with fences, and hart 0 alone with the lock. */
-struct world worlds[MOST_HARTS] = {{.is_stale = 1, .bank = &host_bank},
-                                   [1 ... MOST_HARTS - 1] = {.is_stale = 1, .bank = &host_bank, .last_number = ~0u}};
+#define AT_START(hart) {.registers = &register_sets[hart], .is_stale = 1, .bank = &host_bank, .last_number = (hart) ? ~0u : 0}
+struct world worlds[MOST_HARTS] = {AT_START(0), AT_START(1), AT_START(2), AT_START(3)};
 
 static enum { PLATFORM, TRAP, PAGES } next = PLATFORM;
 static uint64_t next_page, pages_left;
@@ -40,12 +40,11 @@ static int is_aligned(const void *at)
 static int64_t read_trap(void *to)
 {
     struct trap_frame *frame = is_aligned(to) ? to : (void *)words;
-    unsigned hart;
+    const struct world *world;
     frame->tag = next_trap();
-    hart = this_hart();
-    frame->hart = hart;
-    frame->pc = worlds[hart].pc;
-    copy_words(frame->x, worlds[hart].x + 1, 31);
+    frame->hart = this_hart();
+    world = &worlds[frame->hart];
+    copy_words(frame->call, world->registers->x + 10, 8);
     frame->control_tag = TAG_CONTROL;
     control_read(&frame->control);
     if (!is_aligned(to))
@@ -114,9 +113,11 @@ static void change_lists(const struct answer_frame *answer)
 }
 
 /* No world reaches the pages that are made zero: they were an enclave's, and are closed to the host until its entries change. */
-static int64_t written_answer(const struct answer_frame *answer)
+static int64_t written_answer(const struct answer_frame *answer, uint64_t n)
 {
     struct world *world = &worlds[answer->hart];
+    if (answer->list_count > 2 || n != offsetof(struct answer_frame, lists) + answer->list_count * sizeof answer->lists[0])
+        return -1;
     if (answer->zero_count) {
         make_zero(answer->zero_first, answer->zero_count);
         private_end(answer->zero_first, answer->zero_count);
@@ -129,11 +130,10 @@ static int64_t written_answer(const struct answer_frame *answer)
         control_write(&answer->control);
         world->is_stale = 1;
     }
-    world->pc = answer->pc;
-    copy_words(world->x + 1, answer->x, 31);
+    registers_change(answer);
     world->number = answer->world;
     answered(answer);
-    return (int64_t)(offsetof(struct answer_frame, lists) + answer->list_count * sizeof answer->lists[0]);
+    return (int64_t)n;
 }
 
 /* An answer has made an enclave, whose number its hart finds in a1. Its pages are asked for while other harts run. */
@@ -142,7 +142,7 @@ static int64_t written_measure(const struct measure_frame *asked)
     next = PAGES;
     next_page = asked->first;
     pages_left = asked->count;
-    floats_begin(worlds[this_hart()].x[11]);
+    floats_begin(worlds[this_hart()].registers->x[11]);
     private_begin(asked->first, asked->count);
     return sizeof *asked;
 }
@@ -156,7 +156,7 @@ int64_t write(uint64_t descriptor, const void *from, uint64_t n)
         from = memcpy(words, from, n);
     tag = *(const uint64_t *)from;
     if (tag == TAG_ANSWER)
-        return written_answer(from);
+        return written_answer(from, n);
     if (tag == TAG_MEASURE && n == sizeof(struct measure_frame))
         return written_measure(from);
     if (tag == TAG_END && n == sizeof(struct end_frame))

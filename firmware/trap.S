@@ -5,25 +5,26 @@
  * once its registers of protection are loaded. The hart whose world traps next, or the next to come by the lock, goes on
  * with the monitor where the last one left it: it returns from that call of run_world, with its own struct world. A trap that
  * changes nothing of the monitor's a hart serves alone, without the lock and on a stack of its own (serve_alone). mscratch has the
- * hart's struct world while its world runs, and zero otherwise: so a trap of the monitor itself is told from a world's.
+ * register set of the world that runs, whose first word has the hart's struct world, and zero while none runs: so a trap of the
+ * monitor itself is told from a world's.
  */
-    .equ    X, 1616             # of a struct world: the end of the hart's own stack, and its registers
-    .equ    PC, X + 32 * 8
-    .equ    CAUSE, PC + 8
-    .equ    VALUE, PC + 16
-    .equ    IS_OUT, PC + 24
-    .equ    IS_WANTED, PC + 28
-    .equ    NUMBER, PC + 32
+    .equ    PC, 32 * 8          # of a register set
+    .equ    REGISTERS, 1872     # of a struct world: the end of the hart's own stack, and where the set of its world is
+    .equ    CAUSE, REGISTERS + 8
+    .equ    VALUE, REGISTERS + 16
+    .equ    IS_OUT, REGISTERS + 24
+    .equ    IS_WANTED, REGISTERS + 28
+    .equ    NUMBER, REGISTERS + 32
     .equ    CALLED, 4           # of the lock
     .equ    SLEEPERS, 8
     .equ    MONITOR_SP, 16
     .equ    SAVED, 14 * 8
     .equ    CLINT, 0x2000000    # its first words: a software interrupt for each hart
 
-/* Registers x1 to x30 of the world that x31 points to. */
+/* Registers x1 to x30, in the set that x31 points to. */
     .macro  all what
     .irp    n, 1, 2, 3, 4, 5, 6, 7, 8, 9, 10, 11, 12, 13, 14, 15, 16, 17, 18, 19, 20, 21, 22, 23, 24, 25, 26, 27, 28, 29, 30
-    \what   x\n, X + 8 * \n(x31)
+    \what   x\n, 8 * \n(x31)
     .endr
     .endm
     .macro  callee_saved what
@@ -86,13 +87,14 @@ run_world:
 /* From here on nothing of the monitor's is used but this hart's own: another hart may go on with it. */
     mv      s0, a0
 enter_world:
-    ld      t0, PC(s0)
+    ld      x31, REGISTERS(s0)
+    sd      s0, (x31)
+    ld      t0, PC(x31)
     csrw    mepc, t0
     sc.d    zero, zero, (s0)    # into the lowest word of the hart's stack, so that no reservation of another world is left
-    mv      x31, s0
     all     ld
     csrw    mscratch, x31
-    ld      x31, X + 8 * 31(x31)
+    ld      x31, 8 * 31(x31)
     mret
 
 /*
@@ -128,18 +130,18 @@ trap:
     beqz    x31, died           # the monitor itself trapped
     all     sd
     csrrw   t0, mscratch, zero
-    sd      t0, X + 8 * 31(x31)
+    sd      t0, 8 * 31(x31)
     csrr    t0, mepc
     sd      t0, PC(x31)
+    ld      s0, (x31)
     csrr    t0, mcause
-    sd      t0, CAUSE(x31)
+    sd      t0, CAUSE(s0)
     csrr    t0, mtval
-    sd      t0, VALUE(x31)
+    sd      t0, VALUE(s0)
     csrr    t0, mstatus
     slli    t0, t0, 63 - 12     # of machine mode (MPP 3) no world is: the monitor trapped as it entered one
     bltz    t0, died
-    mv      s0, x31
-    addi    sp, s0, X
+    addi    sp, s0, REGISTERS
     mv      a0, s0
     call    serve_alone
     bnez    a0, enter_world
@@ -159,7 +161,7 @@ died:
     la      t0, died
     csrw    mtvec, t0
     own_world sp
-    addi    sp, sp, X
+    addi    sp, sp, REGISTERS
     csrr    a0, mcause
     csrr    a1, mepc
     csrr    a2, mtval

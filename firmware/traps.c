@@ -71,19 +71,17 @@ static inline void act(struct world *world)
     case PUT_BYTE:
         put_char((char)action->subject);
     }
-    world->x[10] = action->error;
-    world->x[11] = action->value;
-    world->pc += 4;
+    world->registers->x[10] = action->error;
+    world->registers->x[11] = action->value;
+    world->registers->pc += 4;
 }
 
 /* It waits in park. The host's list may change meanwhile, and is loaded before it starts. */
 static void start_hart(const struct action *action)
 {
     struct world *world = &worlds[action->subject];
-    memset(world->x, 0, sizeof world->x);
-    world->pc = action->address;
-    world->x[10] = action->subject;
-    world->x[11] = action->opaque;
+    registers_begin(world->registers, action->address, action->subject);
+    world->registers->x[11] = action->opaque;
     world->is_stale = 1;
     unpark(action->subject);
 }
@@ -111,7 +109,7 @@ static void act_with_lock(struct world *world)
 
 static void decide(struct world *world, struct harts *states)
 {
-    pmpmon_decide(world->number, world->cause, world->x + 10, &world->caller, host_bank.cfg, states, &world->action);
+    pmpmon_decide(world->number, world->cause, world->registers->x + 10, &world->caller, host_bank.cfg, states, &world->action);
 }
 
 /* Another hart may start or stop one meanwhile, so the states are a copy, and what changes them is decided anew with the lock. */
@@ -179,9 +177,8 @@ void answered(const struct answer_frame *answer)
         return;
     is_booted = 1;
     begin(host);
-    host->pc = HOST_ENTRY;
-    host->x[10] = answer->hart;
-    host->x[11] = device_tree;
+    registers_begin(host->registers, HOST_ENTRY, answer->hart);
+    host->registers->x[11] = device_tree;
     start_others();
 }
 

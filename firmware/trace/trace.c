@@ -49,7 +49,7 @@ static void set_words(struct world *world)
 {
     static const unsigned order[] = {17, 16, 10, 11, 12, 13, 14, 15};
     for (uint64_t i = 0; i < now->count; i++)
-        world->x[order[i]] = now->words[i];
+        world->registers->x[order[i]] = now->words[i];
 }
 
 /* Does an event that the monitor has not to know of. */
@@ -60,7 +60,7 @@ static int is_done(void)
     switch (now->kind) {
     case REG:
         if (now->size)
-            world->x[now->size] = now->value;
+            world->registers->x[now->size] = now->value;
         put_front();
         put(" ok\n");
         return 1;
@@ -120,9 +120,10 @@ uint64_t next_trap(void)
             return trapped_as(TAG_STOP);
         }
         set_words(world);
-        asked[0] = world->x[16];
-        asked[1] = world->x[10];
-        asked[2] = world->x[11] + world->x[12];
+        const uint64_t *x = world->registers->x;
+        asked[0] = x[16];
+        asked[1] = x[10];
+        asked[2] = x[11] + x[12];
         do_ecall();
         return trapped_as(TAG_CALL);
     }

@@ -80,21 +80,21 @@ static uint64_t place_apart(uint64_t address, uint64_t size)
     return place;
 }
 
-/* The world of this hart executes at a place in some mode until it traps; what trapped is left in *world. */
-static void execute(struct world *world, uint64_t place, uint64_t mode)
+/* The world of this hart executes at a place in some mode, with these registers in place of its own, until it traps: for which cause. */
+static uint64_t execute(struct registers *registers, uint64_t place, uint64_t mode)
 {
-    struct world *self = &worlds[this_hart()], kept = *self;
+    struct world *self = &worlds[this_hart()];
+    struct registers *own = self->registers;
     uint64_t status = READ(mstatus);
-    copy_words(self->x, world->x, 32);
-    self->pc = place;
+    registers->pc = place;
+    self->registers = registers;
     WRITE(mstatus, (status & ~MODE) | mode);
     self->is_stale = 1; /* what it executes was written just now */
     load_changes(self);
     run_world(self);
     WRITE(mstatus, status);
-    *world = *self;
-    copy_words(self->x, kept.x, 32);
-    self->pc = kept.pc;
+    self->registers = own;
+    return self->cause;
 }
 
 /* A trace's traps are all looked at. */
@@ -105,10 +105,10 @@ int serve_alone(struct world *world)
 }
 
 /* Every register that the instruction does not name is as it was handed out. */
-static void same_registers(const struct world *world, int all)
+static void same_registers(const struct registers *registers, int all)
 {
     for (unsigned n = 1; n < 32; n++)
-        if ((all || (n != VALUE && n != ADDRESS)) && world->x[n] != worlds[this_hart()].x[n])
+        if ((all || (n != VALUE && n != ADDRESS)) && registers->x[n] != worlds[this_hart()].registers->x[n])
             wrong("a register is not as it was:", n);
 }
 
@@ -125,21 +125,22 @@ static int64_t load_or_store(const struct event *event, uint64_t *loaded)
     uint64_t place = place_apart(event->address, event->size);
     volatile uint32_t *code = (volatile uint32_t *)place;
     uint32_t first = code[0], second = code[1];
-    struct world world = worlds[this_hart()];
-    world.x[VALUE] = event->value;
-    world.x[ADDRESS] = event->address;
+    struct registers registers = *worlds[this_hart()].registers;
+    uint64_t cause;
+    registers.x[VALUE] = event->value;
+    registers.x[ADDRESS] = event->address;
     code[0] = instruction_for(event);
     code[1] = EBREAK;
-    execute(&world, place, event->mode ? SUPERVISOR : 0);
+    cause = execute(&registers, place, event->mode ? SUPERVISOR : 0);
     code[0] = first;
     code[1] = second;
-    same_registers(&world, 0);
-    *loaded = world.x[VALUE];
-    if (world.cause == CAUSE_BREAKPOINT && world.pc == place + 4)
+    same_registers(&registers, 0);
+    *loaded = registers.x[VALUE];
+    if (cause == CAUSE_BREAKPOINT && registers.pc == place + 4)
         return -1;
-    if (world.pc != place || world.value != event->address)
-        wrong("an access trapped otherwise:", world.cause);
-    return (int64_t)world.cause;
+    if (registers.pc != place || worlds[this_hart()].value != event->address)
+        wrong("an access trapped otherwise:", cause);
+    return (int64_t)cause;
 }
 
 /* A fetch: in memory that is not the monitor's it meets a breakpoint, and elsewhere what is there. */
@@ -149,22 +150,23 @@ static int64_t fetch(const struct event *event)
     int is_planted = is_in_ram(address, event->size) && !is_in_range(address, platform->monitor_base, platform->monitor_size);
     volatile uint16_t *code = (volatile uint16_t *)address;
     uint16_t first = is_planted ? code[0] : 0, second = is_planted && event->size == 4 ? code[1] : 0;
-    struct world world = worlds[this_hart()];
+    struct registers registers = *worlds[this_hart()].registers;
+    uint64_t cause;
     if (is_planted) {
         code[0] = event->size == 4 ? (uint16_t)EBREAK : EBREAK_SHORT;
         if (event->size == 4)
             code[1] = (uint16_t)(EBREAK >> 16);
     }
-    execute(&world, address, event->mode ? SUPERVISOR : 0);
+    cause = execute(&registers, address, event->mode ? SUPERVISOR : 0);
     if (is_planted) {
         code[0] = first;
         if (event->size == 4)
             code[1] = second;
     }
-    same_registers(&world, 1);
-    if (world.cause == CAUSE_BREAKPOINT && world.pc == address)
+    same_registers(&registers, 1);
+    if (cause == CAUSE_BREAKPOINT && registers.pc == address)
         return -1;
-    return (int64_t)world.cause;
+    return (int64_t)cause;
 }
 
 /* A hart may do an access that is off a multiple of its size; the model says that it is misaligned, before all else. */
@@ -182,14 +184,15 @@ static uint64_t one_instruction(uint32_t instruction)
     uint64_t place = place_apart(0, 0);
     volatile uint32_t *code = (volatile uint32_t *)place;
     uint32_t first = code[0];
-    struct world world = worlds[this_hart()];
+    struct registers registers = *worlds[this_hart()].registers;
+    uint64_t cause;
     code[0] = instruction;
-    execute(&world, place, READ(mstatus) & MODE);
+    cause = execute(&registers, place, READ(mstatus) & MODE);
     code[0] = first;
-    same_registers(&world, 1);
-    if (world.pc != place)
-        wrong("an instruction trapped elsewhere:", world.pc);
-    return world.cause;
+    same_registers(&registers, 1);
+    if (registers.pc != place)
+        wrong("an instruction trapped elsewhere:", registers.pc);
+    return cause;
 }
 
 void do_ecall(void)

@@ -182,7 +182,7 @@ def largest(folder):
 
 
 def most_taken(on_hart, folder, told):
-    """What a life takes on a small platform and on the board's own, whose map is a deeper tree: less than 32 KiB of stack, 64 KiB of heap."""
+    """What a life takes on a small platform and on the board's own, whose map is a deeper tree: less than 24 KiB of stack, 36 KiB of heap."""
     trace, most = folder / "most.trace", {}
     trace.write_text(LIFE)
     for platform in (platform_with(folder, 1), FIRMWARE / "platform.toml"):
@@ -190,13 +190,13 @@ def most_taken(on_hart, folder, told):
         for it in notes.splitlines():
             most[it.split()[1]] = max(most.get(it.split()[1], 0), int(it.split()[2]))
     numbers = f"stack {most['stack']}, heap {most['heap']} bytes; instructions {most['other']} of a switch, {most['owning']} until a creation is answered"
-    told(f"the monitor's most: {numbers}", most["stack"] < 32768 and most["heap"] < 65536 and most["other"] < 1590)
+    told(f"the monitor's most: {numbers}", most["stack"] < 24576 and most["heap"] < 36864 and most["other"] < 840)
     # (a hart of QEMU has sixteen entries, and loads the first sixteen of what a boot on 64 answers)
     trace.write_text("")
     on_hart.platform_of = lambda path: ({"harts": 4}, 128)
     _, notes, _ = on_hart.report_of(largest(folder), trace, has_notes=True)
     most = {it.split()[1]: int(it.split()[2]) for it in notes.splitlines() if it.startswith("note ")}
-    told(f"a boot on the largest platform: {notes.replace(chr(10), ', ')}", most and most["stack"] < 32768 and most["heap"] < 163840)
+    told(f"a boot on the largest platform: {notes.replace(chr(10), ', ')}", most and most["stack"] < 24576 and most["heap"] < 135168)
 
 
 def booted(image, payload, harts, *more, seconds=240):
@@ -234,9 +234,10 @@ def worlds(folder, told):
         said = booted(folder / name / "pmpmon-virt.elf", race, 2)
         told(f"{name} the stop of other harts, a page that became an enclave's {want.strip()}", said == want, said if said != want else "")
     said = booted(folder / "with/pmpmon-virt.elf", host(folder / "two_hosts.elf", "sbi_host.S", "two_hosts.S", "two_hosts.c"), 2)
-    told("two harts enter two enclaves, and each host has its own words", said == "both harts were in an enclave: 1\nwrong 0\n", said)
+    told("two harts enter two enclaves, and each host has its own words", said == TWO_HOSTS, said)
     sbi(folder / "with/pmpmon-virt.elf", folder, told)
     payloads = [host(folder / f"reset-{it}.elf", "harts.S", "reset_enclave.S", "reset.c", flags=(f"-DHARTS={it}",)) for it in (1, 2)]
+    sets(folder, told)
     floats(folder, told)
     devices(folder, told)
     storm(folder, told)
@@ -247,6 +248,8 @@ def worlds(folder, told):
     hostile(folder, told)
 
 
+# What a host of two harts finds that enter two enclaves.
+TWO_HOSTS = "both harts were in an enclave: 1\nwrong 0\n"
 # What an enclave reads of the counters, where its host lets its own programs read them.
 CLOCK = "time, let in: it is now 1\ntime, let in with all: it is now 1\ntime, kept out: cause 2\ntime, kept out alone: cause 2\n"
 CLOCK += "cycles, let in: cause 2\ninstructions, let in: cause 2\n"
@@ -269,6 +272,43 @@ def floats(folder, told):
         built(folder / "two.toml", folder / f"floats-{left}", f"-DLEAVE_FLOATS={left}")
         said = booted(folder / f"floats-{left}/pmpmon-virt.elf", payloads["d"], 2)
         told(f"without {name} others come out", want in said, said if want not in said else "")
+
+
+# What a host and two enclaves find that have numbers of their own in their registers.
+SETS = "made 1\nmade 2\nrun 1: 1 0\nrun 2: 1 0\nresume 1: 0 256\nrun what has exited 1: -111 0\nresume 2: 0 512\ndestroy 1: 0 0\nmade 1\n"
+SETS += "run 1: 1 0\ndestroy what has stopped 1: 0 0\nmade 1\nrun 1: 1 0\nresume 1: 0 256\nwrong 0\n"
+# A build for a try leaves out a kind of change of a register set, all zeros, or whose set is which (firmware/registers.c).
+NO_PAST_CALL, NO_TWO_WORDS, NO_FIRST_ENTRY, NO_ZERO_AT_END, NO_ZERO, ONE_ENCLAVES, ONE_HOSTS = range(1, 8)
+REGISTERS_LEFT_OUT = {NO_PAST_CALL: ("the way past a call", "the board did not end"), NO_TWO_WORDS: ("a0 and a1 of an answer", "run 1: 1 1\n")}
+REGISTERS_LEFT_OUT |= {NO_FIRST_ENTRY: ("a first entry", "resume 1: 1 0\n"), NO_ZERO: ("the zeros of a set", "run 1: 0 7\n")}
+REGISTERS_LEFT_OUT |= {ONE_ENCLAVES: ("a set of each enclave", "resume 1: 1 0\n")}
+
+
+def sets_of(image, payload):
+    """What a board says on which two enclaves have exited, and whether nothing of their registers is left in the monitor's memory."""
+    with Wired(image, payload, 1) as board:
+        board.has_ended(20)
+        # (after the sets of four hosts, of x1 to x31 and the program counter)
+        left = [board.word(symbol(image, "register_sets") + 264 * (4 + enclave) + 8 * word) for enclave in (0, 1) for word in range(1, 33)]
+    return board.said, not any(left)
+
+
+def sets(folder, told):
+    """Registers of a host and its enclaves; and builds in which something of them is left out."""
+    payload = host(folder / "sets.elf", "harts.S", "sets.S", "sets.c")
+    said, is_zero = sets_of(FIRMWARE / "out/pmpmon-virt.elf", payload)
+    told("a host and two enclaves have registers of their own, which an enclave begins with zeros", said == SETS, said if said != SETS else "")
+    told("nothing of the registers of an enclave that exited is left in the monitor's memory", is_zero)
+    for left, (name, want) in REGISTERS_LEFT_OUT.items():
+        built(FIRMWARE / "platform.toml", folder / f"sets-{left}", f"-DLEAVE_REGISTERS={left}")
+        said = booted(folder / f"sets-{left}/pmpmon-virt.elf", payload, 1, seconds=10)
+        told(f"without {name} others come out", want in said, said if want not in said else "")
+    built(FIRMWARE / "platform.toml", folder / "sets-end", f"-DLEAVE_REGISTERS={NO_ZERO_AT_END}")
+    said, is_zero = sets_of(folder / "sets-end/pmpmon-virt.elf", payload)
+    told("without the zeros at an enclave's end its registers are left there, and no other enclave finds them", said == SETS and not is_zero)
+    built(folder / "two.toml", folder / "sets-hosts", f"-DLEAVE_REGISTERS={ONE_HOSTS}")
+    said = booted(folder / "sets-hosts/pmpmon-virt.elf", folder / "two_hosts.elf", 2, seconds=10)
+    told("without a set of the host of each hart two hosts go wrong", said != TWO_HOSTS, said if said == TWO_HOSTS else "")
 
 
 def boards(folder, told):
@@ -409,7 +449,7 @@ def races(folder, told):
     right = len(counts) == 4 and "odd" not in said and min(counts.values()) > counts[255] // 4
     told("an enclave that calls for ever takes no other hart's time", right, " ".join(f"{it}: {n}" for it, n in counts.items()) if right else said)
     said = booted(FIRMWARE / "out/pmpmon-virt.elf", host(folder / "pause.elf", "harts.S", "two_hosts.S", "pause.c"), 1, *kind(16), "-icount", "shift=0")
-    most = {"create": 16 * 280000, "destroy": 80000, "base": 210, "measure": 1750, "resume": 3450}
+    most = {"create": 16 * 265000, "destroy": 63000, "base": 205, "measure": 950, "resume": 2120}
     taken = {name: int(n) for name, n in re.findall(r"(\w+) (\d+)\n", said)}
     right = taken.pop("error", 1) == 0 and taken.keys() == most.keys() and all(taken[it] < most[it] for it in most)
     told("instructions of a creation of 16 pages, its destruction, calls for SBI's base and a digest, and a resume and stop", right, said.replace("\n", " "))

@@ -58,7 +58,7 @@ def resets(images, payloads, told):
     rows += [("a warm reboot", asked_for, (images[0], payloads[0], 1, WARM))]
     rows += [("a store to the finisher", asked_for, (images[0], payloads[0], 1, FINISHER, "the finisher: fault 7\n"))]
     # (in run_world the hart has the lock and is no longer halted; past the place of mscratch in enter_world a trap goes the way of a world's)
-    for function, offset in (("load_changes", 0), ("serve_alone", 0), ("run_world", 0), ("enter_world", 14), ("enter_world", 138)):
+    for function, offset in (("load_changes", 0), ("serve_alone", 0), ("run_world", 0), ("enter_world", 20), ("enter_world", 144)):
         rows += [(f"a fatal end in {function} + {offset}, {harts} harts", fatal, (images[harts - 1], payloads[harts - 1], harts, function, offset)) for harts in (1, 2)]
     with ThreadPoolExecutor(max_workers=3) as boards:
         for (name, _, _), (right, why) in zip(rows, boards.map(lambda it: it[1](*it[2]), rows)):
