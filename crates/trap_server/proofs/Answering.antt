@@ -80,8 +80,8 @@ stop_served (Ok done) Are trap old new hosts kept given changes before held hold
       λ sets there. record {
         given = given;
         words = words;
-        step = subst (λ (e : TrapEvent). ServesAs e (with_sets old sets) trap given changes [] [] bytes (with_sets new (changed trap.hart changes sets))) (sym is)
-            (served bytes wrote.1 sets);
+        step = subst (λ (e : TrapEvent). ServesAs e (with_sets old sets) trap given changes [] [] bytes (with_sets new (changed trap.hart changes sets)))
+            (sym is) (served bytes wrote.1 sets);
       },
       said bytes wrote.1,
       awake,

@@ -239,7 +239,8 @@ pub fn put_front(
 pub fn put_list(frame: &mut AnswerBytes, from: usize, entries: &[Entry])
     requires few { length entries.now ≤ 64 }
     requires inside { from + 73 ≤ 178 }
-    ensures { take (8 * from + 584) frame.new ≡ take (8 * from) frame.old ++ list_bytes entries.now }
+    ensures { take (8 * from + 584) frame.new
+        ≡ take (8 * from) frame.old ++ list_bytes entries.now }
 {
     put_word(frame, from, entries.len() as u64);
     put_configuration(frame, 8 * from + 8, entries);
