@@ -134,8 +134,8 @@ cleared n = record { kind = kinds.Clear; enclave = n; first = 0; second = 0 }
 abbrev begun : ℕ → ℕ → SetChange
 begun n pc = record { kind = kinds.Begin; enclave = n; first = pc; second = 0 }
 
-abbrev then : SetChange → SetChange → SetChange → SetChanges
-then first second third = record { first = first; second = second; third = third }
+abbrev in_turn : SetChange → SetChange → SetChange → SetChanges
+in_turn first second third = record { first = first; second = second; third = third }
 
 -- a call of the world on a hart, on a state that has a table, worlds and marks, and any register sets of the harts' worlds. The
 -- model's state has other registers, and the same of each that runs on no other hart
@@ -184,7 +184,7 @@ module _ (digests : Create → List ℕ) (table : EnclaveTable) (worlds : ℕ �
   past_regs sets = passed_is hart (passed n) sets who refl own
 
   -- and are answered there
-  told_regs : (first second : ℕ) (sets : Runner → RegisterFile) → changed hart (then (passed n) (put_words n first second) no_change) sets
+  told_regs : (first second : ℕ) (sets : Runner → RegisterFile) → changed hart (in_turn (passed n) (put_words n first second) no_change) sets
       ≡ (answering (t sets) hart first second).registers
   told_regs first second sets = ap (change hart (put_words n first second)) (past_regs sets)
       ∙ answered_is hart (put_words n first second) (t sets).registers who n first second refl own
@@ -195,14 +195,14 @@ module _ (digests : Create → List ℕ) (table : EnclaveTable) (worlds : ℕ �
       → DoesCall call (λ parts. digest_by digests (asked_in call)) (t sets) hart answer zero z)
       → IsAlone harts hart s → Follows harts hart s (t actual) → new ≡ answering s hart first second → Followed call
   told call first second does alone f is =
-      given call (λ sets. answering (t sets) hart first second) (then (passed n) (put_words n first second) no_change)
+      given call (λ sets. answering (t sets) hart first second) (in_turn (passed n) (put_words n first second) no_change)
       (λ sets. ap (with_sets (answering (t none) hart first second)) (told_regs first second sets)) does
       (after harts hart new _ _ is (answered harts hart s (t actual) first second alone f))
 
   -- the host goes on, of a hart whose sets are these
   back_same : (m : (Runner → RegisterFile) → MonitorState) (second third : SetChange) (first word : ℕ) (sets : Runner → RegisterFile)
       → third ≡ put_words 0 first word → change hart second (t sets).registers ≡ (m sets).registers
-      → record (in_world (m sets) hart Host) { registers = changed hart (then (passed n) second third) sets } ≡ back_to_host (m sets) hart first word
+      → record (in_world (m sets) hart Host) { registers = changed hart (in_turn (passed n) second third) sets } ≡ back_to_host (m sets) hart first word
   back_same m second third first word sets is regs =
       ap (λ r. record (in_world (m sets) hart Host) { registers = change hart third r }) (ap (change hart second) (past_regs sets) ∙ regs)
       ∙ back_said (m sets) hart first word third is
@@ -213,7 +213,7 @@ module _ (digests : Create → List ℕ) (table : EnclaveTable) (worlds : ℕ �
   call_follows (Some (calls.Create base text_pages data_pages shared_base shared_count entry_offset)) alone f (inl x) =
       let call = Some (calls.Create base text_pages data_pages shared_base shared_count entry_offset) in
       let that = λ (sets : Runner → RegisterFile). marking_others (answering (record (t sets) { table = x.1 }) hart 0 x.0) hart in
-      given call that (then (passed n) (put_words n 0 x.0) no_change) (λ sets. ap (with_sets (that none)) (told_regs 0 x.0 sets))
+      given call that (in_turn (passed n) (put_words n 0 x.0) no_change) (λ sets. ap (with_sets (that none)) (told_regs 0 x.0 sets))
       (λ sets z is. inl (
         x.0,
         x.1,
@@ -232,7 +232,7 @@ module _ (digests : Create → List ℕ) (table : EnclaveTable) (worlds : ℕ �
       let that = λ (sets : Runner → RegisterFile). marking_others (answering (with_registers (t1 sets) (EnclaveOf id) zeros) hart 0 0) hart in
       let g = x.2.passes.1.0 in
       let low = live_above table.enclaves id g.0 g.1 in
-      given (Some (calls.Destroy id)) that (then (passed n) (cleared id) (put_words n 0 0))
+      given (Some (calls.Destroy id)) that (in_turn (passed n) (cleared id) (put_words n 0 0))
       (λ sets. ap (with_sets (that none)) (ap (λ r. change hart (put_words n 0 0) (change hart (cleared id) r)) (past_regs sets)
       ∙ ap (change hart (put_words n 0 0)) (cleared_is hart (cleared id) (t sets).registers (EnclaveOf id) refl (owner_is hart id low))
       ∙ answered_is hart (put_words n 0 0) (with_set (t sets).registers (EnclaveOf id) zeros) who n 0 0 refl own))
@@ -249,7 +249,7 @@ module _ (digests : Create → List ℕ) (table : EnclaveTable) (worlds : ℕ �
       let file = first_registers id x.0.parts in
       let pc = x.0.parts.base + x.0.parts.entry_offset in
       let that = λ (sets : Runner → RegisterFile). in_world (with_registers (t1 sets) (EnclaveOf id) file) hart (InEnclave id) in
-      given (Some (calls.Run id)) that (then (passed n) (begun id pc) no_change)
+      given (Some (calls.Run id)) that (in_turn (passed n) (begun id pc) no_change)
       (λ sets. ap (with_sets (that none)) (ap (change hart (begun id pc)) (past_regs sets)
       ∙ begun_is hart (begun id pc) (t sets).registers id pc (live_above table.enclaves id x.0 x.2) refl refl refl))
       (λ sets z is. inl (x.0, x.1, x.2, x.3, record { state = is; told = x.4.told; zeroes = x.4.zeroes }))
@@ -261,7 +261,7 @@ module _ (digests : Create → List ℕ) (table : EnclaveTable) (worlds : ℕ �
   call_follows (Some calls.Stop) alone f (inl x) =
       let s1 = record s { table = x.1 } in
       let m = λ (sets : Runner → RegisterFile). answering (record (t sets) { table = x.1 }) hart 0 0 in
-      given (Some calls.Stop) (λ sets. back_to_host (m sets) hart 1 0) (then (passed n) (put_words n 0 0) (put_words 0 1 0))
+      given (Some calls.Stop) (λ sets. back_to_host (m sets) hart 1 0) (in_turn (passed n) (put_words n 0 0) (put_words 0 1 0))
       (λ sets. back_same m (put_words n 0 0) (put_words 0 1 0) 1 0 sets refl
       (answered_is hart (put_words n 0 0) (t sets).registers who n 0 0 refl own))
       (λ sets z is. inl (x.0, x.1, x.2, record { state = is; told = x.3.told; zeroes = x.3.zeroes }))
@@ -273,7 +273,7 @@ module _ (digests : Create → List ℕ) (table : EnclaveTable) (worlds : ℕ �
   call_follows (Some (calls.Resume id)) alone f (inl x) =
       let s1 = record s { table = x.1 } in
       let that = λ (sets : Runner → RegisterFile). in_world (record (t sets) { table = x.1 }) hart (InEnclave id) in
-      given (Some (calls.Resume id)) that (then (passed n) no_change no_change) (λ sets. ap (with_sets (that none)) (past_regs sets))
+      given (Some (calls.Resume id)) that (in_turn (passed n) no_change no_change) (λ sets. ap (with_sets (that none)) (past_regs sets))
       (λ sets z is. inl (x.0, x.1, x.2, x.3, record { state = is; told = x.4.told; zeroes = x.4.zeroes }))
       (after harts hart new _ _ x.4.state (moved harts hart s1 (record (t actual) { table = x.1 }) (InEnclave id) (with_table harts hart s (t actual) x.1 f)))
   call_follows (Some (calls.Resume id)) alone f (inr x) =
@@ -282,7 +282,7 @@ module _ (digests : Create → List ℕ) (table : EnclaveTable) (worlds : ℕ �
       let s1 = record s { table = x.1 } in
       let m = λ (sets : Runner → RegisterFile). with_registers (record (t sets) { table = x.1 }) (EnclaveOf x.0) zeros in
       let low = live_above table.enclaves x.0 x.2.turned.0 x.2.turned.1 in
-      given (Some (calls.Exit value)) (λ sets. back_to_host (m sets) hart 0 value) (then (passed n) (cleared x.0) (put_words 0 0 value))
+      given (Some (calls.Exit value)) (λ sets. back_to_host (m sets) hart 0 value) (in_turn (passed n) (cleared x.0) (put_words 0 0 value))
       (λ sets. back_same m (cleared x.0) (put_words 0 0 value) 0 value sets refl
       (cleared_is hart (cleared x.0) (t sets).registers (EnclaveOf x.0) refl (owner_is hart x.0 low)))
       (λ sets z is. inl (x.0, x.1, x.2, record { state = is; told = x.3.told; zeroes = x.3.zeroes }))
@@ -303,13 +303,13 @@ module _ (digests : Create → List ℕ) (table : EnclaveTable) (worlds : ℕ �
       × Follows harts hart new (with_sets mid (changed hart changes actual))
 
   pub irq_follows : (world : World) → Follows harts hart s (base actual) → Interrupts world s hart new → Interrupted world
-  irq_follows Host f x = (base none, then no_change no_change no_change, λ sets. refl, after harts hart new s (base actual) x f)
+  irq_follows Host f x = (base none, in_turn no_change no_change no_change, λ sets. refl, after harts hart new s (base actual) x f)
   irq_follows (InEnclave id) f x =
       let s1 = record s { table = x.0 } in
       let m = λ (sets : Runner → RegisterFile). record (base sets) { table = x.0 } in
       let same = λ (sets : Runner → RegisterFile). back_said (m sets) hart 1 0 (put_words 0 1 0) refl in (
         back_to_host (m none) hart 1 0,
-        then (put_words 0 1 0) no_change no_change,
+        in_turn (put_words 0 1 0) no_change no_change,
         λ sets. (x.0, x.1, same sets),
         subst (Follows harts hart new) (sym (same actual)) (after harts hart new _ _ x.2 (back harts hart s1 (m actual) 1 0
         (with_table harts hart s (base actual) x.0 f))),

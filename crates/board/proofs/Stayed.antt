@@ -7,11 +7,12 @@ use Rattle.enclave_table.specs.declared.enclave.Enclave.{Enclave}
 use Rattle.monitor_core.specs.States.{MonitorState}
 use Rattle.trap_server.specs.Boot.{IsFirstAnswer}
 use Rattle.trap_server.specs.declared.trap.Trap.{Trap}
-use Rattle.board.specs.Board.{Board, BoardEvent, BoardRun, DoesTrap, HappensOn, access, computed, happened, trapped}
+use Rattle.board.specs.Board.{Board, BoardEvent, BoardRun, DoesTrap, HappensOn, access, computed, happened, saved, trapped}
 use Rattle.board.specs.Headline.{IsPrivateByte}
 use Rattle.board.specs.Stays.{IsNoTrap, KeepsFreshPages, RunsOn, begins, goes_on}
 use Rattle.board.proofs.Boards.{BoardHolds}
 use Rattle.board.proofs.Fresh.{stays_over_access, stays_over_creation}
+use Rattle.board.proofs.Here.{call_there, served_here}
 use Rattle.board.proofs.Made.{Absent}
 use Rattle.board.proofs.New.{new_said}
 
@@ -63,6 +64,8 @@ module _ (law : BoardHolds) (layout : PlatformLayout) (opened : List ℕ) (rules
       let before = law layout opened events old run rules answer in
       let after = happened run (trapped trap frame read question answered) x in
       let k = (law layout opened (events ++ trapped trap frame read question answered ∷ []) mid after rules answer).each.1 in
-      let said = new_said trap.event old.monitor trap x.served.given read question answered mid.monitor before.table x.served.step id e none live in
+      let one = served_here old trap frame read question answered mid x in
+      let said = new_said trap.event (saved old trap) trap one.given x.changes read question answered mid.monitor before.table (call_there old trap) one.step
+      id e none live in
       fresh_stay (events ++ trapped trap frame read question answered ∷ []) mid new after on id byte e (live, own) said.1
       ∙ stays_over_creation old trap frame read question answered mid x k.0 id byte e none live
