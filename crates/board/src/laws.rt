@@ -18,7 +18,8 @@ use trap_server::firmware_law;
 /// pages of an enclave that was destroyed were zero after that trap, and no other byte changed in any. An enclave that was
 /// created has the digest of its private pages as they were in memory, and as they are until it is entered. Each host and
 /// each enclave finds in registers of floating point what it left there, on whichever hart it goes on, and an enclave that
-/// was created finds zeros.
+/// was created finds zeros. It finds in its integer registers what the last trap saved of them, but for what its call is
+/// answered; an enclave that is entered first finds zeros but its number, and one that has ended leaves none.
 pub fn board_law()
     ensures { (layout : PlatformLayout) (opened : List ℕ) (events : List BoardEvent)
         (board : Board) (run : BoardRun layout opened events board)
