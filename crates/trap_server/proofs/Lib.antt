@@ -19,5 +19,6 @@ mod RegistersCame
 mod WorldsStay
 pub mod ListsKept
 mod ListsPut
+mod FramesTold
 mod TrapsKept
 mod Firmware

@@ -12,6 +12,7 @@ use Rattle.monitor_core.specs.States.{MonitorState, running_registers}
 use Rattle.monitor_core.specs.SetChanges.{changed}
 use Rattle.monitor_core.specs.declared.set_changes.SetChanges.{SetChanges}
 use Rattle.trap_server.specs.Sets.{AreThere, with_sets}
+use Rattle.trap_server.specs.Traps.{IsTrapFrame}
 use Rattle.monitor_core.specs.Changes.{past_call, with_running}
 use Rattle.monitor_core.specs.Measured.{IsMade, asked_in}
 use Rattle.monitor_core.specs.Steps.{DoesCall, Interrupts}
@@ -93,3 +94,12 @@ ServesAll s hosts trap changes read question answered new kept =
     (sets : Runner → RegisterFile) → AreThere s trap sets
     → ServesTrap (with_sets s sets) hosts trap changes read question answered
     (with_sets new (changed trap.hart changes sets)) kept
+
+-- two traps that a frame is of differ in registers that it does not have, and are served alike
+abbrev pub FramesTell : Type 0
+FramesTell =
+    (frame : List ℕ) (harts : ℕ) (one other : Trap) → IsTrapFrame frame harts one
+    → IsTrapFrame frame harts other → (s : MonitorState) (hosts : ℕ → ControlWords)
+    (changes : SetChanges) (read question answered : List ℕ) (new : MonitorState)
+    (kept : ℕ → ControlWords) → ServesAll s hosts one changes read question answered new kept
+    → ServesAll s hosts other changes read question answered new kept

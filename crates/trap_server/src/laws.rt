@@ -7,6 +7,13 @@ ghost use Rattle.trap_server.specs.declared.words.ControlWords.{ControlWords};
 ghost use Rattle.trap_server.specs.Boot.{IsFirstAnswer};
 ghost use Rattle.trap_server.specs.Firmware.{FirmwareHeadline};
 ghost use Rattle.trap_server.specs.Runs.{KeepsWhatCame, ServesTraps, first_words};
+ghost use Rattle.trap_server.specs.Service.{FramesTell};
+
+/// The frame of a trap has all that decides how it is served: so what was served of the registers that the loop knows was served
+/// of those that the world had.
+pub fn frames_law()
+    ensures { FramesTell }
+{}
 
 /// After any traps that were served the words that are kept for the host of a hart are those with which it came last.
 pub fn words_law()

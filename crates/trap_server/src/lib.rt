@@ -72,7 +72,7 @@ pub use frame::{AnswerBytes, ShortBytes, TrapBytes};
 pub use frame_fault::FrameFault;
 pub use frame_laws::control_law;
 pub use host_words::HostWords;
-pub use laws::{firmware_law, words_law};
+pub use laws::{firmware_law, frames_law, words_law};
 pub use numbers::{served_number, served_status};
 pub use page_digest::digest_of;
 pub use platform_frame::read_platform;
