@@ -40,11 +40,12 @@ RefusesFirst Memory read after = (length read ≡ 1336) × (layout : PlatformLay
 abbrev pub others : ℕ → List Bool
 others harts = false ∷ (nat_lt 1 harts ∷ (nat_lt 2 harts ∷ (nat_lt 3 harts ∷ [])))
 
--- the answer to a platform: with which hart 0 goes on in the opening state, and the list of the
--- host, which all harts load
+-- no set of registers changes
 abbrev pub no_changes : SetChanges
 no_changes = record { first = no_change; second = no_change; third = no_change }
 
+-- the answer to a platform: with which hart 0 goes on in the opening state, and the list of the
+-- host, which all harts load. It changes no set of registers
 abbrev pub IsFirstAnswer : PlatformLayout → List ℕ → Type 0
 IsFirstAnswer layout bytes = IsAnswer (opening_monitor layout) first_host_words 0 no_answer None
     (others layout.harts) renewed.Host no_changes bytes
