@@ -246,12 +246,12 @@ made_measured (Ok done) old now new hosts kept trap answer bytes parts before af
             words = a.words;
             step = subst (λ (event : TrapEvent). ServesAs event (with_sets old sets) trap a.given a.changes m.0 question bytes
                 (with_sets (having_digest now answer.value e digest) after)) (sym a.is_call) (record {
-              digest = digest;
-              answer = answer;
-              answers = subst (λ (f : Enclave). AnswersCall (with_sets old sets) trap a.given a.changes digest answer bytes
-                  (having_digest (with_sets now after) answer.value f digest)) (same_Some all.0 e (sym all.1 ∙ live)) (all.3 digest);
-              asks = inr (parts, made, refl, m.1, m.2, refl);
-            });
+                  digest = digest;
+                  answer = answer;
+                  answers = subst (λ (f : Enclave). AnswersCall (with_sets old sets) trap a.given a.changes digest answer bytes
+                      (having_digest (with_sets now after) answer.value f digest)) (same_Some all.0 e (sym all.1 ∙ live)) (all.3 digest);
+                  asks = inr (parts, made, refl, m.1, m.2, refl);
+                });
           },
       a.said,
       a.awake,

@@ -218,12 +218,7 @@ fn put_control(frame: &mut AnswerBytes, control: &ControlWords)
 
 /// Writes the front of the frame, with what a hart goes on: what becomes of register sets, and its control words.
 #[inline(always)]
-pub fn put_front(
-    frame: &mut AnswerBytes,
-    head: &Head,
-    changes: &SetChanges,
-    control: &ControlWords,
-)
+pub fn put_front(frame: &mut AnswerBytes, head: &Head, changes: &SetChanges, control: &ControlWords)
     ensures bytes { take 256 frame.new ≡ front_bytes head.now changes.now control.now }
     ensures first { HasWords changes.now.first }
     ensures second { HasWords changes.now.second }
