@@ -13,8 +13,8 @@
 //!
 //! For the layer above: after boot and any list of events, on one to four harts, each access is allowed exactly as
 //! the view of its world allows it, and no world but an enclave itself reads or changes its private pages, or its
-//! registers of floating point ([`board_law`]). Each goes on with the integer registers that it left, but for what its
-//! call is answered. What a world does with them while it runs is anything, and so is what memory has at boot.
+//! registers of floating point ([`board_law`]). The set of integer registers of who waits stays, and who goes on has its
+//! own. What a world does with them while it runs is anything, and so is what memory has at boot.
 //!
 //! There is no code in this crate but its law. A hart is no more here than what `pmp_match` says of PMP entries:
 //! caches, devices that reach memory by themselves and time are not known to it.
