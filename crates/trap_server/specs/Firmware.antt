@@ -192,7 +192,8 @@ pub record KeepsTrap (old : MonitorState) (hosts : ℕ → ControlWords) (trap :
       → slice_index_or woken other false ≡ false
       → SameView (current_view old.table (old.worlds other))
       (current_view new.table (new.worlds other))
-  -- the registers of each world; those of the one that trapped, if that was no exit
+  -- the registers of each world, by the sets before the changes of the answer and after them; and
+  -- those of the world that trapped, if that was no exit
   pub registers : KeepsRegisters old trap.hart new
   pub came : ((id : ℕ) → runner_on old trap.hart ≡ EnclaveOf id → HasExited old new id → ⊥)
       → AreThose trap.event (running_registers old trap.hart)

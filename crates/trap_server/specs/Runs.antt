@@ -60,7 +60,7 @@ KeepsWhatCame = (old : MonitorState) (hosts : ℕ
     → ControlWords) (served : ServesTraps old hosts read written new kept)
     → kept ≡ came_last hosts served
 
--- the answer to each trap says what becomes of register sets
+-- what becomes of register sets at each trap is what its answer says
 abbrev pub AreSaid : {old : MonitorState} {hosts : ℕ
     → ControlWords} {read written : List ℕ} {new : MonitorState} {kept : ℕ → ControlWords}
     → ServesTraps old hosts read written new kept → Type 0

@@ -84,7 +84,7 @@ fn pages_of(zero: Option<PageRange>) -> PageRange
     }
 }
 
-/// Writes the words before the registers.
+/// Writes the words before the changes of register sets.
 #[inline(always)]
 fn put_head(frame: &mut AnswerBytes, head: &Head)
     ensures { take 80 frame.new ≡ head_bytes head.now }
