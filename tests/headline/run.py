@@ -39,7 +39,7 @@ THEOREMS = [("hart_sim/src/laws.rt", "headline_law"), ("trap_server/src/laws.rt"
 # The functions that look at a machine: what they answer is all that is to be known of `state_of`, `kept_of` and `bank_on`.
 OBSERVERS = [(MACHINE, name) for name in ("harts", "world", "registers", "registers_of", "marked", "byte", "is_written", "table", "bank")]
 # The most names and lines of each part, and of all that `boot`, `step` and `run` rest on. They may shrink; where one grows, look for what it says twice.
-MOST = {1: (82, 373), 2: (43, 256), 3: (43, 218), 4: (31, 189), 5: (67, 376), 6: (85, 460), 7: (35, 219), 8: (8, 68), "together": (240, 1254)}
+MOST = {1: (82, 373), 2: (43, 256), 3: (43, 218), 4: (31, 189), 5: (67, 376), 6: (113, 604), 7: (36, 228), 8: (8, 68), "together": (240, 1254)}
 # What those functions show, and no definition says: the state of a machine and of a monitor, the tables that they keep, a machine's banks.
 SHOWN = {"hart_sim": {"state_of", "kept_of", "bank_on"}, "monitor_core": {"state_by", "kept_by"}}
 # A part speaks of these, and says what follows from them: what they are is in a later part.
@@ -59,13 +59,15 @@ There are three theorems, over one monitor (`monitor_core`), which the model and
    `step` say of one event. The code owes it there: `boot` and `step` each have a clause `after` (part 3).
 2. **The firmware** (`firmware_law`, part 6). It is about every list of traps that `serve_traps` of `trap_server` read and answered:
    which entries the list has that was answered last of each world, and the one that each hart loaded last, whose pages are asked for or
-   made zero, and whose registers and control words go on. The code owes it in the clauses `all` and `early` of `serve_traps`: the traps
-   of `Ran` are such a list.
+   made zero, what becomes of whose registers, and whose control words go on. Of registers it is said for all sets that the harts may
+   keep. The code owes it in the clauses `all` and `early` of `serve_traps`: the traps of `Ran` are such a list, and the words of their
+   answers say just these changes of sets (`said`).
 3. **A board** (`board_law`, part 7). It is about memory and harts around that loop, and so about what worlds do between traps. What the
    code around the loop owes is a premise there, in one definition (`DoesTrap`): each world keeps the list of entries that an answer last
    had for it, a hart judges by the list that it loaded last, the pages that an answer names are made zero, those that are read are
-   memory's, registers of floating point change with the world of a hart, and no world runs meanwhile. On a hart other worlds run while
-   the pages of a new enclave are read, after its creation was answered: until the next trap no world changes them (`pages_law`).
+   memory's, and no world runs meanwhile. The registers of the world that trapped are saved in its set, sets change as the answer says
+   and no other way, and registers of floating point change with the world of a hart. On a hart other worlds run while the pages of a
+   new enclave are read, after its creation was answered: until the next trap no world changes them (`pages_law`).
 
 The first and the third are of the same thing: each run of the model is a run of a board (`model_law`, part 8). Each access of the one
 is an access of the other, with what was said of it. Each call or interrupt is a trap with the same registers, whose answer says what
@@ -79,9 +81,10 @@ the loop and gets from it are those of such a list.
 
 No theorem here is about these:
 
-- the C and assembly around the loop (`firmware/`): that a frame has the registers of the hart that trapped, that what an answer says is
-  kept, loaded and made zero, that no hart runs a world while its entries change, that pages are read before the next trap. Part 7 takes
-  this as given. `firmware/README.md` has these rules; they are tested on QEMU;
+- the C and assembly around the loop (`firmware/`). They keep a set of registers as a trap saved it, put a0 to a7 of it into the frame,
+  do the three changes of an answer, and load the set of the world that goes on. What else an answer says they keep, load and make zero.
+  No hart runs a world while its entries change, and pages are read before the next trap. Part 7 takes this as given.
+  `firmware/README.md` has these rules; they are tested on QEMU;
 - a build for RV64, which is a retargeted build of a proved module. It is tested on QEMU, and no verdict of a proof covers it;
 - a device whose bytes are not known, as standard input and output: part 5 speaks of streams that tell their bytes;
 - what a real hart does besides: caches, side channels, devices that reach memory by themselves, time.

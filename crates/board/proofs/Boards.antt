@@ -38,7 +38,8 @@ FirmwareHolds =
     → IsLayout layout → IsFirstAnswer layout opened → FirmwareHeadline layout opened read written s kept served
 
 -- lists that were the same are so after an answer, and what a hart has loaded
-same_after : (answered : List ℕ) (a b : ℕ → List ℕ) → ((world : ℕ) → a world ≡ b world) → (world : ℕ) → list_after answered a world ≡ list_after answered b world
+same_after :
+    (answered : List ℕ) (a b : ℕ → List ℕ) → ((world : ℕ) → a world ≡ b world) → (world : ℕ) → list_after answered a world ≡ list_after answered b world
 same_after answered a b same zero = ap (λ bytes. if nat_lt 0 (word_at answered 9) then drop 256 answered else bytes) (same 0)
 same_after answered a b same (suc n) = ap (λ bytes. if word_at answered 9 == 2 && word_at answered 4 == suc n then drop 840 answered else bytes) (same (suc n))
 
@@ -119,7 +120,8 @@ module _ (law : FirmwareHolds) (steps : StepsPromise) (layout : PlatformLayout) 
       let next = next_served (read_on run) (written_on run) old trap frame read question answered new before.served x in
       let f = firmware (read_on run ++ (frame ++ read)) (written_on run ++ (answered ++ question)) new next in
       let k : KeepsTrap (saved old trap) old.hosts trap x.changes read question answered new.monitor new.hosts =
-      subst (λ (sets : Runner → RegisterFile). KeepsTrap (saved old trap) old.hosts trap x.changes read question answered (with_sets new.monitor sets) new.hosts)
+      subst
+      (λ (sets : Runner → RegisterFile). KeepsTrap (saved old trap) old.hosts trap x.changes read question answered (with_sets new.monitor sets) new.hosts)
       (sym x.sets) (f.each.1 (saved old trap).registers (call_there old trap)) in
       let kept = trap_kept old trap frame read question answered new before.table x k in
       let floats = floats_kept old trap frame read question answered new (ap (λ l. l.harts) (f.platform ∙ sym before.platform)) before.table f.table

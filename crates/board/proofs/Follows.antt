@@ -312,5 +312,5 @@ module _ (digests : Create → List ℕ) (table : EnclaveTable) (worlds : ℕ �
         in_turn (put_words 0 1 0) no_change no_change,
         λ sets. (x.0, x.1, same sets),
         subst (Follows harts hart new) (sym (same actual)) (after harts hart new _ _ x.2 (back harts hart s1 (m actual) 1 0
-        (with_table harts hart s (base actual) x.0 f))),
+            (with_table harts hart s (base actual) x.0 f))),
       )

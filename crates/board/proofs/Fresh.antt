@@ -133,7 +133,8 @@ fresh_irq (InEnclave k) s hart new id e live fresh x = turned s.table x.0 k id S
     (subst (λ t. Live t id e) (ap (λ y. y.table) x.2) live) fresh
 
 fresh_served :
-    (event : TrapEvent) (s : MonitorState) (trap : Trap) (given : ControlWords) (changes : SetChanges) (read question answered : List ℕ) (new : MonitorState) (id : ℕ) (e : Enclave)
+    (event : TrapEvent) (s : MonitorState) (trap : Trap) (given : ControlWords) (changes : SetChanges) (read question answered : List ℕ)
+    (new : MonitorState) (id : ℕ) (e : Enclave)
     → IsTable s.table → Live new.table id e → e.state ≡ Fresh
     → ServesAs event s trap given changes read question answered new → Live s.table id e ⊎ Absent s.table id
 fresh_served traps.Call s trap given changes read question answered new id e right live fresh x =
@@ -164,7 +165,8 @@ kept_call call digests s hart answer pages new id e none live x other g was gone
     ]
 
 none_gone :
-    (event : TrapEvent) (s : MonitorState) (trap : Trap) (given : ControlWords) (changes : SetChanges) (read question answered : List ℕ) (new : MonitorState) (id : ℕ) (e : Enclave)
+    (event : TrapEvent) (s : MonitorState) (trap : Trap) (given : ControlWords) (changes : SetChanges) (read question answered : List ℕ)
+    (new : MonitorState) (id : ℕ) (e : Enclave)
     → Absent s.table id → Live new.table id e → ServesAs event s trap given changes read question answered new
     → (other : ℕ) (g : Enclave) → Live s.table other g → Absent new.table other → ⊥
 none_gone traps.Call s trap given changes read question answered new id e none live x other g was gone =

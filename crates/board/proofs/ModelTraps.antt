@@ -247,6 +247,7 @@ module _ (layout : PlatformLayout) (opened : List ℕ) (seen : List BoardEvent) 
         new_fit,
         x.3.2,
       )
+
   -- what is seen of a call
   pub trap_next : (file : RegisterFile) (words : List ℕ) → past_call file ≡ calling s hart words
       → (x : TrapLeaves layout opened seen traps.Call s new hart file on)

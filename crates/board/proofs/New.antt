@@ -93,8 +93,9 @@ as_word id low = omega (arith, low)
 some_question : (parts : Create) → question_of parts ≢ []
 some_question parts is = cc
 
-module _ (s : MonitorState) (trap : Trap) (given : ControlWords) (changes : SetChanges) (read question answered : List ℕ) (new : MonitorState) (right : IsTable s.table)
-    (there : call_of (running_registers s trap.hart) ≡ call_of trap.registers) (x : ServesCall s trap given changes read question answered new) where
+module _ (s : MonitorState) (trap : Trap) (given : ControlWords) (changes : SetChanges) (read question answered : List ℕ) (new : MonitorState)
+    (right : IsTable s.table) (there : call_of (running_registers s trap.hart) ≡ call_of trap.registers)
+    (x : ServesCall s trap given changes read question answered new) where
   abbrev a : AnswersCall s trap given changes x.digest x.answer answered new
   a = x.answers
 
@@ -152,18 +153,22 @@ module _ (s : MonitorState) (trap : Trap) (given : ControlWords) (changes : SetC
 
 -- a trap that says it of one is its creation
 pub said_new :
-    (event : TrapEvent) (s : MonitorState) (trap : Trap) (given : ControlWords) (changes : SetChanges) (read question answered : List ℕ) (new : MonitorState) → IsTable s.table
-    → call_of (running_registers s trap.hart) ≡ call_of trap.registers → ServesAs event s trap given changes read question answered new → (who : Runner) → SaysMade question answered who
-    → (id : ℕ) × (e : Enclave) × (who ≡ EnclaveOf id) × Absent s.table id × Live new.table id e
-said_new traps.Call s trap given changes read question answered new right there x who m = call_said s trap given changes read question answered new right there x who m
+    (event : TrapEvent) (s : MonitorState) (trap : Trap) (given : ControlWords) (changes : SetChanges) (read question answered : List ℕ)
+    (new : MonitorState) → IsTable s.table
+    → call_of (running_registers s trap.hart) ≡ call_of trap.registers → ServesAs event s trap given changes read question answered new
+    → (who : Runner) → SaysMade question answered who → (id : ℕ) × (e : Enclave) × (who ≡ EnclaveOf id) × Absent s.table id × Live new.table id e
+said_new traps.Call s trap given changes read question answered new right there x who m =
+    call_said s trap given changes read question answered new right there x who m
 said_new traps.Stop s trap given changes read question answered new right there x who m = absurd (m.0 x.nothing_asked)
 
 -- and its creation says it of one that is new, which is Fresh
 pub new_said :
-    (event : TrapEvent) (s : MonitorState) (trap : Trap) (given : ControlWords) (changes : SetChanges) (read question answered : List ℕ) (new : MonitorState) → IsTable s.table
-    → call_of (running_registers s trap.hart) ≡ call_of trap.registers → ServesAs event s trap given changes read question answered new → (id : ℕ) (e : Enclave) → Absent s.table id → Live new.table id e
-    → SaysMade question answered (EnclaveOf id) × (e.state ≡ Fresh)
-new_said traps.Call s trap given changes read question answered new right there x id e none live = call_new s trap given changes read question answered new right there x id e none live
+    (event : TrapEvent) (s : MonitorState) (trap : Trap) (given : ControlWords) (changes : SetChanges) (read question answered : List ℕ)
+    (new : MonitorState) → IsTable s.table
+    → call_of (running_registers s trap.hart) ≡ call_of trap.registers → ServesAs event s trap given changes read question answered new
+    → (id : ℕ) (e : Enclave) → Absent s.table id → Live new.table id e → SaysMade question answered (EnclaveOf id) × (e.state ≡ Fresh)
+new_said traps.Call s trap given changes read question answered new right there x id e none live =
+    call_new s trap given changes read question answered new right there x id e none live
 new_said traps.Stop s trap given changes read question answered new right there x id e none live =
     let now : Live x.mid.table id e = subst (λ (y : MonitorState). Live y.table id e) x.woken live in
     absurd (made_irq (s.worlds trap.hart) s trap.hart x.mid id e none now x.step)

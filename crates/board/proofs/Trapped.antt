@@ -91,7 +91,8 @@ only_parts None answer parts one m n = absurd m
 only_parts (Some asked) answer parts one m n = n.0 ∙ sym m.0
 
 new_digest :
-    (event : TrapEvent) (s : MonitorState) (trap : Trap) (given : ControlWords) (changes : SetChanges) (read question answered : List ℕ) (new : MonitorState) (memory : ℕ → ℕ) (id : ℕ)
+    (event : TrapEvent) (s : MonitorState) (trap : Trap) (given : ControlWords) (changes : SetChanges) (read question answered : List ℕ)
+    (new : MonitorState) (memory : ℕ → ℕ) (id : ℕ)
     (e : Enclave) → IsTable s.table → call_of (running_registers s trap.hart) ≡ call_of trap.registers → ReadsMemory memory read → Absent s.table id
     → Live new.table id e → ServesAs event s trap given changes read question answered new → e.digest ≡ measured_in memory e.parts
 new_digest Call s trap given changes read question answered new memory id e right there reads none live x =

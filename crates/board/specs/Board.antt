@@ -36,10 +36,11 @@ Floats = ℕ → ℕ
 abbrev pub no_floats : Floats
 no_floats n = 0
 
--- the state of the monitor, the control words that its loop keeps, and the byte at each address. The
--- bytes of the list of entries that is kept for each world by its number, 0 for the host, and of the
--- one that each hart loaded last. What each hart has in its registers of floating point, and what is
--- kept there for each host and each enclave
+-- the state of the monitor, whose register sets are those that lie with the harts; the control
+-- words that its loop keeps, and the byte at each address. The bytes of the list of entries that
+-- is kept for each world by its number, 0 for the host, and of the one that each hart loaded last.
+-- What each hart has in its registers of floating point, and what is kept there for each host and
+-- each enclave
 pub record Board : Type 0 where
   pub monitor : MonitorState
   pub hosts : ℕ → ControlWords
@@ -124,10 +125,11 @@ abbrev pub saved : Board → Trap → MonitorState
 saved old trap = with_running old.monitor trap.hart trap.registers
 
 -- a trap is served, whatever the register sets are, and meanwhile no world runs. The sets change as
--- the answer says; nothing else changes them. The pages that were read are memory's; those that the answer names, in its words 6 and 7, are made zero; the lists
--- that it has are kept for their worlds; the hart that it names loads the list of the world that it
--- names, and each that it wakes the host's, before any world goes on; and registers of floating point
--- change with the world of the hart that trapped
+-- the answer says, and nothing else changes them. The pages that were read are memory's; those that
+-- the answer names, in its words 6 and 7, are made zero; the lists that it has are kept for their
+-- worlds; the hart that it names loads the list of the world that it names, and each that it wakes
+-- the host's, before any world goes on; and registers of floating point change with the world of
+-- the hart that trapped
 pub record DoesTrap (old : Board) (trap : Trap) (frame read question answered : List ℕ)
     (new : Board) : Type 0 where
   pub size : length frame ≡ 160

@@ -21,8 +21,8 @@ use Rattle.trap_server.specs.declared.trap.TrapEvent.TheVariants as trap_events
 use Rattle.board.specs.Board.{Board, BoardEvent, BoardRun, access, trapped}
 
 -- a board is as a state of the model: the same table, the same world on each hart, the same byte at
--- each address, and the same registers of each world that waits. Those of a world that runs come to
--- the monitor of a board with its next trap
+-- each address, and the same registers of each world that waits. Those of a world that runs are
+-- saved at its next trap
 pub record IsAs (board : Board) (s : MachineState) : Type 0 where
   pub table : board.monitor.table ≡ s.table
   pub worlds : board.monitor.worlds ≡ s.worlds

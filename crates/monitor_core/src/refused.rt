@@ -22,8 +22,8 @@ impl MonitorParts {
         requires high { number ≤ 112 }
         ensures frame { KeepsFrame self.old self.new }
         ensures said { SaysLater changes.old changes.new }
-        ensures step { (sets : Runner → RegisterFile) → Refuses number (state_in self.old sets) hart
-            result.answer result.zero (state_in self.new (later hart changes.new sets)) }
+        ensures step { (sets : Runner → RegisterFile) → Refuses number (state_in self.old sets)
+            hart result.answer result.zero (state_in self.new (later hart changes.new sets)) }
         ensures load { LoadsAnew result.load (bare self.old) (bare self.new) hart }
     {
         self.answer(hart, word_below_zero(number), 0, changes);

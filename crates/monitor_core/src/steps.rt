@@ -132,7 +132,8 @@ impl Core {
             IsFewest (current_view (kept_of self.now).table world) entries.now) }
         ensures room { IfSome result (λ entries.
             length entries.now ≤ limit_number (kept_of self.now).table.layout.limit) }
-        ensures value { IfSome result (λ entries. entries.now ≡ list_of (kept_of self.now) world) }
+        ensures value { IfSome result (λ entries.
+            entries.now ≡ list_of (kept_of self.now) world) }
     {
         self.parts.entries_of(world)
     }
@@ -195,7 +196,8 @@ impl Core {
     /// An enclave that is live has this digest now, where its pages are measured after it was made. Nothing else changes.
     pub fn give_digest(&mut self, id: u64, digest: &[u8; 32])
         requires { (e : Enclave) × Live (kept_of self.old).table id e }
-        ensures { (e : Enclave) (sets : Runner → RegisterFile) → Live (kept_of self.old).table id e
+        ensures { (e : Enclave) (sets : Runner → RegisterFile)
+            → Live (kept_of self.old).table id e
             → state_of self.new sets ≡ having_digest (state_of self.old sets) id e digest.now }
     {
         self.parts.give_digest(id, digest);

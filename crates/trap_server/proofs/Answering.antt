@@ -80,8 +80,8 @@ stop_served (Ok done) Are trap old new hosts kept given changes before held hold
       λ sets there. record {
         given = given;
         words = words;
-        step = subst (λ (e : TrapEvent). ServesAs e (with_sets old sets) trap given changes [] [] bytes (with_sets new (changed trap.hart changes sets))) (sym is)
-            (served bytes wrote.1 sets);
+        step = subst (λ (e : TrapEvent). ServesAs e (with_sets old sets) trap given changes [] [] bytes (with_sets new (changed trap.hart changes sets)))
+            (sym is) (served bytes wrote.1 sets);
       },
       said bytes wrote.1,
       awake,
@@ -246,12 +246,12 @@ made_measured (Ok done) old now new hosts kept trap answer bytes parts before af
             words = a.words;
             step = subst (λ (event : TrapEvent). ServesAs event (with_sets old sets) trap a.given a.changes m.0 question bytes
                 (with_sets (having_digest now answer.value e digest) after)) (sym a.is_call) (record {
-              digest = digest;
-              answer = answer;
-              answers = subst (λ (f : Enclave). AnswersCall (with_sets old sets) trap a.given a.changes digest answer bytes
-                  (having_digest (with_sets now after) answer.value f digest)) (same_Some all.0 e (sym all.1 ∙ live)) (all.3 digest);
-              asks = inr (parts, made, refl, m.1, m.2, refl);
-            });
+                  digest = digest;
+                  answer = answer;
+                  answers = subst (λ (f : Enclave). AnswersCall (with_sets old sets) trap a.given a.changes digest answer bytes
+                      (having_digest (with_sets now after) answer.value f digest)) (same_Some all.0 e (sym all.1 ∙ live)) (all.3 digest);
+                  asks = inr (parts, made, refl, m.1, m.2, refl);
+                });
           },
       a.said,
       a.awake,

@@ -184,8 +184,8 @@ runs_there table (InEnclave id) current = (current.0, current.1)
 
 -- a trap, and the lists before it
 module _ (s : MonitorState) (hosts kept : ℕ → ControlWords) (trap : Trap) (changes : SetChanges) (read question answered : List ℕ) (new : MonitorState)
-    (before : ℕ → List ℕ) (k : KeepsTrap s hosts trap changes read question answered new kept) (layout : new.table.layout ≡ s.table.layout) (sound : IsTable new.table)
-    (placed : ArePlaced new) (was : (world : World) → IsThere s.table world
+    (before : ℕ → List ℕ) (k : KeepsTrap s hosts trap changes read question answered new kept) (layout : new.table.layout ≡ s.table.layout)
+    (sound : IsTable new.table) (placed : ArePlaced new) (was : (world : World) → IsThere s.table world
     → HasFewest (before (world_number world)) s.table.layout.limit (current_view s.table world)) where
   abbrev limit : Limit
   limit = new.table.layout.limit
@@ -316,16 +316,16 @@ firmware_kept layout first read written s kept no_trap rules answer = record {
   modes = λ hart. refl;
   each = tt;
 }
-firmware_kept layout first read written s all (next_trap {read = r} {written = w} {mid = mid} {now = now} served trap frame more question answered changes new kept
-    size is step) rules answer =
+firmware_kept layout first read written s all (next_trap {read = r} {written = w} {mid = mid} {now = now} served trap frame more question answered changes new
+    kept size is step) rules answer =
     let before = firmware_kept layout first r w mid now served rules answer in
     let good : IsGood layout mid = record { table = before.table; platform = before.platform; worlds = before.worlds; awake = before.awake } in
     let most : mid.table.layout.harts ≤ 4 = subst (λ l. l.harts ≤ 4) (sym before.platform) rules.four_harts in
     let trapped : Runner → RegisterFile = λ who. trap.registers in
     let one = step trapped refl in
     let there = changed trap.hart changes trapped in
-    let after_it = next_good trap.event layout (with_sets mid trapped) trap one.given changes more question answered (with_sets new there) rules.four_harts is.known
-    (good_with layout mid trapped good) one.step in
+    let after_it = next_good trap.event layout (with_sets mid trapped) trap one.given changes more question answered (with_sets new there)
+    rules.four_harts is.known (good_with layout mid trapped good) one.step in
     let next = good_bare layout new there after_it in
     let below = still_below now kept trap.hart (mid.worlds trap.hart) (new.worlds trap.hart) trap.control one.given one.words before.modes is.below in
     let each : (sets : Runner → RegisterFile) → AreThere mid trap sets

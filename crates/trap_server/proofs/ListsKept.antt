@@ -61,8 +61,11 @@ replaced old new id e stage Host live is there = (
 )
 replaced old new id e stage (InEnclave k) live is there = (
   ⊎_elim (λ same. (e, ap (enclave_at old.enclaves) same ∙ live))
-      (λ differ. (there.0, sym (ap (λ (t : EnclaveTable). enclave_at t.enclaves k) is
-      ∙ set_other old.enclaves id k (Some (record e { state = stage })) (live_above old.enclaves id e live) differ) ∙ there.1)) (cases_eq k id),
+      (λ differ. (
+        there.0,
+        sym (ap (λ (t : EnclaveTable). enclave_at t.enclaves k) is
+            ∙ set_other old.enclaves id k (Some (record e { state = stage })) (live_above old.enclaves id e live) differ) ∙ there.1,
+      )) (cases_eq k id),
   subst (λ t. SameView (current_view old (InEnclave k)) (current_view t (InEnclave k))) (sym is)
       (view_replaced old id e (record e { state = stage }) (InEnclave k) live refl),
 )

@@ -32,7 +32,8 @@ pub both_put :
 both_put kept other table id new front middle bytes host made same also is list own first second =
     let list_is : IsListOf table.layout.limit (current_view table Host) host = subst (λ t. IsListOf t.layout.limit (current_view t Host) host) same list in
     let view : IsListOf other.layout.limit (current_view other (InEnclave id)) made = record {
-      fewest = fewest_same (enclave_view own.0.parts) (current_view other (InEnclave id)) made (λ page small. sym (ap (λ o. view_in o page) own.1)) own.2.fewest;
+      fewest = fewest_same (enclave_view own.0.parts) (current_view other (InEnclave id)) made
+          (λ page small. sym (ap (λ o. view_in o page) own.1)) own.2.fewest;
       room = own.2.room;
     } in
     let own_is = subst (λ t. IsListOf t.layout.limit (current_view t (InEnclave id)) made) also view in

@@ -251,7 +251,8 @@ module _ (head : Head) (changes : SetChanges) (control : ControlWords) where
   front_length = refl
 
   -- one of the first words
-  head_word : (rest : List ℕ) (k : ℕ) → k < 10 → slice_index_or (head_words head) k 0 < 2 ^ 64 → word_at (front ++ rest) k ≡ slice_index_or (head_words head) k 0
+  head_word :
+      (rest : List ℕ) (k : ℕ) → k < 10 → slice_index_or (head_words head) k 0 < 2 ^ 64 → word_at (front ++ rest) k ≡ slice_index_or (head_words head) k 0
   head_word rest k low small =
       let more = changes_bytes changes ++ control_bytes control in
       let same : 0 + k ≡ k = omega arith in

@@ -95,7 +95,8 @@ pub opens :
 opens s hosts layout opened harts woken is words n w answer =
     let known = subst (λ ws. IsAnswer s (given_on s hosts 0) 0 no_answer None ws lists.Host no_changes opened)
     (w ∙ ap others (n ∙ ap (λ (x : MonitorState). x.table.layout.harts) is)) answer in
-    let with_words = subst (λ (hs : ℕ → ControlWords). IsAnswer s (given_on s hs 0) 0 no_answer None (others layout.harts) lists.Host no_changes opened) words known in
+    let with_words = subst (λ (hs : ℕ → ControlWords). IsAnswer s (given_on s hs 0) 0 no_answer None (others layout.harts) lists.Host no_changes opened)
+    words known in
     subst (λ (x : MonitorState). IsAnswer x (given_on x first_words 0) 0 no_answer None (others layout.harts) lists.Host no_changes opened) is with_words
 
 pub begins :
@@ -103,7 +104,8 @@ pub begins :
     (before after held middle holds : Option (List ℕ)) → length first ≡ 1336 → IsPlatformFrame first layout → s ≡ opening_monitor layout
     → hosts ≡ first_words
     → Consumes before after first → Appends held middle [] → MayOpen layout → harts ≡ s.table.layout.harts → woken ≡ others harts
-    → IsAnswer s (given_on s hosts 0) 0 no_answer None woken lists.Host no_changes opened → Appends middle holds opened → Progress 0 s hosts before after held holds
+    → IsAnswer s (given_on s hosts 0) 0 no_answer None woken lists.Host no_changes opened → Appends middle holds opened
+    → Progress 0 s hosts before after held holds
 begins s hosts layout first opened harts woken before after held middle holds size platform is words consumed nothing may n w answer wrote =
     subst (λ (hs : ℕ → ControlWords). Progress 0 s hs before after held holds) (sym words)
     (subst (λ (x : MonitorState). Progress 0 x first_words before after held holds) (sym is)

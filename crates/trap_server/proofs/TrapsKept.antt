@@ -237,7 +237,8 @@ stop_kept s hosts kept trap given changes read question answered new ready is wo
     let me = runner_on s hart in
     let world = s.worlds hart in
     let placed = ready.placed in
-    let Refused = λ (e : TrapEvent). IsRefusedByNeed (called e trap.registers) s.table world (λ refusal. no_answer.status ≡ below_zero (refusal_number refusal)) in
+    let Refused = λ (e : TrapEvent).
+    IsRefusedByNeed (called e trap.registers) s.table world (λ refusal. no_answer.status ≡ below_zero (refusal_number refusal)) in
     record {
       answer = no_answer;
       cleared = None;

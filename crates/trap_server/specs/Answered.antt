@@ -18,7 +18,7 @@ use Rattle.trap_server.specs.declared.words.ControlWords.{ControlWords}
 use Rattle.trap_server.specs.Given.{words_in}
 use Rattle.trap_server.specs.declared.answer.Head.{Head}
 use Rattle.trap_server.specs.declared.answer.NewLists.{NewLists}
-use Rattle.trap_server.specs.declared.answer.NewLists.TheVariants as lists
+use Rattle.trap_server.specs.declared.answer.NewLists.TheVariants as renewed
 use Rattle.trap_server.specs.Answers.{front_bytes, lists_bytes}
 use Rattle.enclave_table.specs.Views.{current_view}
 
@@ -34,11 +34,11 @@ marks_of s = s.marked 0 ∷ (s.marked 1 ∷ (s.marked 2 ∷ (s.marked 3 ∷ []))
 -- the lists of entries that are new, of the host and of the enclave that was made of this id: each
 -- means what its world may do, no list that does is shorter, and each hart has room for it
 abbrev pub AreLists : EnclaveTable → ℕ → NewLists → List (List Entry) → Type 0
-AreLists table id lists.Nothing are = are ≡ []
-AreLists table id lists.Host are =
+AreLists table id renewed.Nothing are = are ≡ []
+AreLists table id renewed.Host are =
     (host : List Entry) × IsListOf table.layout.limit (current_view table Host) host
     × (are ≡ host ∷ [])
-AreLists table id lists.HostAndMade are =
+AreLists table id renewed.HostAndMade are =
     (host made : List Entry) × IsListOf table.layout.limit (current_view table Host) host
     × IsListOf table.layout.limit (current_view table (InEnclave id)) made
     × (are ≡ host ∷ (made ∷ []))
@@ -50,17 +50,18 @@ pub record PutsLists (table : EnclaveTable) (id : ℕ) (new : NewLists) (front b
   pub lists : AreLists table id new are
   pub put : bytes ≡ front ++ lists_bytes are
 
--- which lists are new after a call that asks for a creation, or for none: after a destruction,
--- which leaves pages to be made zero, the host's; after a creation that was done the host's and
--- that of the enclave
+-- which lists are new after a call that asked for a creation: where it was done, which its status
+-- says, the host's and that of the enclave
 abbrev pub made_lists : ℤ → NewLists
-made_lists (pos zero) = lists.HostAndMade
-made_lists _ = lists.Nothing
+made_lists (pos zero) = renewed.HostAndMade
+made_lists _ = renewed.Nothing
 
+-- which lists are new after a call: after a destruction, which leaves pages to be made zero, the
+-- host's; otherwise what a creation leaves that the call asked for, if it asked for one
 abbrev pub new_lists : Option Create → Answer → Option PageRange → NewLists
-new_lists asked answer (Some range) = lists.Host
+new_lists asked answer (Some range) = renewed.Host
 new_lists (Some asked) answer None = made_lists answer.status
-new_lists None answer None = lists.Nothing
+new_lists None answer None = renewed.Nothing
 
 -- a status as a word of 64 bits, in two's complement
 abbrev pub status_word : ℤ → ℕ
@@ -97,9 +98,9 @@ pub record AreWords (changes : SetChanges) : Type 0 where
   pub second : HasWords changes.second
   pub third : HasWords changes.third
 
--- an answer is written with which a hart goes on: how many entries the world needs that runs there,
--- what becomes of register sets, the control words that the world is given, and the lists of entries
--- that are new
+-- an answer is written with which a hart goes on: how many entries the world needs that runs
+-- there, what becomes of register sets, the control words that the world is given, and the lists of
+-- entries that are new
 pub record IsAnswer (s : MonitorState) (given : ControlWords) (hart : ℕ) (answer : Answer)
     (cleared : Option PageRange) (woken : List Bool) (new : NewLists) (changes : SetChanges)
     (bytes : List ℕ) : Type 0 where

@@ -14,7 +14,7 @@ use Rattle.monitor_core.specs.Answers.{world_number}
 use Rattle.trap_server.specs.Words.{answer_tag, bytes_of, control_tag}
 use Rattle.trap_server.specs.declared.answer.Head.{Head}
 use Rattle.trap_server.specs.declared.answer.NewLists.{NewLists}
-use Rattle.trap_server.specs.declared.answer.NewLists.TheVariants.{Nothing, Host, HostAndMade}
+use Rattle.trap_server.specs.declared.answer.NewLists.TheVariants as renewed
 
 -- the word whose bit h is of hart h
 abbrev pub bit_of : Bool → ℕ
@@ -34,9 +34,9 @@ pages_of (Some range) = range
 
 -- how many lists of entries an answer has
 abbrev pub list_count : NewLists → ℕ
-list_count Nothing = 0
-list_count Host = 1
-list_count HostAndMade = 2
+list_count renewed.Nothing = 0
+list_count renewed.Host = 1
+list_count renewed.HostAndMade = 2
 
 -- what comes before the changes of register sets
 abbrev pub head_bytes : Head → List ℕ

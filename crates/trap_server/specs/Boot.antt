@@ -21,7 +21,7 @@ use Rattle.trap_server.specs.declared.fault.ServeFault.TheVariants as faults
 use Rattle.trap_server.specs.Tables.{first_host_words}
 use Rattle.trap_server.specs.EndFrames.{end_bytes}
 use Rattle.trap_server.specs.Answered.{IsAnswer, no_answer}
-use Rattle.trap_server.specs.declared.answer.NewLists.TheVariants.{Host}
+use Rattle.trap_server.specs.declared.answer.NewLists.TheVariants as renewed
 use Rattle.trap_server.specs.Ends.{IsPart}
 
 -- why the first bytes are refused: they are no frame of a platform, or the input ends within it;
@@ -40,14 +40,15 @@ RefusesFirst Memory read after = (length read ≡ 1336) × (layout : PlatformLay
 abbrev pub others : ℕ → List Bool
 others harts = false ∷ (nat_lt 1 harts ∷ (nat_lt 2 harts ∷ (nat_lt 3 harts ∷ [])))
 
--- the answer to a platform: with which hart 0 goes on in the opening state, and the list of the host,
--- which all harts load
+-- no set of registers changes
 abbrev pub no_changes : SetChanges
 no_changes = record { first = no_change; second = no_change; third = no_change }
 
+-- the answer to a platform: with which hart 0 goes on in the opening state, and the list of the
+-- host, which all harts load. It changes no set of registers
 abbrev pub IsFirstAnswer : PlatformLayout → List ℕ → Type 0
 IsFirstAnswer layout bytes = IsAnswer (opening_monitor layout) first_host_words 0 no_answer None
-    (others layout.harts) Host no_changes bytes
+    (others layout.harts) renewed.Host no_changes bytes
 
 -- why the loop ends before a trap was read, and what was written. A refusal is the last frame.
 -- Where a read failed nothing was written; where a write did, a part of the last frame or of the

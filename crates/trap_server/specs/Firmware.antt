@@ -38,7 +38,7 @@ use Rattle.trap_server.specs.declared.trap.TrapEvent.TheVariants as trap_events
 use Rattle.trap_server.specs.declared.trap.Trap.{Trap}
 use Rattle.trap_server.specs.declared.words.ControlWords.{ControlWords}
 use Rattle.trap_server.specs.declared.answer.NewLists.{NewLists}
-use Rattle.trap_server.specs.declared.answer.NewLists.TheVariants as new_lists
+use Rattle.trap_server.specs.declared.answer.NewLists.TheVariants as renewed
 use Rattle.trap_server.specs.Answered.{AreAwake, IsAnswer}
 use Rattle.trap_server.specs.Given.{GivesWords}
 use Rattle.trap_server.specs.PageDigest.{ArePages, question_bytes}
@@ -71,8 +71,8 @@ pub record HasFewest (bytes : List ℕ) (limit : Limit) (view : View) : Type 0 w
       × (loaded_address bytes i ≡ 0)
 
 -- the list of a world by its number, 0 for the host, after an answer. Word 9 says how many lists
--- are in it: the first is the host's, the second that of the enclave whose number is in word 4. Each
--- other world keeps the list that it had
+-- are in it: the first is the host's, the second that of the enclave whose number is in word 4.
+-- Each other world keeps the list that it had
 abbrev pub list_after : List ℕ → (ℕ → List ℕ) → ℕ → List ℕ
 list_after answered lists zero = if nat_lt 0 (word_at answered 9) then drop 256 answered
     else lists 0
@@ -87,13 +87,14 @@ loaded_after answered lists before hart = if word_at answered 1 == hart
     then lists (word_at answered 2)
     else (if word_at answered 8 / 2 ^ hart % 2 == 1 then lists 0 else before)
 
--- the list that was answered last of a world by its number; before any trap the one of the answer to
--- the platform
+-- the list that was answered last of a world by its number; before any trap the one of the answer
+-- to the platform
 abbrev pub list_last : (opened : List ℕ) {old : MonitorState} {hosts : ℕ
     → ControlWords} {read written : List ℕ} {new : MonitorState} {kept : ℕ
     → ControlWords} → ServesTraps old hosts read written new kept → ℕ → List ℕ
 list_last opened no_trap world = drop 256 opened
-list_last opened (next_trap served trap frame more question answered changes new kept size is step) world =
+list_last opened
+    (next_trap served trap frame more question answered changes new kept size is step) world =
     list_after answered (list_last opened served) world
 
 -- the list that a hart loaded last
@@ -101,7 +102,8 @@ abbrev pub loaded_last : (opened : List ℕ) {old : MonitorState} {hosts : ℕ
     → ControlWords} {read written : List ℕ} {new : MonitorState} {kept : ℕ
     → ControlWords} → ServesTraps old hosts read written new kept → ℕ → List ℕ
 loaded_last opened no_trap hart = drop 256 opened
-loaded_last opened (next_trap served trap frame more question answered changes new kept size is step) hart =
+loaded_last opened
+    (next_trap served trap frame more question answered changes new kept size is step) hart =
     loaded_after answered (list_after answered (list_last opened served))
     (loaded_last opened served hart) hart
 
@@ -112,10 +114,10 @@ IsThere table (InEnclave id) = (e : Enclave) × Live table id e
 
 -- whether the list of a world is new, where that of an enclave is of this id
 abbrev pub is_new : NewLists → ℕ → World → Bool
-is_new new_lists.Nothing id world = false
-is_new new_lists.Host id world = is_host world
-is_new new_lists.HostAndMade id Host = true
-is_new new_lists.HostAndMade id (InEnclave other) = id == other
+is_new renewed.Nothing id world = false
+is_new renewed.Host id world = is_host world
+is_new renewed.HostAndMade id Host = true
+is_new renewed.HostAndMade id (InEnclave other) = id == other
 
 -- the call that a trap is, if it is one
 abbrev pub called : TrapEvent → RegisterFile → Option Call
@@ -144,8 +146,8 @@ AsksMemory layout question read =
     × (question ≡ question_bytes range.first range.count)
     × ArePages range.first range.count read pages)
 
--- the registers that a world is left with which trapped: those that it had; after a call the program
--- counter is past it, and a0 and a1 may be an answer
+-- the registers that a world is left with which trapped: those that it had; after a call the
+-- program counter is past it, and a0 and a1 may be an answer
 abbrev pub AreThose : TrapEvent → RegisterFile → RegisterFile → Type 0
 AreThose trap_events.Call came now =
     (now ≡ past_call came)
@@ -174,9 +176,9 @@ pub record KeepsTrap (old : MonitorState) (hosts : ℕ → ControlWords) (trap :
   pub zeroes : IfSome cleared (AreDestroyed old new)
   pub destroys : (id : ℕ) → (gone : IsGone old new id)
       → cleared ≡ Some (private_pages gone.0.parts)
-  -- an enclave whose list is new is there. A world that is there, and whose list is not new, was there
-  -- before, and its view stays: its list is right still
-  pub made : lists ≡ new_lists.HostAndMade → IsThere new.table (InEnclave answer.value)
+  -- an enclave whose list is new is there. A world that is there, and whose list is not new, was
+  -- there before, and its view stays: its list is right still
+  pub made : lists ≡ renewed.HostAndMade → IsThere new.table (InEnclave answer.value)
   pub keeps : (world : World) → IsThere new.table world → is_new lists answer.value world ≡ false
       → IsThere old.table world
       × SameView (current_view old.table world) (current_view new.table world)
@@ -190,7 +192,8 @@ pub record KeepsTrap (old : MonitorState) (hosts : ℕ → ControlWords) (trap :
       → slice_index_or woken other false ≡ false
       → SameView (current_view old.table (old.worlds other))
       (current_view new.table (new.worlds other))
-  -- the registers of each world; those of the one that trapped, if that was no exit
+  -- the registers of each world, by the sets before the changes of the answer and after them; and
+  -- those of the world that trapped, if that was no exit
   pub registers : KeepsRegisters old trap.hart new
   pub came : ((id : ℕ) → runner_on old trap.hart ≡ EnclaveOf id → HasExited old new id → ⊥)
       → AreThose trap.event (running_registers old trap.hart)
@@ -213,9 +216,9 @@ AreKept (next_trap {mid = mid} {now = now} served trap frame more question answe
 
 -- after any traps: the table is sound, and the platform is the one that was read. Each hart is in
 -- the host's world or in that of an enclave that is Running, and each of these runs on just one; no
--- hart is to be woken. The list that was answered last of each world that is there means its view, by
--- the fewest entries that do, and so does the list that each hart loaded last for the view of its
--- world. No host that waits is to go on in machine mode. And what each trap kept
+-- hart is to be woken. The list that was answered last of each world that is there means its view,
+-- by the fewest entries that do, and so does the list that each hart loaded last for the view of
+-- its world. No host that waits is to go on in machine mode. And what each trap kept
 pub record FirmwareHeadline (layout : PlatformLayout) (opened read written : List ℕ)
     (s : MonitorState) (kept : ℕ → ControlWords)
     (served : ServesTraps (opening_monitor layout) first_words read written s kept) : Type 0 where

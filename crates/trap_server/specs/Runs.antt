@@ -31,7 +31,8 @@ pub data ServesTraps (old : MonitorState) (hosts : ℕ → ControlWords) : List 
   next_trap : {read written : List ℕ} {mid : MonitorState} {now : ℕ → ControlWords}
       → ServesTraps old hosts read written mid now
       → (trap : Trap) (frame more question answered : List ℕ) (changes : SetChanges)
-      (new : MonitorState) (kept : ℕ → ControlWords) → length frame ≡ 160 → IsTrapFrame frame mid.table.layout.harts trap
+      (new : MonitorState) (kept : ℕ → ControlWords)
+      → length frame ≡ 160 → IsTrapFrame frame mid.table.layout.harts trap
       → ServesAll mid now trap changes more question answered new kept
       → ServesTraps old hosts (read ++ (frame ++ more)) (written ++ (answered ++ question)) new kept
 
@@ -49,8 +50,8 @@ abbrev pub came_last : (hosts : ℕ
     → ControlWords) {old : MonitorState} {read written : List ℕ} {new : MonitorState} {kept : ℕ
     → ControlWords} → ServesTraps old hosts read written new kept → ℕ → ControlWords
 came_last hosts no_trap = hosts
-came_last hosts (next_trap {mid = mid} served trap frame more question answered changes new kept size is
-    step) = keeping (mid.worlds trap.hart) (came_last hosts served) trap.hart trap.control
+came_last hosts (next_trap {mid = mid} served trap frame more question answered changes new kept
+    size is step) = keeping (mid.worlds trap.hart) (came_last hosts served) trap.hart trap.control
 
 -- after any traps what is kept is that
 abbrev pub KeepsWhatCame : Type 0
@@ -59,7 +60,7 @@ KeepsWhatCame = (old : MonitorState) (hosts : ℕ
     → ControlWords) (served : ServesTraps old hosts read written new kept)
     → kept ≡ came_last hosts served
 
--- the answer to each trap says what becomes of register sets
+-- what becomes of register sets at each trap is what its answer says
 abbrev pub AreSaid : {old : MonitorState} {hosts : ℕ
     → ControlWords} {read written : List ℕ} {new : MonitorState} {kept : ℕ → ControlWords}
     → ServesTraps old hosts read written new kept → Type 0

@@ -22,7 +22,7 @@ use Rattle.trap_server.specs.declared.trap.TrapEvent.{TrapEvent}
 use Rattle.trap_server.specs.declared.trap.TrapEvent.TheVariants.{Call, Stop}
 use Rattle.trap_server.specs.declared.trap.Trap.{Trap}
 use Rattle.trap_server.specs.PageDigest.{ArePages, question_of}
-use Rattle.trap_server.specs.declared.answer.NewLists.TheVariants.{Nothing}
+use Rattle.trap_server.specs.declared.answer.NewLists.TheVariants as renewed
 use Rattle.trap_server.specs.Answered.{IsAnswer, marks_of, new_lists, no_answer, unmarked}
 
 -- a call of the world that runs on a hart is a step of the monitor, in which a creation gets this
@@ -65,7 +65,8 @@ pub record ServesStop (s : MonitorState) (trap : Trap) (given : ControlWords)
   pub nothing_read : read ≡ []
   pub step : Interrupts (s.worlds trap.hart) s trap.hart mid
   pub woken : new ≡ unmarked 4 mid
-  pub goes_on : IsAnswer new given trap.hart no_answer None (marks_of mid) Nothing changes answered
+  pub goes_on : IsAnswer new given trap.hart no_answer None (marks_of mid) renewed.Nothing changes
+      answered
 
 -- a trap is served, by what happened; the hart goes on with these control words
 abbrev pub ServesAs : TrapEvent → MonitorState → Trap → ControlWords → SetChanges → List ℕ

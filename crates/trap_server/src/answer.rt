@@ -84,7 +84,7 @@ fn pages_of(zero: Option<PageRange>) -> PageRange
     }
 }
 
-/// Writes the words before the registers.
+/// Writes the words before the changes of register sets.
 #[inline(always)]
 fn put_head(frame: &mut AnswerBytes, head: &Head)
     ensures { take 80 frame.new ≡ head_bytes head.now }
@@ -218,12 +218,7 @@ fn put_control(frame: &mut AnswerBytes, control: &ControlWords)
 
 /// Writes the front of the frame, with what a hart goes on: what becomes of register sets, and its control words.
 #[inline(always)]
-pub fn put_front(
-    frame: &mut AnswerBytes,
-    head: &Head,
-    changes: &SetChanges,
-    control: &ControlWords,
-)
+pub fn put_front(frame: &mut AnswerBytes, head: &Head, changes: &SetChanges, control: &ControlWords)
     ensures bytes { take 256 frame.new ≡ front_bytes head.now changes.now control.now }
     ensures first { HasWords changes.now.first }
     ensures second { HasWords changes.now.second }
@@ -239,7 +234,8 @@ pub fn put_front(
 pub fn put_list(frame: &mut AnswerBytes, from: usize, entries: &[Entry])
     requires few { length entries.now ≤ 64 }
     requires inside { from + 73 ≤ 178 }
-    ensures { take (8 * from + 584) frame.new ≡ take (8 * from) frame.old ++ list_bytes entries.now }
+    ensures { take (8 * from + 584) frame.new
+        ≡ take (8 * from) frame.old ++ list_bytes entries.now }
 {
     put_word(frame, from, entries.len() as u64);
     put_configuration(frame, 8 * from + 8, entries);

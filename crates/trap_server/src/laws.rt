@@ -26,7 +26,8 @@ pub fn words_law()
 /// is shorter; a hart has that many. The list that each hart loaded last is such a list of its world. Each creation and
 /// destruction was refused for want of entries exactly where a view after it needs more, want of memory aside. Pages that were
 /// asked for are memory and not the monitor's, and were read once; pages that were to be made zero are those of the enclave
-/// that was destroyed. Registers and control words are given to the world that they are of, and an enclave runs in user mode.
+/// that was destroyed. Whatever the register sets are: after the changes that an answer has each world has its own registers.
+/// Control words are given to the world that they are of, and an enclave runs in user mode.
 pub fn firmware_law()
     ensures { (layout : PlatformLayout) (opened read written : List ℕ) (s : MonitorState)
         (kept : ℕ → ControlWords)

@@ -1,9 +1,12 @@
 //! The loop that serves the traps of a hart.
 //!
 //! It works between two devices. What comes from the first are frames: the platform, then the traps of its harts one after
-//! another. What goes to the second is, for each trap, with what the hart goes on: its registers, the answer, the world, its
-//! control registers, the pages to make zero, which other harts are to load the host's entries, and the entries of each world
-//! whose view changed. `docs/FORMATS.md` has the layouts, under "Frames".
+//! another. What goes to the second is, for each trap, with what the hart goes on: the answer, the world, its control
+//! registers, what becomes of register sets, the pages to make zero, which other harts are to load the host's entries, and
+//! the entries of each world whose view changed. `docs/FORMATS.md` has the layouts, under "Frames".
+//!
+//! Integer registers stay with the harts: a set for the host of each hart and one for each enclave. A trap has those of a
+//! call alone, a0 to a7, and an answer says what becomes of which set. What is proved of it holds whatever the sets are.
 //!
 //! For the layer above: each trap that is served is one step of the monitor (`monitor_core`), and its answer is written
 //! before the next is read. The control words of the host of each hart are kept here while an enclave runs, and each world

@@ -201,8 +201,7 @@ fn new_lists(registers: &Registers, served: &Served) -> NewLists
     NewLists::Nothing
 }
 
-/// The parts of an enclave that a call made, if it made one. It is not inlined: so a trap is in memory, and its registers are
-/// copied from there at once.
+/// The parts of an enclave that a call made, if it made one. It is not inlined: creations alone need it.
 #[inline(never)]
 fn made_by(answer: &Answer, trap: &Trap) -> Option<Create>
     ensures some { IfSome result (λ parts.

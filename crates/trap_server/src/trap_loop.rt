@@ -68,11 +68,7 @@ fn platform_in<R: Source, W: Sink>(
 /// Boots the monitor on the platform that comes first. It is inlined, so that the stack has one copy of the monitor less
 /// while it is made.
 #[inline(always)]
-fn boot<R: Source, W: Sink>(
-    alloc: Global,
-    source: &mut R,
-    sink: &mut W,
-) -> Result<Core, ServeFault>
+fn boot<R: Source, W: Sink>(alloc: Global, source: &mut R, sink: &mut W) -> Result<Core, ServeFault>
     ensures boots { Boots result (R.remaining source.old) (R.remaining source.new)
         (W.contents sink.old) (W.contents sink.new) }
     ensures reads { CountsReads result (R.failures source.old) (R.failures source.new) }
@@ -145,7 +141,13 @@ fn serve_booted<R: Source, W: Sink>(
             return Ok(());
         }
         match serve_trap(
-            core, &mut hosts, &trap, &mut changes, &mut frame, source, sink,
+            core,
+            &mut hosts,
+            &trap,
+            &mut changes,
+            &mut frame,
+            source,
+            sink,
         ) {
             Ok(()) => {}
             Err(fault) => return Err(fault),

@@ -22,9 +22,13 @@ returns c =
     let from-3 = one_word (take 200 c.put_word-3.new.bytes) (take 208 c.put_word-4.new.bytes) all words.mie
     (words.scounteren ∷ (words.senvcfg ∷ (words.hstatus ∷ (words.medeleg ∷ (words.mideleg ∷ (words.mode ∷ [])))))) c.put_word-4.ensures.front from-4 in
     let from-2 = one_word (take 192 c.put_word-2.new.bytes) (take 200 c.put_word-3.new.bytes) all words.satp
-    (words.mie ∷ (words.scounteren ∷ (words.senvcfg ∷ (words.hstatus ∷ (words.medeleg ∷ (words.mideleg ∷ (words.mode ∷ []))))))) c.put_word-3.ensures.front from-3 in
+    (words.mie ∷ (words.scounteren ∷ (words.senvcfg ∷ (words.hstatus ∷ (words.medeleg ∷ (words.mideleg ∷ (words.mode ∷ [])))))))
+    c.put_word-3.ensures.front from-3 in
     let from-1 = one_word (take 184 c.put_word.new.bytes) (take 192 c.put_word-2.new.bytes) all words.status
-    (words.satp ∷ (words.mie ∷ (words.scounteren ∷ (words.senvcfg ∷ (words.hstatus ∷ (words.medeleg ∷ (words.mideleg ∷ (words.mode ∷ [])))))))) c.put_word-2.ensures.front from-2 in
+    (words.satp ∷ (words.mie ∷ (words.scounteren ∷ (words.senvcfg ∷ (words.hstatus ∷ (words.medeleg ∷ (words.mideleg ∷ (words.mode ∷ []))))))))
+    c.put_word-2.ensures.front from-2 in
     let from-0 = one_word (take 176 c.args.frame.now) (take 184 c.put_word.new.bytes) all control_tag
-    (words.status ∷ (words.satp ∷ (words.mie ∷ (words.scounteren ∷ (words.senvcfg ∷ (words.hstatus ∷ (words.medeleg ∷ (words.mideleg ∷ (words.mode ∷ []))))))))) c.put_word.ensures.front from-1 in
+    (words.status
+    ∷ (words.satp ∷ (words.mie ∷ (words.scounteren ∷ (words.senvcfg ∷ (words.hstatus ∷ (words.medeleg ∷ (words.mideleg ∷ (words.mode ∷ [])))))))))
+    c.put_word.ensures.front from-1 in
     from-0

@@ -11,7 +11,9 @@ returns-in-Host-clause-lists c =
 
 pub returns-in-Some-clause-lists : goal.returns-in-Some-clause-lists
 returns-in-Some-clause-lists c =
-    both_put c.table-in-HostAndMade.result.now.table c.table-in-HostAndMade-2.result.now.table (bare c.args.core.now).table c.args.id c.args.lists (take 256 c.args.frame.now)
-    (take 840 c.put_list-in-HostAndMade.new.frame) (take 1424 c.put_list-in-HostAndMade-2.new.frame) c.host_entries-in-HostAndMade.result.now
-    c.in-Some.entries.now (ap (λ (k : Kept). k.table) c.table-in-HostAndMade.ensures) (ap (λ (k : Kept). k.table) c.table-in-HostAndMade-2.ensures) c.in-HostAndMade.is c.host_entries-in-HostAndMade.ensures.list
+    both_put c.table-in-HostAndMade.result.now.table c.table-in-HostAndMade-2.result.now.table (bare c.args.core.now).table
+    c.args.id c.args.lists (take 256 c.args.frame.now) (take 840 c.put_list-in-HostAndMade.new.frame)
+    (take 1424 c.put_list-in-HostAndMade-2.new.frame) c.host_entries-in-HostAndMade.result.now c.in-Some.entries.now
+    (ap (λ (k : Kept). k.table) c.table-in-HostAndMade.ensures)
+    (ap (λ (k : Kept). k.table) c.table-in-HostAndMade-2.ensures) c.in-HostAndMade.is c.host_entries-in-HostAndMade.ensures.list
     c.in-Some.ensures.list c.put_list-in-HostAndMade.ensures c.put_list-in-HostAndMade-2.ensures

@@ -25,8 +25,8 @@ returns-clause-served g c =
     let hosts = host_words c.args.hosts.now in
     let kept = host_words c.keep_words.new.hosts in
     let given = given_on new kept trap.hart in
-    λ before. stop_served c.write_answer.result (IsAnswer new given trap.hart no_answer None c.wake_all-woken.result lists.Nothing changes) trap s new hosts kept
-    given changes before _ _ c.requires.stop (record { keeps = c.keep_words.ensures; gives = refl })
+    λ before. stop_served c.write_answer.result (IsAnswer new given trap.hart no_answer None c.wake_all-woken.result lists.Nothing changes)
+    trap s new hosts kept given changes before _ _ c.requires.stop (record { keeps = c.keep_words.ensures; gives = refl })
     (λ bytes is sets.
     let after = changed trap.hart changes sets in
     record {
