@@ -5,9 +5,11 @@ use Rattle.pmp_match.specs.declared.cause.Cause.{Cause}
 use Rattle.platforms.specs.Platform.{IsLayout, PlatformLayout}
 use Rattle.enclave_table.specs.Views.{current_view}
 use Rattle.monitor_core.proofs.Currents.{none_live}
+use Rattle.monitor_core.proofs.Put.{put_there}
+use Rattle.monitor_core.specs.Switches.{runner_on}
 use Rattle.trap_server.specs.declared.trap.Trap.{Trap}
 use Rattle.trap_server.specs.Boot.{IsFirstAnswer}
-use Rattle.trap_server.specs.Firmware.{FirmwareHeadline, HasFewest, KeepsTrap, list_after, list_last, loaded_after, loaded_last}
+use Rattle.trap_server.specs.Firmware.{AreThose, FirmwareHeadline, HasFewest, KeepsTrap, list_after, list_last, loaded_after, loaded_last}
 use Rattle.trap_server.specs.Runs.{ServesTraps, first_words, next_trap, no_trap}
 use Rattle.trap_server.specs.declared.words.ControlWords.{ControlWords}
 use Rattle.trap_server.specs.Words.{word_at}
@@ -127,7 +129,11 @@ module _ (law : FirmwareHolds) (steps : StepsPromise) (layout : PlatformLayout) 
       let floats = floats_kept old trap frame read question answered new (ap (λ l. l.harts) (f.platform ∙ sym before.platform)) before.table f.table
       before.worlds f.worlds x k in
       headline (events ++ trapped trap frame read question answered ∷ []) new (happened run (trapped trap frame read question answered) x) next
-      (measured_trap old trap frame read question answered new before.table x kept before.measured) (before.each, (kept, floats, k.registers))
+      (measured_trap old trap frame read question answered new before.table x kept before.measured) (before.each, (kept, floats, record {
+        registers = k.registers;
+        came = λ lived. subst (λ (file : RegisterFile). AreThose trap.event file (new.monitor.registers (runner_on old.monitor trap.hart)))
+            (put_there old.monitor trap.hart trap.registers) (k.came lived);
+      }))
 
   pub board_kept : (events : List BoardEvent) (board : Board) (run : BoardRun layout opened events board) → BoardHeadline layout opened events board run
   board_kept _ _ (booted memory floats kept) = headline [] (booted_board layout opened memory floats kept) (booted memory floats kept)

@@ -18,12 +18,13 @@ use Rattle.enclave_table.specs.declared.enclave.Enclave.{Enclave}
 use Rattle.enclave_table.specs.declared.enclave.Stage.TheVariants.{Fresh}
 use Rattle.monitor_core.specs.Changes.{is_same}
 use Rattle.monitor_core.specs.States.{opening_monitor}
-use Rattle.monitor_core.specs.Switches.{IsGone, KeepsRegisters, runner_on}
+use Rattle.monitor_core.specs.Switches.{HasExited, IsGone, KeepsRegisters, runner_on}
 use Rattle.monitor_core.specs.Worlds.{ArePlaced}
 use Rattle.hart_sim.specs.Memory.{measured_in}
 use Rattle.hart_sim.specs.Steps.{verdict}
+use Rattle.trap_server.specs.declared.trap.Trap.{Trap}
 use Rattle.trap_server.specs.Answered.{AreAwake}
-use Rattle.trap_server.specs.Firmware.{HasFewest, list_last, loaded_last}
+use Rattle.trap_server.specs.Firmware.{AreThose, HasFewest, list_last, loaded_last}
 use Rattle.trap_server.specs.Runs.{ServesTraps, first_words}
 use Rattle.board.specs.Board.{Board, BoardEvent, BoardRun, access, computed, trapped, booted}
 use Rattle.board.specs.Board.{Floats, happened, no_floats, saved}
@@ -109,12 +110,22 @@ pub record KeepsMemory (old new : Board) : Type 0 where
   pub digest : (id : ℕ) (e : Enclave) → enclave_at old.monitor.table.enclaves id ≡ None
       → Live new.monitor.table id e → e.digest ≡ measured_in old.memory e.parts
 
+-- what holds of register sets over each trap. The world that trapped is left with the registers that
+-- it had, if that was no exit: after a call the program counter is past it, and a0 and a1 may be an
+-- answer. Each other set is as it was, but for that of one who comes in, comes back or ends
+pub record KeepsSets (old : Board) (trap : Trap) (new : Board) : Type 0 where
+  pub registers : KeepsRegisters (saved old trap) trap.hart new.monitor
+  pub came :
+      ((id : ℕ) → runner_on old.monitor trap.hart ≡ EnclaveOf id
+      → HasExited old.monitor new.monitor id → ⊥)
+      → AreThose trap.event trap.registers (new.monitor.registers (runner_on old.monitor trap.hart))
+
 -- what holds of an event
 abbrev pub Keeps : BoardEvent → Board → Board → Type 0
 Keeps (access hart a value said) old new = KeepsAccess old hart a said new
 Keeps (computed hart floats) old new = KeepsOtherFloats old hart floats new
 Keeps (trapped trap frame read question answered) old new = KeepsMemory old new
-    × KeepsFloats old new × KeepsRegisters (saved old trap) trap.hart new.monitor
+    × KeepsFloats old new × KeepsSets old trap new
 
 -- so it is for each event of a run
 abbrev pub EachKeeps : {layout : PlatformLayout} {opened : List ℕ} {events : List BoardEvent}
