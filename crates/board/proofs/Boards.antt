@@ -129,11 +129,18 @@ module _ (law : FirmwareHolds) (steps : StepsPromise) (layout : PlatformLayout) 
       let floats = floats_kept old trap frame read question answered new (ap (λ l. l.harts) (f.platform ∙ sym before.platform)) before.table f.table
       before.worlds f.worlds x k in
       headline (events ++ trapped trap frame read question answered ∷ []) new (happened run (trapped trap frame read question answered) x) next
-      (measured_trap old trap frame read question answered new before.table x kept before.measured) (before.each, (kept, floats, record {
-        registers = k.registers;
-        came = λ lived. subst (λ (file : RegisterFile). AreThose trap.event file (new.monitor.registers (runner_on old.monitor trap.hart)))
-            (put_there old.monitor trap.hart trap.registers) (k.came lived);
-      }))
+      (measured_trap old trap frame read question answered new before.table x kept before.measured) (
+        before.each,
+        (
+          kept,
+          floats,
+          record {
+            registers = k.registers;
+            came = λ lived. subst (λ (file : RegisterFile). AreThose trap.event file (new.monitor.registers (runner_on old.monitor trap.hart)))
+                (put_there old.monitor trap.hart trap.registers) (k.came lived);
+          },
+        ),
+      )
 
   pub board_kept : (events : List BoardEvent) (board : Board) (run : BoardRun layout opened events board) → BoardHeadline layout opened events board run
   board_kept _ _ (booted memory floats kept) = headline [] (booted_board layout opened memory floats kept) (booted memory floats kept)

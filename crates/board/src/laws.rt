@@ -18,8 +18,9 @@ use trap_server::firmware_law;
 /// pages of an enclave that was destroyed were zero after that trap, and no other byte changed in any. An enclave that was
 /// created has the digest of its private pages as they were in memory, and as they are until it is entered. Each host and
 /// each enclave finds in registers of floating point what it left there, on whichever hart it goes on, and an enclave that
-/// was created finds zeros. Over each trap the set of integer registers of who waits stays, and who goes on has its own:
-/// the host but for a0 and a1, and an enclave at first zeros but its number and where it begins.
+/// was created finds zeros. Over each trap the set of integer registers of who waits stays, the world that trapped is left
+/// with those that it had, past its call and with its answer, and who goes on has its own: the host but for a0 and a1, and
+/// an enclave at first zeros but its number and where it begins.
 pub fn board_law()
     ensures { (layout : PlatformLayout) (opened : List ℕ) (events : List BoardEvent)
         (board : Board) (run : BoardRun layout opened events board)
