@@ -110,9 +110,9 @@ pub record KeepsMemory (old new : Board) : Type 0 where
   pub digest : (id : ℕ) (e : Enclave) → enclave_at old.monitor.table.enclaves id ≡ None
       → Live new.monitor.table id e → e.digest ≡ measured_in old.memory e.parts
 
--- what holds of register sets over each trap. The world that trapped is left with the registers that
--- it had, if that was no exit: after a call the program counter is past it, and a0 and a1 may be an
--- answer. Each other set is as it was, but for that of one who comes in, comes back or ends
+-- what holds of register sets over each trap. The world that trapped is left with the registers
+-- that it had, if that was no exit: after a call the program counter is past it, and a0 and a1 may
+-- be an answer. Each other set is as it was, but for that of one who comes in, comes back or ends
 pub record KeepsSets (old : Board) (trap : Trap) (new : Board) : Type 0 where
   pub registers : KeepsRegisters (saved old trap) trap.hart new.monitor
   pub came :
