@@ -1,6 +1,6 @@
 //! How a trap is served, and its answer written.
 
-ghost use Rattle.std.specs.Prelude.{◌≡◌, ◌<◌, ◌≤◌, ℕ, List, Option, IfNone, IfSome, is_some, take};
+ghost use Rattle.std.specs.Prelude.{◌≡◌, ◌<◌, ◌≤◌, ◌+◌, ◌*◌, ℕ, List, Option, IfNone, IfSome, is_some, take};
 ghost use Rattle.sbi_decode.specs.Calls.{call_of};
 ghost use Rattle.measurement.specs.declared.request.Create.{Create as CreateParts};
 ghost use Rattle.enclave_table.specs.Enclaves.{Live};
