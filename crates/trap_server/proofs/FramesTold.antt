@@ -1,8 +1,7 @@
 -- The frame of a trap has all that decides how it is served.
-use Rattle.std.proofs.Common.{◌≡◌, ◌∙◌, ℕ, List, Option, Some, None, ◌==◌, not, if◌then◌else◌, ap, sym, refl, subst, lit<, lit≤, arith}
+use Rattle.std.proofs.Common.{◌≡◌, ◌∙◌, ℕ, List, Option, Some, None, ◌==◌, not, if◌then◌else◌, sym, refl, subst, lit<, lit≤, arith}
 use Rattle.sbi_decode.specs.Calls.{a_of, call_of}
 use Rattle.sbi_decode.specs.Registers.{RegisterFile}
-use Rattle.sbi_decode.specs.Runners.{Runner}
 use Rattle.sbi_decode.specs.declared.calls.Call.{Call}
 use Rattle.sbi_decode.specs.declared.calls.Call.TheVariants as calls
 use Rattle.monitor_core.specs.Measured.{asked_in}
@@ -11,12 +10,11 @@ use Rattle.monitor_core.specs.States.{MonitorState}
 use Rattle.monitor_core.specs.declared.set_changes.SetChanges.{SetChanges}
 use Rattle.trap_server.specs.Answered.{IsAnswer, marks_of, new_lists}
 use Rattle.trap_server.specs.Service.{AsksFor, FramesTell, ServesAll, ServesAs, given_at}
-use Rattle.trap_server.specs.Sets.{AreThere, with_sets}
+use Rattle.trap_server.specs.Sets.{with_sets}
 use Rattle.trap_server.specs.Traps.{HasCall, IsTagOf, IsTrapFrame}
 use Rattle.trap_server.specs.declared.trap.Trap.{Trap}
 use Rattle.trap_server.specs.declared.trap.TrapEvent.{TrapEvent}
 use Rattle.trap_server.specs.declared.trap.TrapEvent.TheVariants.{Call as IsCall, Stop as IsStop}
-use Rattle.trap_server.specs.Words.{call_tag, stop_tag}
 
 -- the call that a0 to a7 name
 abbrev call_by : ℕ → ℕ → ℕ → ℕ → ℕ → ℕ → ℕ → ℕ → Option Call

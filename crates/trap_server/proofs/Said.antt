@@ -1,5 +1,5 @@
 -- What the bytes of an answer say of register sets and control words.
-use Rattle.std.proofs.Common.{◌≡◌, ◌∙◌, ℕ, ◌+◌, ◌*◌, ◌==◌, ◌<◌, ◌^◌, Bool, if◌then◌else◌, List, [], ◌∷◌, ◌++◌, length, Option, Some, None, IfSome, ap, sym, refl, arith, lit<}
+use Rattle.std.proofs.Common.{◌≡◌, ◌∙◌, ℕ, ◌+◌, ◌*◌, ◌==◌, ◌<◌, ◌^◌, Bool, if◌then◌else◌, List, [], ◌++◌, length, Option, Some, None, IfSome, ap, sym, arith, lit<}
 use Rattle.std.proofs.Common.{append_assoc, append-nil, length-append}
 use Rattle.pmp_encoding.specs.declared.pages.PageRange.{PageRange}
 use Rattle.pmp_encoding.specs.declared.region.Entry.{Entry}

@@ -1,5 +1,5 @@
 -- What one trap keeps that was served.
-use Rattle.std.proofs.Common.{◌≡◌, ◌≢◌, ◌∙◌, ◌<◌, ◌≤◌, ◌||◌, ◌⊎◌, ◌==◌, if◌then◌else◌, inl, inr, ℕ, zero, suc, pos, Bool, true, false, List, Option, Some, None, IfSome}
+use Rattle.std.proofs.Common.{◌≡◌, ◌≢◌, ◌∙◌, ◌<◌, ◌≤◌, ◌||◌, ◌⊎◌, inl, inr, ℕ, zero, suc, pos, true, false, List, Option, Some, None, IfSome}
 use Rattle.std.proofs.Common.{slice_index_or, refl, ap, sym, subst, arith}
 use Rattle.pmp_encoding.specs.Views.{SameView}
 use Rattle.pmp_encoding.specs.declared.pages.PageRange.{PageRange}
@@ -9,7 +9,7 @@ use Rattle.sbi_decode.specs.Calls.{call_of}
 use Rattle.sbi_decode.specs.Registers.{RegisterFile}
 use Rattle.sbi_decode.specs.Runners.{EnclaveOf}
 use Rattle.sbi_decode.specs.declared.world.World.{World}
-use Rattle.sbi_decode.specs.declared.world.World.TheVariants.{Host, Enclave as InEnclave}
+use Rattle.sbi_decode.specs.declared.world.World.TheVariants.{Host}
 use Rattle.platforms.specs.CheckLists.{AllPass}
 use Rattle.enclave_table.specs.Checks.{create_checks}
 use Rattle.enclave_table.specs.Enclaves.{EnclaveTable, Live, enclave_at}
@@ -29,7 +29,6 @@ use Rattle.monitor_core.specs.Switches.{HasExited, KeepsRegisters, runner_on}
 use Rattle.monitor_core.specs.Wants.{IsRefusedByNeed}
 use Rattle.monitor_core.specs.Worlds.{ArePlaced}
 use Rattle.monitor_core.specs.declared.answer.Answer.{Answer}
-use Rattle.monitor_core.proofs.Cases.{both}
 use Rattle.monitor_core.proofs.Cleared.{call_clears_memory}
 use Rattle.monitor_core.proofs.Others.{others_call, others_irq}
 use Rattle.monitor_core.proofs.Put.{put_there}

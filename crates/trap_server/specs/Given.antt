@@ -7,9 +7,9 @@ use Rattle.trap_server.specs.declared.words.ControlWords.{ControlWords}
 use Rattle.trap_server.specs.Tables.{enclave_words}
 use Rattle.trap_server.specs.Words.{word_at}
 
--- the words that are given at a trap, by the worlds that run on the hart before and after it, and by
--- what came with it: those of an enclave where a host enters it. Else none are: the world that goes
--- on has those with which it ran there last
+-- the words that are given at a trap, by the worlds that run on the hart before and after it, and
+-- by what came with it: those of an enclave where a host enters it. Otherwise none are: the world
+-- that goes on has those with which it ran there last
 abbrev pub words_given : World → World → HostWords → Option ControlWords
 words_given Host (InEnclave id) came = Some (enclave_words came)
 words_given Host Host came = None

@@ -1,6 +1,6 @@
 -- What each part of the loop does, where it is done and where it is not.
-use Rattle.std.specs.Prelude.{◌≡◌, ◌⊎◌, ℕ, ◌+◌, ◌/◌, ◌<◌, true, false, List, [], ◌++◌, Option}
-use Rattle.std.specs.Prelude.{Result, Ok, Err, Bool, slice_index_or}
+use Rattle.std.specs.Prelude.{◌≡◌, ◌⊎◌, ℕ, ◌+◌, ◌/◌, List, [], ◌++◌, Option}
+use Rattle.std.specs.Prelude.{Result, Ok, Err}
 use Rattle.std.specs.Io.KnownBytes.{Appends, Consumes}
 use Rattle.byte_streams.specs.Writings.{TakesPart}
 use Rattle.enclave_table.specs.Enclaves.{Live}

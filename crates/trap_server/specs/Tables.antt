@@ -4,8 +4,8 @@ use Rattle.trap_server.specs.declared.host_words.HostWords.{HostWords}
 use Rattle.trap_server.specs.declared.words.ControlWords.{ControlWords}
 
 -- of mstatus: UXL, bits 33:32, is 2, which says 64 bits, and registers of floating point are open:
--- FS, bits 14:13, is 1, which says Initial. The hart makes it 3, Dirty, once one of them changes. In
--- a hart that has none of them it reads zero. Interrupts are off, bytes in little-endian order,
+-- FS, bits 14:13, is 1, which says Initial. The hart makes it 3, Dirty, once one of them changes.
+-- In a hart that has none of them it reads zero. Interrupts are off, bytes in little-endian order,
 -- vectors and extensions off
 abbrev pub with_floats : ℕ
 with_floats = 0x200002000

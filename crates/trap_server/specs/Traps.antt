@@ -21,8 +21,8 @@ IsTagOf Stop tag = tag ≡ stop_tag
 abbrev pub HasCall : List ℕ → RegisterFile → Type 0
 HasCall bytes file = (n : ℕ) → 10 ≤ n → n < 18 → x_of file n ≡ word_at bytes (n - 8)
 
--- the bytes are the frame of a trap on one of that many harts. After the words of a call are mie and
--- scounteren as they were
+-- the bytes are the frame of a trap on one of that many harts. After the words of a call are mie
+-- and scounteren as they were
 pub record IsTrapFrame (bytes : List ℕ) (harts : ℕ) (trap : Trap) : Type 0 where
   pub tag : IsTagOf trap.event (word_at bytes 0)
   pub hart : word_at bytes 1 ≡ trap.hart

@@ -139,14 +139,7 @@ fn serve_booted<R: Source, W: Sink>(
         if !is_there {
             return Ok(());
         }
-        match serve_trap(
-            core,
-            &trap,
-            &mut changes,
-            &mut frame,
-            source,
-            sink,
-        ) {
+        match serve_trap(core, &trap, &mut changes, &mut frame, source, sink) {
             Ok(()) => {}
             Err(fault) => return Err(fault),
         }

@@ -1,4 +1,4 @@
-use Rattle.std.proofs.Common.{◌≡◌, ◌∙◌, List, ℕ, ap, refl, sym, subst}
+use Rattle.std.proofs.Common.{◌∙◌, ap, refl, sym, subst}
 use Rattle.sbi_decode.specs.Calls.{call_of}
 use Rattle.sbi_decode.specs.Registers.{RegisterFile}
 use Rattle.sbi_decode.specs.Runners.{Runner}
@@ -10,7 +10,6 @@ use Rattle.monitor_core.specs.SetChanges.{changed}
 use Rattle.monitor_core.specs.States.{MonitorState}
 use Rattle.trap_server.specs.Answered.{IsAnswer}
 use Rattle.trap_server.specs.Given.{words_given}
-use Rattle.trap_server.specs.Service.{given_at}
 use Rattle.trap_server.specs.Sets.{bare, with_sets}
 use Rattle.trap_server.proofs.Answering.{call_answered, call_unanswered, made_measured, made_to_measure, none_asked, nothing_made}
 use Rattle.trap_server.proofs.ListsKept.{made_by_lists}
