@@ -1,5 +1,5 @@
 -- What becomes of control words over a trap.
-use Rattle.std.proofs.Common.{◌≡◌, ◌≢◌, ◌∙◌, inl, inr, ℕ, ◌+◌, ◌<◌, ◌≤◌, ◌^◌, ◌==◌, if◌then◌else◌, bit_and, bit_or, List, Option, Some, None, IfSome, refl, ap, sym, subst}
+use Rattle.std.proofs.Common.{◌≡◌, ◌≢◌, ◌∙◌, inl, inr, ℕ, ◌==◌, if◌then◌else◌, bit_and, List, Option, Some, None, IfSome, refl, ap, sym, subst}
 use Rattle.std.proofs.Common.{arith, lit<}
 use Rattle.std.proofs.lemmas.Bool.{both_ways, eq-eqb, eqb-true}
 use Rattle.std.proofs.lemmas.Nat.{and_le_r}
@@ -31,7 +31,6 @@ use Rattle.trap_server.specs.declared.host_words.HostWords.{HostWords}
 use Rattle.trap_server.specs.declared.trap.Trap.{Trap}
 use Rattle.trap_server.specs.declared.trap.TrapEvent.{TrapEvent}
 use Rattle.trap_server.specs.declared.trap.TrapEvent.TheVariants as traps
-use Rattle.trap_server.specs.declared.words.ControlWords.{ControlWords}
 use Rattle.trap_server.proofs.Said.{says_words}
 use Rattle.board.specs.Board.{Board, ChangesControl, DoesTrap, framed, runner_by, saved}
 use Rattle.board.specs.Headline.{HaveOwnControl, KeepsControl, host_control}

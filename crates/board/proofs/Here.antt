@@ -1,9 +1,8 @@
 -- A trap on a board, as it was served with the register sets that were there.
-use Rattle.std.proofs.Common.{◌≡◌, ◌∙◌, ℕ, List, ap, sym, subst}
+use Rattle.std.proofs.Common.{◌≡◌, ℕ, List, ap, sym, subst}
 use Rattle.sbi_decode.specs.Calls.{call_of}
 use Rattle.sbi_decode.specs.Registers.{RegisterFile}
 use Rattle.sbi_decode.specs.Runners.{Runner}
-use Rattle.monitor_core.specs.SetChanges.{changed}
 use Rattle.monitor_core.specs.States.{running_registers}
 use Rattle.monitor_core.proofs.Put.{put_there}
 use Rattle.trap_server.specs.Service.{ServesAs}

@@ -139,7 +139,8 @@ trap_seen layout opened seen kind old new hart file on known x =
             others = λ other differ none. refl;
           };
           control = control_changes (board_of old on.registers on.marked on.lists on.loaded on.control on.hosts)
-              (board_of new sets (unmarked 4 x.mid).marked lists loaded control hosts) hart who next (said_words answered) refl refl;
+              (board_of new sets (unmarked 4 x.mid).marked lists loaded control hosts) hart who next (said_words answered)
+              (refl {a = control}) (refl {a = hosts});
         });
         waits = x.waits;
       },
