@@ -138,7 +138,8 @@ module _ (law : FirmwareHolds) (steps : StepsPromise) (layout : PlatformLayout) 
       let next = next_served (read_on run) (written_on run) old trap frame read question answered new before.served x in
       let f = firmware (read_on run ++ (frame ++ read)) (written_on run ++ (answered ++ question)) new next in
       let k : KeepsTrap (saved old trap) trap x.changes read question answered new.monitor =
-      subst (λ (sets : Runner → RegisterFile). KeepsTrap (saved old trap) trap x.changes read question answered (with_sets new.monitor sets)) (sym x.sets) (f.each.1 (saved old trap).registers (call_there old trap)) in
+      subst (λ (sets : Runner → RegisterFile). KeepsTrap (saved old trap) trap x.changes read question answered (with_sets new.monitor sets))
+      (sym x.sets) (f.each.1 (saved old trap).registers (call_there old trap)) in
       let kept = trap_kept old trap frame read question answered new before.table x k in
       let harts = ap (λ l. l.harts) (f.platform ∙ sym before.platform) in
       let floats = floats_kept old trap frame read question answered new harts before.table f.table before.worlds f.worlds x k in

@@ -140,8 +140,8 @@ pub record KeepsSets (old : Board) (trap : Trap) (new : Board) : Type 0 where
       → HasExited old.monitor new.monitor id → ⊥)
       → AreThose trap.event trap.registers (new.monitor.registers (runner_on old.monitor trap.hart))
 
--- what holds of control words over each trap. Each host has those that it had: one that goes on, one
--- that waits, and one that comes back after an enclave. An enclave that its host enters has its
+-- what holds of control words over each trap. Each host has those that it had: one that goes on,
+-- one that waits, and one that comes back after an enclave. An enclave that its host enters has its
 -- own, by two of the host's. And on each hart that stays in its world they stay
 pub record KeepsControl (old : Board) (trap : Trap) (new : Board) : Type 0 where
   pub hosts : (hart : ℕ) → host_control new hart ≡ host_control old hart
