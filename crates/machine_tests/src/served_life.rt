@@ -37,8 +37,8 @@ const INTERRUPTS: u64 = 0xfff5;
 
 const COUNTERS: u64 = 7;
 
-/// The control words of an enclave under such a host: floating point is open, of the host's interrupts two are enabled beside
-/// the monitor's, and user mode reads the time.
+/// The control words of an enclave under such a host: floating point is open, of the host's interrupts two are enabled
+/// beside the monitor's, and user mode reads the time.
 const ENCLAVE_WORDS: [u64; 9] = [0x2_0000_2000, 0, 0x2a8, 2, 0, 0, 0, 0, 0];
 
 /// Words at the end of bytes, the lowest byte of each first.
@@ -114,8 +114,8 @@ fn after<'a>(rt: &impl Abort, alloc: Global, written: &'a [u8], words: &[u64]) -
 }
 
 /// Takes an answer: its hart, its world, the status and the value, how many entries there are, the pages to make zero, the
-/// harts that are woken, how many lists of entries are new, at most two, and how many control words are given, which are an
-/// enclave's.
+/// harts that are woken, how many lists of entries are new, at most two, and how many control words are given, which are
+/// an enclave's.
 fn after_answer<'a>(
     rt: &impl Abort,
     alloc: Global,
@@ -135,8 +135,8 @@ fn after_answer<'a>(
 }
 
 /// The answers in turn. The host's list is new at boot, after the creation, with the enclave's, and after the destruction. The
-/// pages of the creation are asked for once, after its answer, and those of the destruction named once. Control words are
-/// given where a host enters the enclave, and nowhere else.
+/// pages of the creation are asked for once, after its answer, and those of the destruction named once. Control words
+/// are given where a host enters the enclave, and nowhere else.
 fn answers_a_life(rt: &impl Abort, alloc: Global, written: &[u8]) {
     let rest = after_answer(rt, alloc, written, [0, 0, 0, 0, 3, 0, 0, 2, 1, 0]);
     let rest = after_answer(rt, alloc, rest, [0, 0, 0, 1, 4, 0, 0, 2, 2, 0]);
