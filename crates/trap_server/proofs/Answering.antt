@@ -1,6 +1,6 @@
 -- A trap that was answered, and what comes after the answer.
 use Rattle.std.proofs.Common.{◌≡◌, ◌∙◌, ◌≤◌, inl, inr, ℕ, List, [], ◌++◌, take, Bool, Option, Result, Ok, Err, ap, sym, subst, refl, append-nil}
-use Rattle.std.proofs.Common.{None, Some, false, is_some}
+use Rattle.std.proofs.Common.{None, Some, IfSome, false, is_some}
 use Rattle.std.specs.Io.KnownBytes.{Appends}
 use Rattle.std.proofs.lemmas.Bool.{true≢false}
 use Rattle.std.proofs.KnownBytes.{Appends-trans, Consumes-nil}
@@ -22,15 +22,13 @@ use Rattle.sbi_decode.specs.Registers.{RegisterFile}
 use Rattle.sbi_decode.specs.Runners.{Runner}
 use Rattle.monitor_core.specs.SetChanges.{changed}
 use Rattle.monitor_core.specs.declared.set_changes.SetChanges.{SetChanges}
-use Rattle.trap_server.specs.Answers.{lists_bytes}
-use Rattle.trap_server.specs.Sets.{AreThere, said_changes, with_sets}
-use Rattle.trap_server.proofs.LoadedBytes.{changes_back}
+use Rattle.trap_server.specs.Sets.{AreThere, with_sets}
+use Rattle.trap_server.proofs.Said.{says_changes, says_words}
 use Rattle.trap_server.proofs.Bare.{answer_with}
-use Rattle.trap_server.specs.Answered.{AreAwake, AreWords, IsAnswer, given_on, head_of, marks_of, new_lists, no_answer, unmarked}
-use Rattle.trap_server.specs.Given.{GivesWords, keeping}
+use Rattle.trap_server.specs.Answered.{AreAwake, AreControl, AreWords, IsAnswer, marks_of, new_lists, no_answer, unmarked}
 use Rattle.trap_server.specs.PageDigest.{HasParts, question_of}
-use Rattle.trap_server.specs.Service.{AnswersCall, ServesAs, ServesStop}
-use Rattle.trap_server.specs.Steps.{AnswersAs, AnswersTrap, MeasuresMade, Serves, Writes}
+use Rattle.trap_server.specs.Service.{AnswersCall, ServesAs, ServesStop, given_at}
+use Rattle.trap_server.specs.Steps.{AnswersAs, AnswersTrap, MeasuresMade, Says, Serves, Writes}
 use Rattle.trap_server.specs.declared.fault.ServeFault.{ServeFault}
 use Rattle.trap_server.specs.declared.trap.Trap.{Trap}
 use Rattle.trap_server.specs.declared.trap.TrapEvent.{TrapEvent}
@@ -42,10 +40,10 @@ use Rattle.trap_server.proofs.Served.{quiet}
 
 -- the answer was not written whole
 unanswered :
-    (fault : ServeFault) (Are : List ℕ → Type 0) (trap : Trap) (answer : Answer) (old new : MonitorState) (hosts kept : ℕ → ControlWords)
-    (before held holds : Option (List ℕ)) → ((bytes : List ℕ) → Are bytes → AnswersTrap old hosts trap answer bytes)
-    → Writes (Err fault) Are held holds → Serves (Err fault) trap old hosts new kept before before held holds
-unanswered fault Are trap answer old new hosts kept before held holds answers wrote =
+    (fault : ServeFault) (Are : List ℕ → Type 0) (trap : Trap) (answer : Answer) (old new : MonitorState)
+    (before held holds : Option (List ℕ)) → ((bytes : List ℕ) → Are bytes → AnswersTrap old trap answer bytes)
+    → Writes (Err fault) Are held holds → Serves (Err fault) trap old new before before held holds
+unanswered fault Are trap answer old new before held holds answers wrote =
     let part = take wrote.3.0 wrote.1 in (
       [],
       part,
@@ -54,125 +52,105 @@ unanswered fault Are trap answer old new hosts kept before held holds answers wr
       wrote.3.2,
     )
 
--- an answer says what becomes of register sets
-pub says_changes :
-    (s : MonitorState) (given : ControlWords) (hart : ℕ) (answer : Answer) (cleared : Option PageRange) (woken : List Bool) (new : NewLists)
-    (changes : SetChanges) (bytes : List ℕ) → AreWords changes → IsAnswer s given hart answer cleared woken new changes bytes → said_changes bytes ≡ changes
-says_changes s given hart answer cleared woken new changes bytes words a =
-    ap said_changes a.puts.put ∙ changes_back (head_of s hart answer a.used cleared woken new) changes given (lists_bytes a.puts.are) words
-
 -- ---- an interrupt
 
 pub stop_served :
-    (result : Result (Unit {0}) ServeFault) (Are : List ℕ → Type 0) (trap : Trap) (old new : MonitorState) (hosts kept : ℕ → ControlWords)
-    (given : ControlWords) (changes : SetChanges) (before held holds : Option (List ℕ)) → trap.event ≡ Stop
-    → GivesWords hosts trap.hart (old.worlds trap.hart) (new.worlds trap.hart) trap.control kept given
+    (result : Result (Unit {0}) ServeFault) (Are : List ℕ → Type 0) (trap : Trap) (old new : MonitorState)
+    (changes : SetChanges) (before held holds : Option (List ℕ)) → trap.event ≡ Stop
     → ((bytes : List ℕ) → Are bytes → (sets : Runner → RegisterFile)
-    → ServesStop (with_sets old sets) trap given changes [] [] bytes (with_sets new (changed trap.hart changes sets)))
-    → ((bytes : List ℕ) → Are bytes → said_changes bytes ≡ changes) → AreAwake new → new.table.layout ≡ old.table.layout
-    → Writes result Are held holds → Serves result trap old hosts new kept before before held holds
-stop_served (Ok done) Are trap old new hosts kept given changes before held holds is words served said awake layout wrote =
+    → ServesStop (with_sets old sets) trap changes [] [] bytes (with_sets new (changed trap.hart changes sets)))
+    → ((bytes : List ℕ) → Are bytes → Says bytes changes (given_at old new trap)) → AreAwake new → new.table.layout ≡ old.table.layout
+    → Writes result Are held holds → Serves result trap old new before before held holds
+stop_served (Ok done) Are trap old new changes before held holds is served said awake layout wrote =
     let bytes = wrote.0 in (
       [],
       [],
       bytes,
       changes,
-      λ sets there. record {
-        given = given;
-        words = words;
-        step = subst (λ (e : TrapEvent). ServesAs e (with_sets old sets) trap given changes [] [] bytes (with_sets new (changed trap.hart changes sets)))
-            (sym is) (served bytes wrote.1 sets);
-      },
+      λ sets there. subst (λ (e : TrapEvent). ServesAs e (with_sets old sets) trap changes [] [] bytes (with_sets new (changed trap.hart changes sets)))
+          (sym is) (served bytes wrote.1 sets),
       said bytes wrote.1,
       awake,
       layout,
       Consumes-nil before,
       subst (Appends held holds) (sym (append-nil bytes)) wrote.2,
     )
-stop_served (Err fault) Are trap old new hosts kept given changes before held holds is words served said awake layout wrote =
-    unanswered fault Are trap no_answer old new hosts kept before held holds
+stop_served (Err fault) Are trap old new changes before held holds is served said awake layout wrote =
+    unanswered fault Are trap no_answer old new before held holds
     (λ bytes are. record {
-      given = given;
       changes = changes;
       new = new;
-      kept = kept;
-      words = words;
-      answers = λ sets there. subst (λ (e : TrapEvent). AnswersAs e (with_sets old sets) trap given changes no_answer bytes
+      answers = λ sets there. subst (λ (e : TrapEvent). AnswersAs e (with_sets old sets) trap changes no_answer bytes
           (with_sets new (changed trap.hart changes sets))) (sym is) (refl, served bytes are sets);
     }) wrote
 
 -- ---- a call
 
 -- it was answered, with the state that is then
-pub record CallAnswered (old now : MonitorState) (hosts kept : ℕ → ControlWords) (trap : Trap) (answer : Answer) (answered : List ℕ) : Type 0 where
-  pub given : ControlWords
+pub record CallAnswered (old now : MonitorState) (trap : Trap) (answer : Answer) (answered : List ℕ) : Type 0 where
   pub changes : SetChanges
   pub digest : List ℕ
   pub is_call : trap.event ≡ Call
-  pub words : GivesWords hosts trap.hart (old.worlds trap.hart) (now.worlds trap.hart) trap.control kept given
   pub answers : (sets : Runner → RegisterFile) → AreThere old trap sets
-      → AnswersCall (with_sets old sets) trap given changes digest answer answered (with_sets now (changed trap.hart changes sets))
-  pub said : said_changes answered ≡ changes
+      → AnswersCall (with_sets old sets) trap changes digest answer answered (with_sets now (changed trap.hart changes sets))
+  pub said : Says answered changes (given_at old now trap)
   pub table : IsTable now.table
   pub awake : AreAwake now
   pub layout : now.table.layout ≡ old.table.layout
 
 -- the call was served, and each hart woken that was marked
 pub call_answered :
-    (s mid now : MonitorState) (hosts kept : ℕ → ControlWords) (trap : Trap) (changes : SetChanges) (digest : List ℕ) (answer : Answer)
-    (cleared : Option PageRange) (woken : List Bool) (new : NewLists) (harts : ℕ) (bytes : List ℕ) → trap.event ≡ Call
+    (s mid now : MonitorState) (trap : Trap) (changes : SetChanges) (digest : List ℕ) (answer : Answer)
+    (cleared : Option PageRange) (woken : List Bool) (new : NewLists) (given : Option ControlWords) (harts : ℕ) (bytes : List ℕ) → trap.event ≡ Call
     → ((sets : Runner → RegisterFile) → let old = with_sets s sets in let file = past_call (running_registers old trap.hart) in
     AreThere s trap sets → DoesCall (call_of file) (λ parts. digest) (with_running old trap.hart file) trap.hart answer cleared
     (with_sets mid (changed trap.hart changes sets)))
     → mid.table.layout ≡ s.table.layout → IsTable mid.table → harts ≡ s.table.layout.harts → harts ≤ 4 → now ≡ unmarked 4 mid → woken ≡ marks_of mid
-    → kept ≡ keeping (s.worlds trap.hart) hosts trap.hart trap.control
-    → new ≡ new_lists (asked_in (call_of trap.registers)) answer cleared → AreWords changes
-    → IsAnswer now (given_on now kept trap.hart) trap.hart answer cleared woken new changes bytes → CallAnswered s now hosts kept trap answer bytes
-call_answered s mid now hosts kept trap changes digest answer cleared woken new harts bytes is step layout sound number most n w keeps l fit says =
-    let given = given_on now kept trap.hart in
+    → new ≡ new_lists (asked_in (call_of trap.registers)) answer cleared → AreWords changes → given ≡ given_at s now trap → IfSome given AreControl
+    → IsAnswer now given trap.hart answer cleared woken new changes bytes → CallAnswered s now trap answer bytes
+call_answered s mid now trap changes digest answer cleared woken new given harts bytes is step layout sound number most n w l fit gives control says =
     let few : mid.table.layout.harts ≤ 4 = subst (λ l. l.harts ≤ 4) (sym layout) (subst (λ k. k ≤ 4) number most) in
     let lists = new_lists (asked_in (call_of trap.registers)) answer cleared in
-    let known = subst (λ (ls : NewLists). IsAnswer now given trap.hart answer cleared (marks_of mid) ls changes bytes) l
-    (subst (λ (ws : List Bool). IsAnswer now given trap.hart answer cleared ws new changes bytes) w says) in
+    let known = subst (λ (g : Option ControlWords). IsAnswer now g trap.hart answer cleared (marks_of mid) lists changes bytes) gives
+    (subst (λ (ls : NewLists). IsAnswer now given trap.hart answer cleared (marks_of mid) ls changes bytes) l
+    (subst (λ (ws : List Bool). IsAnswer now given trap.hart answer cleared ws new changes bytes) w says)) in
     record {
-      given = given;
       changes = changes;
       digest = digest;
       is_call = is;
-      words = record { keeps = keeps; gives = refl };
       answers = λ sets there. record {
         cleared = cleared;
         mid = with_sets mid (changed trap.hart changes sets);
         step = step sets there;
         woken = ap (λ (m : MonitorState). with_sets m (changed trap.hart changes sets)) n;
-        goes_on = answer_with now (changed trap.hart changes sets) given trap.hart answer cleared (marks_of mid) lists changes bytes known;
+        goes_on = answer_with now (changed trap.hart changes sets) (given_at s now trap) trap.hart answer cleared (marks_of mid) lists changes bytes known;
       };
-      said = says_changes now given trap.hart answer cleared woken new changes bytes fit says;
+      said = (
+        says_changes now given trap.hart answer cleared woken new changes bytes says fit,
+        says_words now given trap.hart answer cleared woken new changes bytes control says ∙ gives,
+      );
       table = subst (λ (x : MonitorState). IsTable x.table) (sym n) sound;
       awake = quiet mid now n few;
       layout = ap (λ (x : MonitorState). x.table.layout) n ∙ layout;
     }
 
 as_trap :
-    (old now : MonitorState) (hosts kept : ℕ → ControlWords) (trap : Trap) (answer : Answer) (answered : List ℕ)
-    → CallAnswered old now hosts kept trap answer answered → AnswersTrap old hosts trap answer answered
-as_trap old now hosts kept trap answer answered a = record {
-  given = a.given;
+    (old now : MonitorState) (trap : Trap) (answer : Answer) (answered : List ℕ)
+    → CallAnswered old now trap answer answered → AnswersTrap old trap answer answered
+as_trap old now trap answer answered a = record {
   changes = a.changes;
   new = now;
-  kept = kept;
-  words = a.words;
-  answers = λ sets there. subst (λ (e : TrapEvent). AnswersAs e (with_sets old sets) trap a.given a.changes answer answered
+  answers = λ sets there. subst (λ (e : TrapEvent). AnswersAs e (with_sets old sets) trap a.changes answer answered
       (with_sets now (changed trap.hart a.changes sets))) (sym a.is_call) (a.digest, a.answers sets there);
 }
 
 -- its answer was not written whole
 pub call_unanswered :
-    (fault : ServeFault) (Are : List ℕ → Type 0) (trap : Trap) (answer : Answer) (old now : MonitorState) (hosts kept : ℕ → ControlWords)
-    (before held holds : Option (List ℕ)) → ((bytes : List ℕ) → Are bytes → CallAnswered old now hosts kept trap answer bytes)
-    → Writes (Err fault) Are held holds → Serves (Err fault) trap old hosts now kept before before held holds
-call_unanswered fault Are trap answer old now hosts kept before held holds answers wrote =
-    unanswered fault Are trap answer old now hosts kept before held holds (λ bytes are. as_trap old now hosts kept trap answer bytes (answers bytes are)) wrote
+    (fault : ServeFault) (Are : List ℕ → Type 0) (trap : Trap) (answer : Answer) (old now : MonitorState)
+    (before held holds : Option (List ℕ)) → ((bytes : List ℕ) → Are bytes → CallAnswered old now trap answer bytes)
+    → Writes (Err fault) Are held holds → Serves (Err fault) trap old now before before held holds
+call_unanswered fault Are trap answer old now before held holds answers wrote =
+    unanswered fault Are trap answer old now before held holds (λ bytes are. as_trap old now trap answer bytes (answers bytes are)) wrote
 
 -- who asks for no creation has made none
 pub none_asked : (asked : Option Create) (answer : Answer) → is_some asked ≡ false → (parts : Create) → IsMade asked answer parts → ⊥
@@ -181,20 +159,16 @@ none_asked (Some asked) answer is parts made = true≢false is
 
 -- it made no enclave
 pub nothing_made :
-    (old now : MonitorState) (hosts kept : ℕ → ControlWords) (trap : Trap) (answer : Answer) (bytes : List ℕ) (before held holds : Option (List ℕ))
-    → CallAnswered old now hosts kept trap answer bytes → ((parts : Create) → IsMade (asked_in (call_of trap.registers)) answer parts → ⊥)
-    → Appends held holds bytes → Serves (Ok tt) trap old hosts now kept before before held holds
-nothing_made old now hosts kept trap answer bytes before held holds a none wrote = (
+    (old now : MonitorState) (trap : Trap) (answer : Answer) (bytes : List ℕ) (before held holds : Option (List ℕ))
+    → CallAnswered old now trap answer bytes → ((parts : Create) → IsMade (asked_in (call_of trap.registers)) answer parts → ⊥)
+    → Appends held holds bytes → Serves (Ok tt) trap old now before before held holds
+nothing_made old now trap answer bytes before held holds a none wrote = (
   [],
   [],
   bytes,
   a.changes,
-  λ sets there. record {
-    given = a.given;
-    words = a.words;
-    step = subst (λ (e : TrapEvent). ServesAs e (with_sets old sets) trap a.given a.changes [] [] bytes (with_sets now (changed trap.hart a.changes sets)))
-        (sym a.is_call) (record { digest = a.digest; answer = answer; answers = a.answers sets there; asks = inl (refl, refl, none) });
-  },
+  λ sets there. subst (λ (e : TrapEvent). ServesAs e (with_sets old sets) trap a.changes [] [] bytes (with_sets now (changed trap.hart a.changes sets)))
+      (sym a.is_call) (record { digest = a.digest; answer = answer; answers = a.answers sets there; asks = inl (refl, refl, none) }),
   a.said,
   a.awake,
   a.layout,
@@ -204,66 +178,62 @@ nothing_made old now hosts kept trap answer bytes before held holds a none wrote
 
 -- it made one, as with the sets that have the registers of the trap
 made_there :
-    (old now : MonitorState) (hosts kept : ℕ → ControlWords) (trap : Trap) (answer : Answer) (bytes : List ℕ) (parts : Create)
-    → CallAnswered old now hosts kept trap answer bytes → IsMade (asked_in (call_of trap.registers)) answer parts
+    (old now : MonitorState) (trap : Trap) (answer : Answer) (bytes : List ℕ) (parts : Create)
+    → CallAnswered old now trap answer bytes → IsMade (asked_in (call_of trap.registers)) answer parts
     → (e : Enclave) × Live now.table answer.value e × HasParts parts
-made_there old now hosts kept trap answer bytes parts a made =
+made_there old now trap answer bytes parts a made =
     let sets : Runner → RegisterFile = λ who. trap.registers in
-    let r = answer_remeasured (with_sets old sets) trap a.given a.changes a.digest answer bytes (with_sets now (changed trap.hart a.changes sets)) parts refl
+    let r = answer_remeasured (with_sets old sets) trap a.changes a.digest answer bytes (with_sets now (changed trap.hart a.changes sets)) parts refl
     a.table (a.answers sets refl) made in (r.0, r.1, r.2)
 
 -- which is live, and whose pages can be asked for
 pub made_to_measure :
-    (old now : MonitorState) (hosts kept : ℕ → ControlWords) (trap : Trap) (answer : Answer) (bytes : List ℕ) (parts : Create)
-    → CallAnswered old now hosts kept trap answer bytes → IsMade (asked_in (call_of trap.registers)) answer parts
+    (old now : MonitorState) (trap : Trap) (answer : Answer) (bytes : List ℕ) (parts : Create)
+    → CallAnswered old now trap answer bytes → IsMade (asked_in (call_of trap.registers)) answer parts
     → ((e : Enclave) × Live now.table answer.value e) × HasParts parts
-made_to_measure old now hosts kept trap answer bytes parts a made =
-    let r = made_there old now hosts kept trap answer bytes parts a made in ((r.0, r.1), r.2)
+made_to_measure old now trap answer bytes parts a made =
+    let r = made_there old now trap answer bytes parts a made in ((r.0, r.1), r.2)
 
 -- and which was measured, or the loop ends
 pub made_measured :
-    (result : Result (Unit {0}) ServeFault) (old now new : MonitorState) (hosts kept : ℕ → ControlWords) (trap : Trap) (answer : Answer) (bytes : List ℕ)
-    (parts : Create) (before after held middle holds : Option (List ℕ)) → CallAnswered old now hosts kept trap answer bytes
+    (result : Result (Unit {0}) ServeFault) (old now new : MonitorState) (trap : Trap) (answer : Answer) (bytes : List ℕ)
+    (parts : Create) (before after held middle holds : Option (List ℕ)) → CallAnswered old now trap answer bytes
     → IsMade (asked_in (call_of trap.registers)) answer parts → Appends held middle bytes
-    → MeasuresMade result parts answer.value now new before after middle holds → Serves result trap old hosts new kept before after held holds
-made_measured (Ok done) old now new hosts kept trap answer bytes parts before after held middle holds a made wrote m =
-    let made_one = made_there old now hosts kept trap answer bytes parts a made in
+    → MeasuresMade result parts answer.value now new before after middle holds → Serves result trap old new before after held holds
+made_measured (Ok done) old now new trap answer bytes parts before after held middle holds a made wrote m =
+    let made_one = made_there old now trap answer bytes parts a made in
     let e = made_one.0 in
     let live = made_one.1 in
     let digest = digest_of (layout_of parts) m.1 in
     let question = question_of parts in
-    let served : Serves (Ok tt) trap old hosts (having_digest now answer.value e digest) kept before after held holds = (
+    let served : Serves (Ok tt) trap old (having_digest now answer.value e digest) before after held holds = (
       m.0,
       question,
       bytes,
       a.changes,
       λ sets there.
           let after = changed trap.hart a.changes sets in
-          let all = answer_remeasured (with_sets old sets) trap a.given a.changes a.digest answer bytes (with_sets now after) parts there a.table
+          let all = answer_remeasured (with_sets old sets) trap a.changes a.digest answer bytes (with_sets now after) parts there a.table
           (a.answers sets there) made in
-          record {
-            given = a.given;
-            words = a.words;
-            step = subst (λ (event : TrapEvent). ServesAs event (with_sets old sets) trap a.given a.changes m.0 question bytes
-                (with_sets (having_digest now answer.value e digest) after)) (sym a.is_call) (record {
-                  digest = digest;
-                  answer = answer;
-                  answers = subst (λ (f : Enclave). AnswersCall (with_sets old sets) trap a.given a.changes digest answer bytes
-                      (having_digest (with_sets now after) answer.value f digest)) (same_Some all.0 e (sym all.1 ∙ live)) (all.3 digest);
-                  asks = inr (parts, made, refl, m.1, m.2, refl);
-                });
-          },
+          subst (λ (event : TrapEvent). ServesAs event (with_sets old sets) trap a.changes m.0 question bytes
+          (with_sets (having_digest now answer.value e digest) after)) (sym a.is_call) (record {
+            digest = digest;
+            answer = answer;
+            answers = subst (λ (f : Enclave). AnswersCall (with_sets old sets) trap a.changes digest answer bytes
+                (having_digest (with_sets now after) answer.value f digest)) (same_Some all.0 e (sym all.1 ∙ live)) (all.3 digest);
+            asks = inr (parts, made, refl, m.1, m.2, refl);
+          }),
       a.said,
       a.awake,
       a.layout,
       m.4,
       Appends-trans held middle holds bytes question wrote m.5,
     ) in
-    subst (λ n. Serves (Ok tt) trap old hosts n kept before after held holds) (sym (m.3 e live)) served
-made_measured (Err fault) old now new hosts kept trap answer bytes parts before after held middle holds a made wrote m = (
+    subst (λ n. Serves (Ok tt) trap old n before after held holds) (sym (m.3 e live)) served
+made_measured (Err fault) old now new trap answer bytes parts before after held middle holds a made wrote m = (
   m.0,
   bytes ++ m.1,
-  inr (parts, bytes, m.1, (a.is_call, answer, made, as_trap old now hosts kept trap answer bytes a), m.2, refl),
+  inr (parts, bytes, m.1, (a.is_call, answer, made, as_trap old now trap answer bytes a), m.2, refl),
   m.3,
   Appends-trans held middle holds bytes m.1 wrote m.4,
 )

@@ -3,7 +3,7 @@ use Rattle.std.proofs.Common.{◌≡◌, ◌∙◌, ℕ, ◌+◌, ◌*◌, List,
 use Rattle.byteorder.specs.Endian.{little_bytes}
 use Rattle.pmp_encoding.specs.declared.pages.PageRange.{PageRange}
 use Rattle.trap_server.specs.Words.{answer_tag, bytes_of}
-use Rattle.trap_server.specs.Answers.{head_bytes, list_count, pages_of, wake_word}
+use Rattle.trap_server.specs.Answers.{control_count, head_bytes, list_count, pages_of, wake_word}
 use Rattle.monitor_core.specs.Answers.{world_number}
 use Rattle.trap_server.specs.declared.answer.Head.{Head}
 
@@ -22,11 +22,11 @@ two_parts old now new first second a b = b ∙ ap (λ xs. xs ++ second) a ∙ ap
 
 -- the words of a head, each as it was made
 pub head_is :
-    (old new : List ℕ) (head : Head) (hart world wake : ℕ) (pages : PageRange) (count : ℕ) → hart ≡ head.hart → world ≡ world_number head.world
-    → pages ≡ pages_of head.zero → wake ≡ wake_word head.woken → count ≡ list_count head.lists → new ≡ old ++ bytes_of
-    (answer_tag ∷ (hart ∷ (world ∷ (head.status ∷ (head.value ∷ (head.used ∷ (pages.first ∷ (pages.count ∷ (wake ∷ (count ∷ []))))))))))
+    (old new : List ℕ) (head : Head) (hart world wake : ℕ) (pages : PageRange) (count control : ℕ) → hart ≡ head.hart → world ≡ world_number head.world
+    → pages ≡ pages_of head.zero → wake ≡ wake_word head.woken → count ≡ list_count head.lists → control ≡ control_count head.given → new ≡ old ++ bytes_of
+    (answer_tag ∷ (hart ∷ (world ∷ (head.status ∷ (head.value ∷ (head.used ∷ (pages.first ∷ (pages.count ∷ (wake ∷ (count ∷ (control ∷ [])))))))))))
     → new ≡ old ++ head_bytes head
-head_is old new head hart world wake pages count h w p k n is = rw (h, w, p, k, n) at is
+head_is old new head hart world wake pages count control h w p k n c is = rw (h, w, p, k, n, c) at is
 
 -- a word more after a front
 pub word_more :

@@ -41,18 +41,18 @@ use Rattle.trap_server.specs.declared.trap.TrapEvent.{TrapEvent}
 use Rattle.trap_server.specs.declared.trap.TrapEvent.TheVariants.{Call, Stop}
 use Rattle.trap_server.specs.declared.trap.Trap.{Trap}
 use Rattle.trap_server.specs.declared.words.ControlWords.{ControlWords}
-use Rattle.trap_server.specs.Answered.{AreAwake, IsAnswer, head_of, no_answer, unmarked}
-use Rattle.trap_server.specs.Answers.{front_bytes, list_bytes, list_count, lists_bytes}
+use Rattle.trap_server.specs.Answered.{AreAwake, IsAnswer, no_answer, unmarked}
+use Rattle.trap_server.specs.Answers.{front_bytes, given_bytes, list_bytes, list_count, lists_bytes}
 use Rattle.trap_server.specs.Boot.{IsFirstAnswer, no_changes, others}
 use Rattle.trap_server.specs.Firmware.{FirmwareHeadline, HasFewest, IsThere, KeepsTrap, is_new, list_after, list_last, loaded_address, loaded_after, loaded_cfg}
 use Rattle.trap_server.specs.Firmware.{loaded_last, loaded_pairs}
-use Rattle.trap_server.specs.Runs.{ServesTraps, first_words, next_trap, no_trap}
-use Rattle.trap_server.specs.Service.{ServesAs}
-use Rattle.trap_server.specs.Tables.{first_host_words}
+use Rattle.trap_server.specs.Runs.{ServesTraps, next_trap, no_trap}
+use Rattle.trap_server.specs.Service.{ServesAs, given_at}
 use Rattle.trap_server.specs.Words.{word_at}
-use Rattle.trap_server.proofs.LoadedBytes.{bit_there, count_back, first_list, hart_back, list_back, off_back, second_list, value_back, wake_back, world_back}
+use Rattle.trap_server.proofs.LoadedBytes.{bit_there, first_list, hart_back, list_back, off_back, second_list, value_back, wake_back, world_back}
+use Rattle.trap_server.proofs.Said.{ends, head, put_all, says_count}
 use Rattle.trap_server.proofs.Served.{quiet}
-use Rattle.trap_server.proofs.TrapsKept.{still_below, trap_kept}
+use Rattle.trap_server.proofs.TrapsKept.{trap_kept}
 
 -- the bytes of a list have the entries that were put into them
 put_fewest : (entries : List Entry) (rest bytes : List ℕ) (limit : Limit) (view : View) → bytes ≡ list_bytes entries ++ rest → IsListOf limit view entries
@@ -76,62 +76,60 @@ same_fewest bytes limit view other same f = record {
 }
 
 -- what an answer says in its first words, and its lists
-module _ (s : MonitorState) (given : ControlWords) (hart : ℕ) (answer : Answer) (cleared : Option PageRange) (woken : List Bool) (new : NewLists)
+module _ (s : MonitorState) (given : Option ControlWords) (hart : ℕ) (answer : Answer) (cleared : Option PageRange) (woken : List Bool) (new : NewLists)
     (changes : SetChanges) (bytes : List ℕ) (a : IsAnswer s given hart answer cleared woken new changes bytes) where
-  abbrev head : Head
-  head = head_of s hart answer a.used cleared woken new
+  abbrev front : Head
+  front = head s given hart answer cleared woken new changes bytes a
+
+  abbrev rest : List ℕ
+  rest = ends s given hart answer cleared woken new changes bytes a
+
+  put : bytes ≡ front_bytes front changes ++ rest
+  put = put_all s given hart answer cleared woken new changes bytes a
 
   says_hart : hart < 4 → word_at bytes 1 ≡ hart
-  says_hart low = ap (λ b. word_at b 1) a.puts.put ∙ hart_back head changes given (lists_bytes a.puts.are) low
+  says_hart low = ap (λ b. word_at b 1) put ∙ hart_back front changes rest low
 
   says_world : world_number (s.worlds hart) < 2 ^ 64 → word_at bytes 2 ≡ world_number (s.worlds hart)
-  says_world low = ap (λ b. word_at b 2) a.puts.put ∙ world_back head changes given (lists_bytes a.puts.are) low
+  says_world low = ap (λ b. word_at b 2) put ∙ world_back front changes rest low
 
   says_value : answer.value < 2 ^ 64 → word_at bytes 4 ≡ answer.value
-  says_value low = ap (λ b. word_at b 4) a.puts.put ∙ value_back head changes given (lists_bytes a.puts.are) low
+  says_value low = ap (λ b. word_at b 4) put ∙ value_back front changes rest low
 
   says_woken : (other : ℕ) → other < 4 → (word_at bytes 8 / 2 ^ other % 2 == 1) ≡ slice_index_or woken other false
-  says_woken other low = ap (λ n. n / 2 ^ other % 2 == 1) (ap (λ b. word_at b 8) a.puts.put ∙ wake_back head changes given (lists_bytes a.puts.are))
-      ∙ bit_there woken other low
+  says_woken other low = ap (λ n. n / 2 ^ other % 2 == 1) (ap (λ b. word_at b 8) put ∙ wake_back front changes rest) ∙ bit_there woken other low
 
-  says_count : word_at bytes 9 ≡ list_count new
-  says_count = ap (λ b. word_at b 9) a.puts.put ∙ count_back head changes given (lists_bytes a.puts.are) (few new)
-    where
-      few : (lists : NewLists) → list_count lists < 2 ^ 64
-      few lists.Nothing = lit< tt
-      few lists.Host = lit< tt
-      few lists.HostAndMade = lit< tt
+  says_first : (host : List Entry) (more : List (List Entry)) → a.puts.are ≡ host ∷ more
+      → drop 184 bytes ≡ list_bytes host ++ (lists_bytes more ++ given_bytes given)
+  says_first host more are = ap (drop 184) (put ∙ ap (λ ls. front_bytes front changes ++ (lists_bytes ls ++ given_bytes given)) are)
+      ∙ first_list front changes host more (given_bytes given)
 
-  says_first : (host : List Entry) (more : List (List Entry)) → a.puts.are ≡ host ∷ more → drop 256 bytes ≡ list_bytes host ++ lists_bytes more
-  says_first host more are = ap (drop 256) (a.puts.put ∙ ap (λ ls. front_bytes head changes given ++ lists_bytes ls) are)
-      ∙ first_list head changes given host more
-
-  says_second : (host made : List Entry) → a.puts.are ≡ host ∷ (made ∷ []) → drop 840 bytes ≡ list_bytes made ++ []
-  says_second host made are = ap (drop 840) (a.puts.put ∙ ap (λ ls. front_bytes head changes given ++ lists_bytes ls) are)
-      ∙ second_list head changes given host made []
+  says_second : (host made : List Entry) → a.puts.are ≡ host ∷ (made ∷ []) → drop 768 bytes ≡ list_bytes made ++ ([] ++ given_bytes given)
+  says_second host made are = ap (drop 768) (put ∙ ap (λ ls. front_bytes front changes ++ (lists_bytes ls ++ given_bytes given)) are)
+      ∙ second_list front changes host made [] (given_bytes given)
 
 -- the list of the host, where it is new, and that of an enclave that was made
 host_listed :
-    (new : NewLists) (s : MonitorState) (given : ControlWords) (hart : ℕ) (answer : Answer) (cleared : Option PageRange) (woken : List Bool)
+    (new : NewLists) (s : MonitorState) (given : Option ControlWords) (hart : ℕ) (answer : Answer) (cleared : Option PageRange) (woken : List Bool)
     (changes : SetChanges) (bytes : List ℕ) → IsAnswer s given hart answer cleared woken new changes bytes → is_new new answer.value Host ≡ true
-    → HasFewest (drop 256 bytes) s.table.layout.limit (current_view s.table Host)
+    → HasFewest (drop 184 bytes) s.table.layout.limit (current_view s.table Host)
 host_listed lists.Nothing s given hart answer cleared woken changes bytes a is = absurd (true≢false (sym is))
 host_listed lists.Host s given hart answer cleared woken changes bytes a is =
-    put_fewest a.puts.lists.0 [] (drop 256 bytes) s.table.layout.limit (current_view s.table Host)
+    put_fewest a.puts.lists.0 ([] ++ given_bytes given) (drop 184 bytes) s.table.layout.limit (current_view s.table Host)
     (says_first s given hart answer cleared woken lists.Host changes bytes a a.puts.lists.0 [] a.puts.lists.2) a.puts.lists.1
 host_listed lists.HostAndMade s given hart answer cleared woken changes bytes a is =
     let more = a.puts.lists.1 ∷ [] in
-    put_fewest a.puts.lists.0 (lists_bytes more) (drop 256 bytes) s.table.layout.limit (current_view s.table Host)
+    put_fewest a.puts.lists.0 (lists_bytes more ++ given_bytes given) (drop 184 bytes) s.table.layout.limit (current_view s.table Host)
     (says_first s given hart answer cleared woken lists.HostAndMade changes bytes a a.puts.lists.0 more a.puts.lists.4) a.puts.lists.2
 
 made_listed :
-    (new : NewLists) (s : MonitorState) (given : ControlWords) (hart : ℕ) (answer : Answer) (cleared : Option PageRange) (woken : List Bool)
+    (new : NewLists) (s : MonitorState) (given : Option ControlWords) (hart : ℕ) (answer : Answer) (cleared : Option PageRange) (woken : List Bool)
     (changes : SetChanges) (bytes : List ℕ) → IsAnswer s given hart answer cleared woken new changes bytes → new ≡ lists.HostAndMade
-    → HasFewest (drop 840 bytes) s.table.layout.limit (current_view s.table (InEnclave answer.value))
+    → HasFewest (drop 768 bytes) s.table.layout.limit (current_view s.table (InEnclave answer.value))
 made_listed lists.Nothing s given hart answer cleared woken changes bytes a is = absurd (let z : lists.Nothing ≡ lists.HostAndMade = is in cc)
 made_listed lists.Host s given hart answer cleared woken changes bytes a is = absurd (let z : lists.Host ≡ lists.HostAndMade = is in cc)
 made_listed lists.HostAndMade s given hart answer cleared woken changes bytes a is =
-    put_fewest a.puts.lists.1 [] (drop 840 bytes) s.table.layout.limit (current_view s.table (InEnclave answer.value))
+    put_fewest a.puts.lists.1 ([] ++ given_bytes given) (drop 768 bytes) s.table.layout.limit (current_view s.table (InEnclave answer.value))
     (says_second s given hart answer cleared woken lists.HostAndMade changes bytes a a.puts.lists.0 a.puts.lists.1 a.puts.lists.4) a.puts.lists.3
 
 -- the list of a world after an answer is right, where a new one is, and one that is kept
@@ -141,33 +139,33 @@ module _ (value : ℕ) (table : EnclaveTable) (limit : Limit) (answered : List �
 
   next_list :
       (new : NewLists) (world : World) → IsThere table world → word_at answered 9 ≡ list_count new
-      → (new ≡ lists.HostAndMade → word_at answered 4 ≡ value) → (is_new new value Host ≡ true → Right Host (drop 256 answered))
-      → (new ≡ lists.HostAndMade → Right (InEnclave value) (drop 840 answered))
+      → (new ≡ lists.HostAndMade → word_at answered 4 ≡ value) → (is_new new value Host ≡ true → Right Host (drop 184 answered))
+      → (new ≡ lists.HostAndMade → Right (InEnclave value) (drop 768 answered))
       → (is_new new value world ≡ false → Right world (before (world_number world)))
       → Right world (list_after answered before (world_number world))
   next_list lists.Nothing Host there count named host made kept =
-      subst (Right Host) (sym (ap (λ n. if nat_lt 0 n then drop 256 answered else before 0) count)) (kept refl)
+      subst (Right Host) (sym (ap (λ n. if nat_lt 0 n then drop 184 answered else before 0) count)) (kept refl)
   next_list lists.Host Host there count named host made kept =
-      subst (Right Host) (sym (ap (λ n. if nat_lt 0 n then drop 256 answered else before 0) count)) (host refl)
+      subst (Right Host) (sym (ap (λ n. if nat_lt 0 n then drop 184 answered else before 0) count)) (host refl)
   next_list lists.HostAndMade Host there count named host made kept =
-      subst (Right Host) (sym (ap (λ n. if nat_lt 0 n then drop 256 answered else before 0) count)) (host refl)
+      subst (Right Host) (sym (ap (λ n. if nat_lt 0 n then drop 184 answered else before 0) count)) (host refl)
   next_list new (InEnclave zero) there count named host made kept =
       let above = live_above table.enclaves 0 there.0 there.1 in absurd (omega (arith, above))
   next_list lists.Nothing (InEnclave (suc n)) there count named host made kept =
       subst (Right (InEnclave (suc n)))
-      (sym (ap (λ c. if c == 2 && word_at answered 4 == suc n then drop 840 answered else before (suc n)) count)) (kept refl)
+      (sym (ap (λ c. if c == 2 && word_at answered 4 == suc n then drop 768 answered else before (suc n)) count)) (kept refl)
   next_list lists.Host (InEnclave (suc n)) there count named host made kept =
       subst (Right (InEnclave (suc n)))
-      (sym (ap (λ c. if c == 2 && word_at answered 4 == suc n then drop 840 answered else before (suc n)) count)) (kept refl)
+      (sym (ap (λ c. if c == 2 && word_at answered 4 == suc n then drop 768 answered else before (suc n)) count)) (kept refl)
   next_list lists.HostAndMade (InEnclave (suc n)) there count named host made kept =
-      let is = ap (λ c. if c == 2 && word_at answered 4 == suc n then drop 840 answered else before (suc n)) count
-      ∙ ap (λ v. if v == suc n then drop 840 answered else before (suc n)) (named refl) in
+      let is = ap (λ c. if c == 2 && word_at answered 4 == suc n then drop 768 answered else before (suc n)) count
+      ∙ ap (λ v. if v == suc n then drop 768 answered else before (suc n)) (named refl) in
       both (value == suc n)
       (λ yes.
       let same : value ≡ suc n = eqb-true value (suc n) yes in
-      subst (Right (InEnclave (suc n))) (sym (is ∙ ap (λ t. if t then drop 840 answered else before (suc n)) yes))
-      (subst (λ k. Right (InEnclave k) (drop 840 answered)) same (made refl)))
-      (λ no. subst (Right (InEnclave (suc n))) (sym (is ∙ ap (λ t. if t then drop 840 answered else before (suc n)) no)) (kept no))
+      subst (Right (InEnclave (suc n))) (sym (is ∙ ap (λ t. if t then drop 768 answered else before (suc n)) yes))
+      (subst (λ k. Right (InEnclave k) (drop 768 answered)) same (made refl)))
+      (λ no. subst (Right (InEnclave (suc n))) (sym (is ∙ ap (λ t. if t then drop 768 answered else before (suc n)) no)) (kept no))
 
 -- the number of a world that is there is small
 number_small : (table : EnclaveTable) (world : World) → IsTable table → IsThere table world → world_number world < 2 ^ 64
@@ -183,12 +181,15 @@ runs_there table Host current = tt
 runs_there table (InEnclave id) current = (current.0, current.1)
 
 -- a trap, and the lists before it
-module _ (s : MonitorState) (hosts kept : ℕ → ControlWords) (trap : Trap) (changes : SetChanges) (read question answered : List ℕ) (new : MonitorState)
-    (before : ℕ → List ℕ) (k : KeepsTrap s hosts trap changes read question answered new kept) (layout : new.table.layout ≡ s.table.layout)
+module _ (s : MonitorState) (trap : Trap) (changes : SetChanges) (read question answered : List ℕ) (new : MonitorState)
+    (before : ℕ → List ℕ) (k : KeepsTrap s trap changes read question answered new) (layout : new.table.layout ≡ s.table.layout)
     (sound : IsTable new.table) (placed : ArePlaced new) (was : (world : World) → IsThere s.table world
     → HasFewest (before (world_number world)) s.table.layout.limit (current_view s.table world)) where
   abbrev limit : Limit
   limit = new.table.layout.limit
+
+  abbrev given : Option ControlWords
+  given = given_at s new trap
 
   abbrev after : ℕ → List ℕ
   after = list_after answered before
@@ -197,11 +198,11 @@ module _ (s : MonitorState) (hosts kept : ℕ → ControlWords) (trap : Trap) (c
   pub next_lists : (world : World) → IsThere new.table world → HasFewest (after (world_number world)) limit (current_view new.table world)
   next_lists world there =
       next_list k.answer.value new.table limit answered before k.lists world there
-      (says_count new k.given trap.hart k.answer k.cleared k.woken k.lists changes answered k.says)
-      (λ is. says_value new k.given trap.hart k.answer k.cleared k.woken k.lists changes answered k.says
+      (says_count new given trap.hart k.answer k.cleared k.woken k.lists changes answered k.says)
+      (λ is. says_value new given trap.hart k.answer k.cleared k.woken k.lists changes answered k.says
       (number_small new.table (InEnclave k.answer.value) sound (k.made is)))
-      (host_listed k.lists new k.given trap.hart k.answer k.cleared k.woken changes answered k.says)
-      (made_listed k.lists new k.given trap.hart k.answer k.cleared k.woken changes answered k.says)
+      (host_listed k.lists new given trap.hart k.answer k.cleared k.woken changes answered k.says)
+      (made_listed k.lists new given trap.hart k.answer k.cleared k.woken changes answered k.says)
       (λ off.
       let same = k.keeps world there off in
       same_fewest (before (world_number world)) limit (current_view s.table world) (current_view new.table world) same.1
@@ -217,8 +218,8 @@ module _ (s : MonitorState) (hosts kept : ℕ → ControlWords) (trap : Trap) (c
       let fourth : other < 4 = omega (arith, under, most) in
       let under_new : other < new.table.layout.harts = subst (λ l. other < l.harts) (sym layout) under in
       let Right = λ (bytes : List ℕ). HasFewest bytes limit (current_view new.table (new.worlds other)) in
-      let named = says_hart new k.given hart k.answer k.cleared k.woken k.lists changes answered k.says four in
-      let bit = says_woken new k.given hart k.answer k.cleared k.woken k.lists changes answered k.says other fourth in
+      let named = says_hart new given hart k.answer k.cleared k.woken k.lists changes answered k.says four in
+      let bit = says_woken new given hart k.answer k.cleared k.woken k.lists changes answered k.says other fourth in
       let there = runs_there new.table (new.worlds other) (placed.current other under_new) in
       let rest = if word_at answered 8 / 2 ^ other % 2 == 1 then after 0 else loaded in
       both (other == hart)
@@ -226,7 +227,7 @@ module _ (s : MonitorState) (hosts kept : ℕ → ControlWords) (trap : Trap) (c
       let same : other ≡ hart = eqb-true other hart yes in
       let number = number_small new.table (new.worlds other) sound there in
       let world : word_at answered 2 ≡ world_number (new.worlds other) =
-      says_world new k.given hart k.answer k.cleared k.woken k.lists changes answered k.says (subst (λ h. world_number (new.worlds h) < 2 ^ 64) same number)
+      says_world new given hart k.answer k.cleared k.woken k.lists changes answered k.says (subst (λ h. world_number (new.worlds h) < 2 ^ 64) same number)
       ∙ ap (λ h. world_number (new.worlds h)) (sym same) in
       subst Right (sym (ap (λ t. if t then after (word_at answered 2) else rest) (eq-eqb (word_at answered 1) other (named ∙ sym same)) ∙ ap after world))
       (next_lists (new.worlds other) there))
@@ -265,10 +266,10 @@ woken_good layout mid new most woken table platform worlds = record {
 }
 
 next_good :
-    (event : TrapEvent) (layout : PlatformLayout) (s : MonitorState) (trap : Trap) (given : ControlWords) (changes : SetChanges)
+    (event : TrapEvent) (layout : PlatformLayout) (s : MonitorState) (trap : Trap) (changes : SetChanges)
     (read question answered : List ℕ) (new : MonitorState) → layout.harts ≤ 4 → trap.hart < s.table.layout.harts → IsGood layout s
-    → ServesAs event s trap given changes read question answered new → IsGood layout new
-next_good Call layout s trap given changes read question answered new most low good x =
+    → ServesAs event s trap changes read question answered new → IsGood layout new
+next_good Call layout s trap changes read question answered new most low good x =
     let hart = trap.hart in
     let file = past_call (running_registers s hart) in
     let t = with_running s hart file in
@@ -277,7 +278,7 @@ next_good Call layout s trap given changes read question answered new most low g
     (call_keeps_layout (call_of file) (λ parts. x.digest) t hart x.answer a.cleared a.mid a.step ∙ good.platform)
     (call_keeps_worlds (call_of file) (λ parts. x.digest) t hart x.answer a.cleared a.mid low (good.awake hart low) a.step
     (putting_keeps_worlds s hart file good.worlds))
-next_good Stop layout s trap given changes read question answered new most low good x =
+next_good Stop layout s trap changes read question answered new most low good x =
     let hart = trap.hart in
     let t = s in
     let world = s.worlds hart in
@@ -294,49 +295,47 @@ good_bare layout s sets g = record { table = g.table; platform = g.platform; wor
 
 -- at the opening all harts have the host's list, and no other world is there
 first_bank : (layout : PlatformLayout) (first : List ℕ) → IsFirstAnswer layout first
-    → HasFewest (drop 256 first) layout.limit (current_view (opening_monitor layout).table Host)
-first_bank layout first a = host_listed lists.Host (opening_monitor layout) first_host_words 0 no_answer None (others layout.harts) no_changes first a refl
+    → HasFewest (drop 184 first) layout.limit (current_view (opening_monitor layout).table Host)
+first_bank layout first a = host_listed lists.Host (opening_monitor layout) None 0 no_answer None (others layout.harts) no_changes first a refl
 
 first_lists : (layout : PlatformLayout) (first : List ℕ) (world : World) → IsFirstAnswer layout first → IsThere (opening_monitor layout).table world
-    → HasFewest (drop 256 first) layout.limit (current_view (opening_monitor layout).table world)
+    → HasFewest (drop 184 first) layout.limit (current_view (opening_monitor layout).table world)
 first_lists layout first Host a there = first_bank layout first a
 first_lists layout first (InEnclave id) a there = absurd (none_live layout id there.0 there.1)
 
 pub firmware_kept :
-    (layout : PlatformLayout) (first read written : List ℕ) (s : MonitorState) (kept : ℕ → ControlWords)
-    (served : ServesTraps (opening_monitor layout) first_words read written s kept) → IsLayout layout → IsFirstAnswer layout first
-    → FirmwareHeadline layout first read written s kept served
-firmware_kept layout first read written s kept no_trap rules answer = record {
+    (layout : PlatformLayout) (first read written : List ℕ) (s : MonitorState)
+    (served : ServesTraps (opening_monitor layout) read written s) → IsLayout layout → IsFirstAnswer layout first
+    → FirmwareHeadline layout first read written s served
+firmware_kept layout first read written s no_trap rules answer = record {
   table = opening_sound layout rules;
   platform = refl;
   worlds = opened layout;
   awake = λ hart low. refl;
   lists = λ world there. first_lists layout first world answer there;
   banks = λ hart low. first_bank layout first answer;
-  modes = λ hart. refl;
   each = tt;
 }
-firmware_kept layout first read written s all (next_trap {read = r} {written = w} {mid = mid} {now = now} served trap frame more question answered changes new
-    kept size is step) rules answer =
-    let before = firmware_kept layout first r w mid now served rules answer in
+firmware_kept layout first read written s (next_trap {read = r} {written = w} {mid = mid} served trap frame more question answered changes new
+    size is step) rules answer =
+    let before = firmware_kept layout first r w mid served rules answer in
     let good : IsGood layout mid = record { table = before.table; platform = before.platform; worlds = before.worlds; awake = before.awake } in
     let most : mid.table.layout.harts ≤ 4 = subst (λ l. l.harts ≤ 4) (sym before.platform) rules.four_harts in
     let trapped : Runner → RegisterFile = λ who. trap.registers in
     let one = step trapped refl in
     let there = changed trap.hart changes trapped in
-    let after_it = next_good trap.event layout (with_sets mid trapped) trap one.given changes more question answered (with_sets new there)
-    rules.four_harts is.known (good_with layout mid trapped good) one.step in
+    let after_it = next_good trap.event layout (with_sets mid trapped) trap changes more question answered (with_sets new there)
+    rules.four_harts is.known (good_with layout mid trapped good) one in
     let next = good_bare layout new there after_it in
-    let below = still_below now kept trap.hart (mid.worlds trap.hart) (new.worlds trap.hart) trap.control one.given one.words before.modes is.below in
     let each : (sets : Runner → RegisterFile) → AreThere mid trap sets
-    → KeepsTrap (with_sets mid sets) now trap changes more question answered (with_sets new (changed trap.hart changes sets)) kept = λ sets are.
-    trap_kept (with_sets mid sets) now kept trap changes more question answered (with_sets new (changed trap.hart changes sets)) (record {
+    → KeepsTrap (with_sets mid sets) trap changes more question answered (with_sets new (changed trap.hart changes sets)) = λ sets are.
+    trap_kept (with_sets mid sets) trap changes more question answered (with_sets new (changed trap.hart changes sets)) (record {
       known = is.known;
       awake = before.awake trap.hart is.known;
       most = most;
       table = before.table;
       placed = placed_with mid sets before.worlds;
-    }) are below (step sets are) in
+    }) are (step sets are) in
     let k = each trapped refl in
     let layouts = next.platform ∙ sym before.platform in
     let was : (world : World) → IsThere mid.table world
@@ -350,7 +349,7 @@ firmware_kept layout first read written s all (next_trap {read = r} {written = w
       worlds = next.worlds;
       awake = next.awake;
       lists = λ world is_there. subst (λ l. HasFewest (after (world_number world)) l.limit (current_view new.table world)) next.platform
-          (next_lists (with_sets mid trapped) now kept trap changes more question answered (with_sets new there) (list_last first served) k layouts next.table
+          (next_lists (with_sets mid trapped) trap changes more question answered (with_sets new there) (list_last first served) k layouts next.table
           after_it.worlds was world is_there);
       banks = λ hart low.
           let under : hart < mid.table.layout.harts = subst (λ l. hart < l.harts) (sym before.platform) low in
@@ -358,9 +357,8 @@ firmware_kept layout first read written s all (next_trap {read = r} {written = w
           (before.banks hart low) in
           subst (λ l. HasFewest (loaded_after answered after (loaded_last first served hart) hart) l.limit (current_view new.table (new.worlds hart)))
           next.platform
-          (next_bank (with_sets mid trapped) now kept trap changes more question answered (with_sets new there) (list_last first served) k layouts next.table
+          (next_bank (with_sets mid trapped) trap changes more question answered (with_sets new there) (list_last first served) k layouts next.table
           after_it.worlds was
           (loaded_last first served hart) hart is.known most under right);
-      modes = below;
       each = (before.each, each);
     }

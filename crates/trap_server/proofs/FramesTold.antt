@@ -1,8 +1,7 @@
 -- The frame of a trap has all that decides how it is served.
-use Rattle.std.proofs.Common.{◌≡◌, ◌∙◌, ℕ, List, Option, Some, None, ◌==◌, not, if◌then◌else◌, ap, sym, refl, subst, lit<, lit≤, arith}
+use Rattle.std.proofs.Common.{◌≡◌, ◌∙◌, ℕ, List, Option, Some, None, ◌==◌, not, if◌then◌else◌, sym, refl, subst, lit<, lit≤, arith}
 use Rattle.sbi_decode.specs.Calls.{a_of, call_of}
 use Rattle.sbi_decode.specs.Registers.{RegisterFile}
-use Rattle.sbi_decode.specs.Runners.{Runner}
 use Rattle.sbi_decode.specs.declared.calls.Call.{Call}
 use Rattle.sbi_decode.specs.declared.calls.Call.TheVariants as calls
 use Rattle.monitor_core.specs.Measured.{asked_in}
@@ -10,14 +9,12 @@ use Rattle.monitor_core.specs.SetChanges.{changed}
 use Rattle.monitor_core.specs.States.{MonitorState}
 use Rattle.monitor_core.specs.declared.set_changes.SetChanges.{SetChanges}
 use Rattle.trap_server.specs.Answered.{IsAnswer, marks_of, new_lists}
-use Rattle.trap_server.specs.Service.{AsksFor, FramesTell, ServesAll, ServesAs, ServesTrap}
-use Rattle.trap_server.specs.Sets.{AreThere, with_sets}
-use Rattle.trap_server.specs.Traps.{HasCall, HasControl, IsTagOf, IsTrapFrame}
+use Rattle.trap_server.specs.Service.{AsksFor, FramesTell, ServesAll, ServesAs, given_at}
+use Rattle.trap_server.specs.Sets.{with_sets}
+use Rattle.trap_server.specs.Traps.{HasCall, IsTagOf, IsTrapFrame}
 use Rattle.trap_server.specs.declared.trap.Trap.{Trap}
 use Rattle.trap_server.specs.declared.trap.TrapEvent.{TrapEvent}
 use Rattle.trap_server.specs.declared.trap.TrapEvent.TheVariants.{Call as IsCall, Stop as IsStop}
-use Rattle.trap_server.specs.declared.words.ControlWords.{ControlWords}
-use Rattle.trap_server.specs.Words.{call_tag, stop_tag}
 
 -- the call that a0 to a7 name
 abbrev call_by : ℕ → ℕ → ℕ → ℕ → ℕ → ℕ → ℕ → ℕ → Option Call
@@ -51,28 +48,18 @@ same_event IsStop IsStop tag p q = refl
 same_event IsCall IsStop tag p q = absurd (omega (arith, p, q))
 same_event IsStop IsCall tag p q = absurd (omega (arith, p, q))
 
-same_control : (frame : List ℕ) (one other : ControlWords) → HasControl frame one → HasControl frame other → one ≡ other
-same_control frame one other p q = λ i. record {
-  status = (p.status ∙ sym q.status) i;
-  satp = (p.satp ∙ sym q.satp) i;
-  mie = (p.mie ∙ sym q.mie) i;
-  scounteren = (p.scounteren ∙ sym q.scounteren) i;
-  senvcfg = (p.senvcfg ∙ sym q.senvcfg) i;
-  hstatus = (p.hstatus ∙ sym q.hstatus) i;
-  medeleg = (p.medeleg ∙ sym q.medeleg) i;
-  mideleg = (p.mideleg ∙ sym q.mideleg) i;
-  mode = (p.mode ∙ sym q.mode) i;
-}
+same_host : (frame : List ℕ) (harts : ℕ) (one other : Trap) → IsTrapFrame frame harts one → IsTrapFrame frame harts other → one.host ≡ other.host
+same_host frame harts one other p q = λ i. record { mie = (p.mie ∙ sym q.mie) i; scounteren = (p.scounteren ∙ sym q.scounteren) i }
 
 -- a trap with other registers, of which the call is the same
 abbrev with_file : Trap → RegisterFile → Trap
 with_file trap file = record trap { registers = file }
 
 other_registers :
-    (event : TrapEvent) (s : MonitorState) (trap : Trap) (file : RegisterFile) (given : ControlWords) (changes : SetChanges) (read question answered : List ℕ)
-    (new : MonitorState) → call_of trap.registers ≡ call_of file → ServesAs event s trap given changes read question answered new
-    → ServesAs event s (with_file trap file) given changes read question answered new
-other_registers IsCall s trap file given changes read question answered new same x =
+    (event : TrapEvent) (s : MonitorState) (trap : Trap) (file : RegisterFile) (changes : SetChanges) (read question answered : List ℕ)
+    (new : MonitorState) → call_of trap.registers ≡ call_of file → ServesAs event s trap changes read question answered new
+    → ServesAs event s (with_file trap file) changes read question answered new
+other_registers IsCall s trap file changes read question answered new same x =
     let a = x.answers in
     record {
       digest = x.digest;
@@ -82,12 +69,12 @@ other_registers IsCall s trap file given changes read question answered new same
         mid = a.mid;
         step = a.step;
         woken = a.woken;
-        goes_on = subst (λ c. IsAnswer new given trap.hart x.answer a.cleared (marks_of a.mid) (new_lists (asked_in c) x.answer a.cleared) changes answered)
-            same a.goes_on;
+        goes_on = subst (λ c. IsAnswer new (given_at s new trap) trap.hart x.answer a.cleared (marks_of a.mid)
+            (new_lists (asked_in c) x.answer a.cleared) changes answered) same a.goes_on;
       };
       asks = subst (λ c. AsksFor (asked_in c) x.answer question read x.digest) same x.asks;
     }
-other_registers IsStop s trap file given changes read question answered new same x = record {
+other_registers IsStop s trap file changes read question answered new same x = record {
   mid = x.mid;
   nothing_asked = x.nothing_asked;
   nothing_read = x.nothing_read;
@@ -97,20 +84,15 @@ other_registers IsStop s trap file given changes read question answered new same
 }
 
 pub frames_tell : FramesTell
-frames_tell frame harts one other p q s hosts changes read question answered new kept served =
+frames_tell frame harts one other p q s changes read question answered new served =
     let same : call_of one.registers ≡ call_of other.registers = same_call frame one.registers other.registers p.call q.call in
     let trap : with_file one other.registers ≡ other = λ i. record {
       event = same_event one.event other.event _ p.tag q.tag i;
       hart = (sym p.hart ∙ q.hart) i;
       registers = other.registers;
-      control = same_control frame one.control other.control p.control q.control i;
+      host = same_host frame harts one other p q i;
     } in
-    let all : ServesAll s hosts (with_file one other.registers) changes read question answered new kept = λ sets there.
-    let x = served sets (there ∙ sym same) in
-    record {
-      given = x.given;
-      words = x.words;
-      step = other_registers one.event (with_sets s sets) one other.registers x.given changes read question answered
-          (with_sets new (changed one.hart changes sets)) same x.step;
-    } in
-    subst (λ (t : Trap). ServesAll s hosts t changes read question answered new kept) trap all
+    let all : ServesAll s (with_file one other.registers) changes read question answered new = λ sets there.
+    other_registers one.event (with_sets s sets) one other.registers changes read question answered (with_sets new (changed one.hart changes sets)) same
+    (served sets (there ∙ sym same)) in
+    subst (λ (t : Trap). ServesAll s t changes read question answered new) trap all

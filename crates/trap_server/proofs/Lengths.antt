@@ -1,5 +1,5 @@
 -- How long the parts of a frame are.
-use Rattle.std.proofs.Common.{◌≡◌, ℕ, zero, suc, ◌+◌, ◌*◌, ◌≤◌, List, [], ◌∷◌, ◌++◌, length, ap, sym, ◌∙◌, arith, refl, length-append}
+use Rattle.std.proofs.Common.{◌≡◌, ℕ, zero, suc, ◌+◌, ◌*◌, List, [], ◌∷◌, ◌++◌, length, ap, sym, ◌∙◌, arith, refl, length-append}
 use Rattle.std.proofs.lemmas.List.{length-map, map-append}
 use Rattle.byteorder.specs.Endian.{little_bytes}
 use Rattle.pmp_encoding.specs.declared.region.Entry.{Entry}

@@ -1,5 +1,5 @@
 -- Over a call or an interrupt each world whose list is not new keeps its view.
-use Rattle.std.proofs.Common.{◌≡◌, ◌≢◌, ◌∙◌, ◌==◌, ⊎_elim, inl, inr, ℕ, ℤ, zero, suc, pos, negsuc, ◌-◌, ◌≤◌, true, false, List, Option, Some, None, set}
+use Rattle.std.proofs.Common.{◌≡◌, ◌≢◌, ◌∙◌, ◌==◌, ⊎_elim, inl, inr, ℕ, ℤ, zero, suc, pos, negsuc, ◌≤◌, false, List, Option, Some, None}
 use Rattle.std.proofs.Common.{refl, ap, sym, subst}
 use Rattle.std.proofs.lemmas.Bool.{both_ways, cases_eq, eq-eqb, true≢false}
 use Rattle.pmp_encoding.specs.Views.{SameView}
@@ -11,13 +11,11 @@ use Rattle.sbi_decode.specs.declared.calls.Call.TheVariants as calls
 use Rattle.sbi_decode.specs.declared.world.World.{World}
 use Rattle.sbi_decode.specs.declared.world.World.TheVariants.{Host, Enclave as InEnclave}
 use Rattle.enclave_table.specs.Enclaves.{EnclaveTable, Live, enclave_at, with_enclave}
-use Rattle.enclave_table.specs.Lives.{Leaves, state_after}
 use Rattle.enclave_table.specs.Views.{current_view}
 use Rattle.enclave_table.specs.declared.enclave.Enclave.{Enclave}
 use Rattle.enclave_table.specs.declared.enclave.Stage.{Stage}
 use Rattle.enclave_table.specs.declared.life.Entering.{Entering}
 use Rattle.enclave_table.specs.declared.life.Entering.TheVariants.{Run as FirstRun, Resume}
-use Rattle.enclave_table.specs.declared.enclave.Stage.TheVariants.{Stopped, Exited}
 use Rattle.enclave_table.proofs.Places.{live_above, live_inside, set_other, set_same}
 use Rattle.monitor_core.specs.Answers.{world_number}
 use Rattle.monitor_core.specs.Measured.{IsMade, asked_in}
@@ -27,7 +25,6 @@ use Rattle.monitor_core.specs.declared.answer.Answer.{Answer}
 use Rattle.monitor_core.proofs.Views.{view_other, view_replaced}
 use Rattle.trap_server.specs.Answered.{made_lists, new_lists}
 use Rattle.trap_server.specs.Firmware.{IsThere, is_new}
-use Rattle.trap_server.specs.declared.answer.NewLists.{NewLists}
 use Rattle.trap_server.specs.declared.answer.NewLists.TheVariants as lists
 
 -- a world was there, and its view is the same

@@ -1,8 +1,8 @@
 -- Lists that were put after the front of an answer are those that are new.
-use Rattle.std.proofs.Common.{◌≡◌, ◌∙◌, List, ℕ, [], ◌∷◌, ◌++◌, Some, refl, ap, sym, subst, append_assoc, append-nil}
+use Rattle.std.proofs.Common.{◌≡◌, ◌∙◌, List, ℕ, [], ◌∷◌, ◌++◌, refl, ap, sym, subst, append_assoc, append-nil}
 use Rattle.pmp_encoding.specs.declared.region.Entry.{Entry}
 use Rattle.sbi_decode.specs.declared.world.World.TheVariants.{Host, Enclave as InEnclave}
-use Rattle.enclave_table.specs.Enclaves.{EnclaveTable, Live, enclave_at}
+use Rattle.enclave_table.specs.Enclaves.{EnclaveTable, Live}
 use Rattle.enclave_table.specs.Fewest.{IsListOf}
 use Rattle.enclave_table.specs.Views.{current_view, enclave_view, host_view}
 use Rattle.enclave_table.specs.declared.enclave.Enclave.{Enclave}

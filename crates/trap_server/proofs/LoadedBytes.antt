@@ -1,6 +1,6 @@
 -- What stands in the bytes of an answer: its first words, and lists of entries as registers.
 use Rattle.std.proofs.Common.{◌≡◌, ◌∙◌, ℕ, zero, suc, ◌+◌, ◌*◌, ◌/◌, ◌%◌, ◌^◌, ◌<◌, ◌≤◌, ◌==◌, ⊎_elim, Bool, true, false, List, [], ◌∷◌, ◌++◌}
-use Rattle.std.proofs.Common.{length, drop, slice_get, slice_index_or, Option, Some, None, ap, sym, subst, refl, arith, lit<, lit≤, append_assoc, length-append}
+use Rattle.std.proofs.Common.{length, drop, slice_get, slice_index_or, Option, Some, None, ap, sym, subst, refl, arith, lit<, lit≤, append_assoc, append-nil, length-append}
 use Rattle.std.proofs.Math.Seq.{drop-append_seam}
 use Rattle.std.proofs.lemmas.Bool.{cases_lt}
 use Rattle.byteorder.specs.Endian.{little_bytes, little_number}
@@ -16,13 +16,14 @@ use Rattle.monitor_core.specs.declared.set_changes.ChangeKind.{ChangeKind}
 use Rattle.monitor_core.specs.declared.set_changes.ChangeKind.TheVariants as kinds
 use Rattle.monitor_core.specs.declared.set_changes.SetChange.{SetChange}
 use Rattle.monitor_core.specs.declared.set_changes.SetChanges.{SetChanges}
-use Rattle.trap_server.specs.Answered.{AreWords}
+use Rattle.trap_server.specs.Answered.{AreControl, AreWords}
+use Rattle.trap_server.specs.Given.{control_at}
 use Rattle.trap_server.specs.Sets.{change_at, kind_by, said_changes}
 use Rattle.trap_server.specs.declared.answer.Head.{Head}
 use Rattle.trap_server.specs.declared.words.ControlWords.{ControlWords}
 use Rattle.trap_server.specs.Words.{answer_tag, bytes_of, word_at}
 use Rattle.monitor_core.specs.Answers.{world_number}
-use Rattle.trap_server.specs.Answers.{address_at, address_bytes, address_in, bit_of, cfg_at, cfg_bytes, cfg_in, changes_bytes, control_bytes, front_bytes, head_bytes}
+use Rattle.trap_server.specs.Answers.{address_at, address_bytes, address_in, bit_of, cfg_at, cfg_bytes, cfg_in, changes_bytes, control_bytes, control_count, front_bytes, head_bytes}
 use Rattle.trap_server.specs.Answers.{kind_number, list_bytes, list_count, lists_bytes, pages_of, wake_word}
 use Rattle.trap_server.specs.Firmware.{loaded_address, loaded_cfg, loaded_pairs}
 use Rattle.trap_server.proofs.Lengths.{cfg_length, word_length}
@@ -212,11 +213,11 @@ module _ (entries : List Entry) (rest : List ℕ) where
       × (loaded_address (list_bytes entries ++ rest) i ≡ 0)
   off_back i past low = let none = none_there entries i past in (cfg_back i low ∙ ap cfg_in none, address_back i low ∙ ap address_in none)
 
--- ten words
+-- eleven words
 abbrev head_words : Head → List ℕ
 head_words head =
     answer_tag ∷ (head.hart ∷ (world_number head.world ∷ (head.status ∷ (head.value ∷
-    (head.used ∷ ((pages_of head.zero).first ∷ ((pages_of head.zero).count ∷ (wake_word head.woken ∷ (list_count head.lists ∷ [])))))))))
+    (head.used ∷ ((pages_of head.zero).first ∷ ((pages_of head.zero).count ∷ (wake_word head.woken ∷ (list_count head.lists ∷ (control_count head.given ∷ []))))))))))
 
 -- a kind by its number
 kind_back : (kind : ChangeKind) → kind_by (kind_number kind) ≡ kind
@@ -243,18 +244,45 @@ change_is answered from change k e f s =
     ∙ ap (λ n. record (change_at answered from) { kind = change.kind; enclave = n }) e
     ∙ ap (λ n. record change { first = n; second = word_at answered (from + 3) }) f ∙ ap (λ n. record change { second = n }) s
 
-module _ (head : Head) (changes : SetChanges) (control : ControlWords) where
-  abbrev front : List ℕ
-  front = front_bytes head changes control
+-- control words after some bytes
+abbrev nine : ControlWords → List ℕ
+nine words = words.status ∷ (words.satp ∷ (words.mie ∷ (words.scounteren ∷ (words.senvcfg ∷
+    (words.hstatus ∷ (words.medeleg ∷ (words.mideleg ∷ (words.mode ∷ []))))))))
 
-  front_length : length front ≡ 256
+module _ (words : ControlWords) (before : List ℕ) (n : ℕ) (size : length before ≡ 8 * n) where
+  nine_back : (k : ℕ) → k < 9 → slice_index_or (nine words) k 0 < 2 ^ 64
+      → word_at (before ++ control_bytes words) (n + k) ≡ slice_index_or (nine words) k 0
+  nine_back k low small = ap (λ xs. word_at (before ++ xs) (n + k)) (sym (append-nil (control_bytes words)))
+      ∙ word_between (nine words) before [] n k size low small
+
+  pub control_back : AreControl words → control_at (before ++ control_bytes words) n ≡ words
+  control_back are =
+      let bytes = before ++ control_bytes words in
+      let first : word_at bytes n ≡ words.status = ap (word_at bytes) (let same : n ≡ n + 0 = omega arith in same) ∙ nine_back 0 (lit< tt) are.status in
+      λ i. record {
+        status = first i;
+        satp = nine_back 1 (lit< tt) are.satp i;
+        mie = nine_back 2 (lit< tt) are.mie i;
+        scounteren = nine_back 3 (lit< tt) are.scounteren i;
+        senvcfg = nine_back 4 (lit< tt) are.senvcfg i;
+        hstatus = nine_back 5 (lit< tt) are.hstatus i;
+        medeleg = nine_back 6 (lit< tt) are.medeleg i;
+        mideleg = nine_back 7 (lit< tt) are.mideleg i;
+        mode = nine_back 8 (lit< tt) are.mode i;
+      }
+
+module _ (head : Head) (changes : SetChanges) where
+  abbrev front : List ℕ
+  front = front_bytes head changes
+
+  pub front_length : length front ≡ 184
   front_length = refl
 
   -- one of the first words
   head_word :
-      (rest : List ℕ) (k : ℕ) → k < 10 → slice_index_or (head_words head) k 0 < 2 ^ 64 → word_at (front ++ rest) k ≡ slice_index_or (head_words head) k 0
+      (rest : List ℕ) (k : ℕ) → k < 11 → slice_index_or (head_words head) k 0 < 2 ^ 64 → word_at (front ++ rest) k ≡ slice_index_or (head_words head) k 0
   head_word rest k low small =
-      let more = changes_bytes changes ++ control_bytes control in
+      let more = changes_bytes changes in
       let same : 0 + k ≡ k = omega arith in
       ap (λ bytes. word_at bytes k) (append_assoc (head_bytes head) more rest)
       ∙ sym (ap (word_at (head_bytes head ++ (more ++ rest))) same)
@@ -275,6 +303,9 @@ module _ (head : Head) (changes : SetChanges) (control : ControlWords) where
   pub count_back : (rest : List ℕ) → list_count head.lists < 2 ^ 64 → word_at (front ++ rest) 9 ≡ list_count head.lists
   count_back rest low = head_word rest 9 (lit< tt) low
 
+  pub control_count_back : (rest : List ℕ) → control_count head.given < 2 ^ 64 → word_at (front ++ rest) 10 ≡ control_count head.given
+  control_count_back rest low = head_word rest 10 (lit< tt) low
+
   -- what becomes of register sets
   pub changes_back : (rest : List ℕ) → AreWords changes → said_changes (front ++ rest) ≡ changes
   changes_back rest are =
@@ -284,24 +315,26 @@ module _ (head : Head) (changes : SetChanges) (control : ControlWords) where
       let two = changes.second in
       let three = changes.third in
       let low = λ (n : ℕ) (is : n ≤ 64). let small : n < 2 ^ 64 = omega (arith, is) in small in
-      ap (λ x. record (said_changes bytes) { first = x }) (change_is bytes 10 one (back 88 (kind_number one.kind) (kind_small one.kind))
-      (back 96 one.enclave (low one.enclave are.sets.first)) (back 104 one.first are.first.0) (back 112 one.second are.first.1))
-      ∙ ap (λ x. record (said_changes bytes) { first = one; second = x }) (change_is bytes 14 two (back 120 (kind_number two.kind) (kind_small two.kind))
-      (back 128 two.enclave (low two.enclave are.sets.second)) (back 136 two.first are.second.0) (back 144 two.second are.second.1))
-      ∙ ap (λ x. record changes { third = x }) (change_is bytes 18 three (back 152 (kind_number three.kind) (kind_small three.kind))
-      (back 160 three.enclave (low three.enclave are.sets.third)) (back 168 three.first are.third.0) (back 176 three.second are.third.1))
+      ap (λ x. record (said_changes bytes) { first = x }) (change_is bytes 11 one (back 96 (kind_number one.kind) (kind_small one.kind))
+      (back 104 one.enclave (low one.enclave are.sets.first)) (back 112 one.first are.first.0) (back 120 one.second are.first.1))
+      ∙ ap (λ x. record (said_changes bytes) { first = one; second = x }) (change_is bytes 15 two (back 128 (kind_number two.kind) (kind_small two.kind))
+      (back 136 two.enclave (low two.enclave are.sets.second)) (back 144 two.first are.second.0) (back 152 two.second are.second.1))
+      ∙ ap (λ x. record changes { third = x }) (change_is bytes 19 three (back 160 (kind_number three.kind) (kind_small three.kind))
+      (back 168 three.enclave (low three.enclave are.sets.third)) (back 176 three.first are.third.0) (back 184 three.second are.third.1))
 
-  -- the lists after them
-  pub first_list : (entries : List Entry) (lists : List (List Entry)) → drop 256 (front ++ lists_bytes (entries ∷ lists))
-      ≡ list_bytes entries ++ lists_bytes lists
-  first_list entries lists =
-      let rest = list_bytes entries ++ lists_bytes lists in
-      ap (λ k. drop k (front ++ rest)) (sym front_length) ∙ drop-append_seam front rest
+  -- the lists after them, and what comes after these
+  pub first_list : (entries : List Entry) (lists : List (List Entry)) (more : List ℕ) → drop 184 (front ++ (lists_bytes (entries ∷ lists) ++ more))
+      ≡ list_bytes entries ++ (lists_bytes lists ++ more)
+  first_list entries lists more =
+      let rest = lists_bytes (entries ∷ lists) ++ more in
+      ap (λ k. drop k (front ++ rest)) (sym front_length) ∙ drop-append_seam front rest ∙ append_assoc (list_bytes entries) (lists_bytes lists) more
 
-  pub second_list : (one two : List Entry) (lists : List (List Entry)) → drop 840 (front ++ lists_bytes (one ∷ (two ∷ lists)))
-      ≡ list_bytes two ++ lists_bytes lists
-  second_list one two lists =
-      let rest = list_bytes two ++ lists_bytes lists in
+  pub second_list : (one two : List Entry) (lists : List (List Entry)) (more : List ℕ) → drop 768 (front ++ (lists_bytes (one ∷ (two ∷ lists)) ++ more))
+      ≡ list_bytes two ++ (lists_bytes lists ++ more)
+  second_list one two lists more =
+      let rest = lists_bytes (two ∷ lists) ++ more in
       let both = front ++ list_bytes one in
-      let size : length both ≡ 840 = omega (arith, length-append front (list_bytes one), front_length, list_length one) in
-      ap (drop 840) (sym (append_assoc front (list_bytes one) rest)) ∙ ap (λ k. drop k (both ++ rest)) (sym size) ∙ drop-append_seam both rest
+      let size : length both ≡ 768 = omega (arith, length-append front (list_bytes one), front_length, list_length one) in
+      ap (λ xs. drop 768 (front ++ xs)) (append_assoc (list_bytes one) (lists_bytes (two ∷ lists)) more)
+      ∙ ap (drop 768) (sym (append_assoc front (list_bytes one) rest)) ∙ ap (λ k. drop k (both ++ rest)) (sym size) ∙ drop-append_seam both rest
+      ∙ append_assoc (list_bytes two) (lists_bytes lists) more

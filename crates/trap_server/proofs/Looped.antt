@@ -21,15 +21,15 @@ use Rattle.trap_server.specs.Ends.{EndsAs, Refuses}
 use Rattle.trap_server.specs.Boot.{no_changes, Boots, BootsOn, EndsAtFirst, IsFirstAnswer, MayOpen, RefusesFirst, StopsAtFirst, others}
 use Rattle.trap_server.specs.Platforms.{IsNoPlatform, IsPlatformFrame, ReadsPlatform}
 use Rattle.trap_server.specs.Traps.{IsNoTrap, IsTrapFrame, ReadsTrap}
-use Rattle.trap_server.specs.Answered.{AreAwake, IsAnswer, given_on, no_answer}
-use Rattle.trap_server.specs.Runs.{AreSaid, EndsEarly, Ran, RefusesNext, StopsBetween, StopsInside, first_words, trap_count}
+use Rattle.trap_server.specs.Answered.{AreAwake, IsAnswer, no_answer}
+use Rattle.trap_server.specs.Runs.{AreSaid, EndsEarly, Ran, RefusesNext, StopsBetween, StopsInside, trap_count}
 use Rattle.trap_server.specs.Runs.{ServesTraps as Served}
 use Rattle.trap_server.specs.Runs.{next_trap, no_trap}
 use Rattle.trap_server.specs.Steps.{Serves}
 use Rattle.trap_server.proofs.Served.{refuse_why}
 
 -- the platform was read and answered, and traps were served from it to this state
-pub record Progress (count : ℕ) (now : MonitorState) (hosts : ℕ → ControlWords) (before after held holds : Option (List ℕ)) : Type 0 where
+pub record Progress (count : ℕ) (now : MonitorState) (before after held holds : Option (List ℕ)) : Type 0 where
   pub layout : PlatformLayout
   pub first : List ℕ
   pub opened : List ℕ
@@ -39,7 +39,7 @@ pub record Progress (count : ℕ) (now : MonitorState) (hosts : ℕ → ControlW
   pub platform : IsPlatformFrame first layout
   pub may_open : MayOpen layout
   pub begins : IsFirstAnswer layout opened
-  pub served : Served (opening_monitor layout) first_words read written now hosts
+  pub served : Served (opening_monitor layout) read written now
   pub said : AreSaid served
   pub counted : trap_count served ≡ count
   pub consumed : Consumes before after (first ++ read)
@@ -56,7 +56,7 @@ appended_as held holds xs ys e c = subst (Appends held holds) e c
 opened_at :
     (layout : PlatformLayout) (first opened : List ℕ) (before after held middle holds : Option (List ℕ)) → length first ≡ 1336 → IsPlatformFrame first layout
     → Consumes before after first → Appends held middle [] → MayOpen layout
-    → IsFirstAnswer layout opened → Appends middle holds opened → Progress 0 (opening_monitor layout) first_words before after held holds
+    → IsFirstAnswer layout opened → Appends middle holds opened → Progress 0 (opening_monitor layout) before after held holds
 opened_at layout first opened before after held middle holds size platform consumed nothing opens answer wrote = record {
   layout = layout;
   first = first;
@@ -81,7 +81,7 @@ none_is changes a b c = ap (λ x. record changes { first = x }) a ∙ ap (λ x. 
     ∙ ap (λ x. record { first = no_change; second = no_change; third = x }) c
 
 pub with_none :
-    (s : MonitorState) (given : ControlWords) (woken : List Bool) (changes : SetChanges) (bytes : List ℕ) → changes.first ≡ no_change
+    (s : MonitorState) (given : Option ControlWords) (woken : List Bool) (changes : SetChanges) (bytes : List ℕ) → changes.first ≡ no_change
     → changes.second ≡ no_change → changes.third ≡ no_change → IsAnswer s given 0 no_answer None woken lists.Host changes bytes
     → IsAnswer s given 0 no_answer None woken lists.Host no_changes bytes
 with_none s given woken changes bytes a b c is =
@@ -89,38 +89,32 @@ with_none s given woken changes bytes a b c is =
 
 -- the answer to the platform
 pub opens :
-    (s : MonitorState) (hosts : ℕ → ControlWords) (layout : PlatformLayout) (opened : List ℕ) (harts : ℕ) (woken : List Bool) → s ≡ opening_monitor layout
-    → hosts ≡ first_words → harts ≡ s.table.layout.harts → woken ≡ others harts
-    → IsAnswer s (given_on s hosts 0) 0 no_answer None woken lists.Host no_changes opened → IsFirstAnswer layout opened
-opens s hosts layout opened harts woken is words n w answer =
-    let known = subst (λ ws. IsAnswer s (given_on s hosts 0) 0 no_answer None ws lists.Host no_changes opened)
+    (s : MonitorState) (layout : PlatformLayout) (opened : List ℕ) (harts : ℕ) (woken : List Bool) → s ≡ opening_monitor layout
+    → harts ≡ s.table.layout.harts → woken ≡ others harts → IsAnswer s None 0 no_answer None woken lists.Host no_changes opened
+    → IsFirstAnswer layout opened
+opens s layout opened harts woken is n w answer =
+    let known = subst (λ ws. IsAnswer s None 0 no_answer None ws lists.Host no_changes opened)
     (w ∙ ap others (n ∙ ap (λ (x : MonitorState). x.table.layout.harts) is)) answer in
-    let with_words = subst (λ (hs : ℕ → ControlWords). IsAnswer s (given_on s hs 0) 0 no_answer None (others layout.harts) lists.Host no_changes opened)
-    words known in
-    subst (λ (x : MonitorState). IsAnswer x (given_on x first_words 0) 0 no_answer None (others layout.harts) lists.Host no_changes opened) is with_words
+    subst (λ (x : MonitorState). IsAnswer x None 0 no_answer None (others layout.harts) lists.Host no_changes opened) is known
 
 pub begins :
-    (s : MonitorState) (hosts : ℕ → ControlWords) (layout : PlatformLayout) (first opened : List ℕ) (harts : ℕ) (woken : List Bool)
+    (s : MonitorState) (layout : PlatformLayout) (first opened : List ℕ) (harts : ℕ) (woken : List Bool)
     (before after held middle holds : Option (List ℕ)) → length first ≡ 1336 → IsPlatformFrame first layout → s ≡ opening_monitor layout
-    → hosts ≡ first_words
     → Consumes before after first → Appends held middle [] → MayOpen layout → harts ≡ s.table.layout.harts → woken ≡ others harts
-    → IsAnswer s (given_on s hosts 0) 0 no_answer None woken lists.Host no_changes opened → Appends middle holds opened
-    → Progress 0 s hosts before after held holds
-begins s hosts layout first opened harts woken before after held middle holds size platform is words consumed nothing may n w answer wrote =
-    subst (λ (hs : ℕ → ControlWords). Progress 0 s hs before after held holds) (sym words)
-    (subst (λ (x : MonitorState). Progress 0 x first_words before after held holds) (sym is)
+    → IsAnswer s None 0 no_answer None woken lists.Host no_changes opened → Appends middle holds opened → Progress 0 s before after held holds
+begins s layout first opened harts woken before after held middle holds size platform is consumed nothing may n w answer wrote =
+    subst (λ (x : MonitorState). Progress 0 x before after held holds) (sym is)
     (opened_at layout first opened before after held middle holds size platform consumed nothing may
-    (opens s hosts layout opened harts woken is words n w answer) wrote))
+    (opens s layout opened harts woken is n w answer) wrote)
 
 -- it was not written whole
 pub answer_stops :
-    (fault : ServeFault) (s : MonitorState) (hosts : ℕ → ControlWords) (layout : PlatformLayout) (first answer : List ℕ) (n harts : ℕ) (woken : List Bool)
+    (fault : ServeFault) (s : MonitorState) (layout : PlatformLayout) (first answer : List ℕ) (n harts : ℕ) (woken : List Bool)
     (before after held middle holds : Option (List ℕ)) → length first ≡ 1336 → IsPlatformFrame first layout → s ≡ opening_monitor layout
-    → hosts ≡ first_words
     → Consumes before after first → Appends held middle [] → harts ≡ s.table.layout.harts → woken ≡ others harts → fault ≡ faults.Write
-    → IsAnswer s (given_on s hosts 0) 0 no_answer None woken lists.Host no_changes answer → n < length answer → Appends middle holds (take n answer)
+    → IsAnswer s None 0 no_answer None woken lists.Host no_changes answer → n < length answer → Appends middle holds (take n answer)
     → EndsAtFirst fault before after held holds
-answer_stops fault s hosts layout first answer n harts woken before after held middle holds size platform is words consumed nothing h w write whole less wrote =
+answer_stops fault s layout first answer n harts woken before after held middle holds size platform is consumed nothing h w write whole less wrote =
     let part = take n answer in (
       first,
       part,
@@ -129,7 +123,7 @@ answer_stops fault s hosts layout first answer n harts woken before after held m
         answer,
         size,
         platform,
-        opens s hosts layout answer harts woken is words h w whole,
+        opens s layout answer harts woken is h w whole,
         (n, less, refl),
       )),
       consumed,
@@ -138,12 +132,12 @@ answer_stops fault s hosts layout first answer n harts woken before after held m
 
 -- one trap more
 pub goes_on :
-    (count : ℕ) (old new : MonitorState) (hosts kept : ℕ → ControlWords) (trap : Trap) (frame : List ℕ) (harts : ℕ)
-    (before now mid after held middle holds : Option (List ℕ)) → Progress count old hosts before now held middle → length frame ≡ 160
+    (count : ℕ) (old new : MonitorState) (trap : Trap) (frame : List ℕ) (harts : ℕ)
+    (before now mid after held middle holds : Option (List ℕ)) → Progress count old before now held middle → length frame ≡ 96
     → IsTrapFrame frame harts trap
-    → harts ≡ old.table.layout.harts → Consumes now mid frame → Serves (Ok tt) trap old hosts new kept mid after middle holds
-    → Progress (count + 1) new kept before after held holds
-goes_on count old new hosts kept trap frame harts before now mid after held middle holds p size is n came s = record {
+    → harts ≡ old.table.layout.harts → Consumes now mid frame → Serves (Ok tt) trap old new mid after middle holds
+    → Progress (count + 1) new before after held holds
+goes_on count old new trap frame harts before now mid after held middle holds p size is n came s = record {
   layout = p.layout;
   first = p.first;
   opened = p.opened;
@@ -153,7 +147,7 @@ goes_on count old new hosts kept trap frame harts before now mid after held midd
   platform = p.platform;
   may_open = p.may_open;
   begins = p.begins;
-  served = next_trap p.served trap frame s.0 s.1 s.2 s.3 new kept size (subst (λ k. IsTrapFrame frame k trap) n is) s.4;
+  served = next_trap p.served trap frame s.0 s.1 s.2 s.3 new size (subst (λ k. IsTrapFrame frame k trap) n is) s.4;
   said = (p.said, s.5);
   counted = ap (λ k. k + 1) p.counted;
   consumed = consumed_as before after ((p.first ++ p.read) ++ (frame ++ s.0)) (p.first ++ (p.read ++ (frame ++ s.0)))
@@ -166,16 +160,15 @@ goes_on count old new hosts kept trap frame harts before now mid after held midd
 }
 
 -- what came and was written after them
-pub ran : (count : ℕ) (now : MonitorState) (hosts : ℕ → ControlWords) (before mid after held middle holds : Option (List ℕ)) (beyond rest : List ℕ)
-    → Progress count now hosts before mid held middle → Consumes mid after beyond → Appends middle holds rest → Ran before after held holds beyond rest
-ran count now hosts before mid after held middle holds beyond rest p came wrote = record {
+pub ran : (count : ℕ) (now : MonitorState) (before mid after held middle holds : Option (List ℕ)) (beyond rest : List ℕ)
+    → Progress count now before mid held middle → Consumes mid after beyond → Appends middle holds rest → Ran before after held holds beyond rest
+ran count now before mid after held middle holds beyond rest p came wrote = record {
   layout = p.layout;
   first = p.first;
   opened = p.opened;
   read = p.read;
   written = p.written;
   state = now;
-  hosts = hosts;
   count = count;
   size = p.size;
   platform = p.platform;
@@ -193,43 +186,43 @@ ran count now hosts before mid after held middle holds beyond rest p came wrote 
 
 -- and why the loop ends there
 pub ended :
-    (fault : ServeFault) (count : ℕ) (now : MonitorState) (hosts : ℕ → ControlWords) (before mid after held middle holds : Option (List ℕ))
-    (beyond rest : List ℕ) → Progress count now hosts before mid held middle → Consumes mid after beyond → Appends middle holds rest
-    → StopsBetween fault count now beyond rest after ⊎ StopsInside fault now hosts beyond rest after → EndsEarly fault before after held holds
+    (fault : ServeFault) (count : ℕ) (now : MonitorState) (before mid after held middle holds : Option (List ℕ))
+    (beyond rest : List ℕ) → Progress count now before mid held middle → Consumes mid after beyond → Appends middle holds rest
+    → StopsBetween fault count now beyond rest after ⊎ StopsInside fault now beyond rest after → EndsEarly fault before after held holds
 unfolding ran
-ended fault count now hosts before mid after held middle holds beyond rest p came wrote why = inr
-    (beyond, rest, ran count now hosts before mid after held middle holds beyond rest p came wrote, why)
+ended fault count now before mid after held middle holds beyond rest p came wrote why = inr
+    (beyond, rest, ran count now before mid after held middle holds beyond rest p came wrote, why)
 
 -- there is no next trap
 pub next_refused :
-    (result : ServeFault) (count : ℕ) (now : MonitorState) (hosts : ℕ → ControlWords) (before mid after held middle holds : Option (List ℕ)) (beyond : List ℕ)
-    → Progress count now hosts before mid held middle → Consumes mid after beyond
+    (result : ServeFault) (count : ℕ) (now : MonitorState) (before mid after held middle holds : Option (List ℕ)) (beyond : List ℕ)
+    → Progress count now before mid held middle → Consumes mid after beyond
     → RefusesNext count now beyond after → Refuses result refusals.NotUnderstood middle holds → EndsEarly result before after held holds
-next_refused result count now hosts before mid after held middle holds beyond p came why refused =
+next_refused result count now before mid after held middle holds beyond p came why refused =
     let e = refuse_why result refusals.NotUnderstood middle holds (λ f rest. StopsBetween f count now beyond rest after) refused (why, refl)
     (λ part off. (why, off)) in
-    ended result count now hosts before mid after held middle holds beyond e.0 p came e.2 (inl e.1)
+    ended result count now before mid after held middle holds beyond e.0 p came e.2 (inl e.1)
 
 -- a trap that was not read
 pub read_stops :
-    (result : ServeFault) (fault : FrameFault) (count : ℕ) (now : MonitorState) (hosts : ℕ → ControlWords) (trap : Trap) (harts : ℕ)
-    (before mid after held middle holds : Option (List ℕ)) → Progress count now hosts before mid held middle → harts ≡ now.table.layout.harts
+    (result : ServeFault) (fault : FrameFault) (count : ℕ) (now : MonitorState) (trap : Trap) (harts : ℕ)
+    (before mid after held middle holds : Option (List ℕ)) → Progress count now before mid held middle → harts ≡ now.table.layout.harts
     → ReadsTrap (Err fault) trap harts mid after → EndsAs result fault middle holds → EndsEarly result before after held holds
-read_stops result frames.NotUnderstood count now hosts trap harts before mid after held middle holds p n reads ends =
-    next_refused result count now hosts before mid after held middle holds reads.0 p reads.2 (inl (subst (λ k. IsNoTrap reads.0 k after) n reads.1)) ends
-read_stops result frames.Read count now hosts trap harts before mid after held middle holds p n reads ends =
-    ended result count now hosts before mid after held middle holds reads.0 [] p reads.2 ends.1
+read_stops result frames.NotUnderstood count now trap harts before mid after held middle holds p n reads ends =
+    next_refused result count now before mid after held middle holds reads.0 p reads.2 (inl (subst (λ k. IsNoTrap reads.0 k after) n reads.1)) ends
+read_stops result frames.Read count now trap harts before mid after held middle holds p n reads ends =
+    ended result count now before mid after held middle holds reads.0 [] p reads.2 ends.1
     (inl (subst (λ f. StopsBetween f count now reads.0 [] after) (sym ends.0) (reads.1, refl)))
-read_stops result frames.Write count now hosts trap harts before mid after held middle holds p n reads ends = absurd reads
+read_stops result frames.Write count now trap harts before mid after held middle holds p n reads ends = absurd reads
 
 -- a trap that was read and not served
 pub trap_stops :
-    (fault : ServeFault) (count : ℕ) (now : MonitorState) (hosts kept : ℕ → ControlWords) (new : MonitorState) (trap : Trap) (harts : ℕ) (frame : List ℕ)
-    (before mid next after held middle holds : Option (List ℕ)) → Progress count now hosts before mid held middle
-    → harts ≡ now.table.layout.harts → length frame ≡ 160 → IsTrapFrame frame harts trap → Consumes mid next frame
-    → Serves (Err fault) trap now hosts new kept next after middle holds → EndsEarly fault before after held holds
-trap_stops fault count now hosts kept new trap harts frame before mid next after held middle holds p n size is came s =
-    ended fault count now hosts before mid after held middle holds (frame ++ s.0) s.1 p (Consumes-trans mid next after frame s.0 came s.3) s.4
+    (fault : ServeFault) (count : ℕ) (now : MonitorState) (new : MonitorState) (trap : Trap) (harts : ℕ) (frame : List ℕ)
+    (before mid next after held middle holds : Option (List ℕ)) → Progress count now before mid held middle
+    → harts ≡ now.table.layout.harts → length frame ≡ 96 → IsTrapFrame frame harts trap → Consumes mid next frame
+    → Serves (Err fault) trap now new next after middle holds → EndsEarly fault before after held holds
+trap_stops fault count now new trap harts frame before mid next after held middle holds p n size is came s =
+    ended fault count now before mid after held middle holds (frame ++ s.0) s.1 p (Consumes-trans mid next after frame s.0 came s.3) s.4
     (inr (trap, frame, s.0, size, subst (λ k. IsTrapFrame frame k trap) n is, s.2, refl))
 
 -- the first bytes are refused

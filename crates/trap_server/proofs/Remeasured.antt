@@ -34,7 +34,7 @@ use Rattle.trap_server.specs.Answered.{AreLists, IsAnswer, marks_of, new_lists}
 use Rattle.trap_server.specs.declared.answer.NewLists.{NewLists}
 use Rattle.trap_server.specs.declared.answer.NewLists.TheVariants as lists
 use Rattle.trap_server.specs.PageDigest.{HasParts}
-use Rattle.trap_server.specs.Service.{AnswersCall}
+use Rattle.trap_server.specs.Service.{AnswersCall, given_at}
 use Rattle.trap_server.specs.declared.trap.Trap.{Trap}
 use Rattle.trap_server.specs.declared.words.ControlWords.{ControlWords}
 
@@ -160,7 +160,7 @@ lists_digested lists.HostAndMade s id made e digest are live is = (
 )
 
 answer_same :
-    (s : MonitorState) (id : ℕ) (e : Enclave) (digest : List ℕ) (given : ControlWords) (hart : ℕ) (answer : Answer) (cleared : Option PageRange)
+    (s : MonitorState) (id : ℕ) (e : Enclave) (digest : List ℕ) (given : Option ControlWords) (hart : ℕ) (answer : Answer) (cleared : Option PageRange)
     (woken : List Bool) (new : NewLists) (changes : SetChanges) (bytes : List ℕ) → Live s.table id e
     → IsAnswer s given hart answer cleared woken new changes bytes → IsAnswer (having_digest s id e digest) given hart answer cleared woken new changes bytes
 answer_same s id e digest given hart answer cleared woken new changes bytes live is = record {
@@ -170,20 +170,22 @@ answer_same s id e digest given hart answer cleared woken new changes bytes live
     fewest = fewest_digested s id e digest (s.worlds hart) is.needs.entries live is.needs.fewest;
     count = is.needs.count;
   };
+  front = is.front;
   puts = record {
     are = is.puts.are;
     lists = lists_digested new s id answer.value e digest is.puts.are live is.puts.lists;
     put = is.puts.put;
   };
+  ends = is.ends;
 }
 
 pub answer_remeasured :
-    (s : MonitorState) (trap : Trap) (given : ControlWords) (changes : SetChanges) (first : List ℕ) (answer : Answer) (answered : List ℕ) (now : MonitorState)
+    (s : MonitorState) (trap : Trap) (changes : SetChanges) (first : List ℕ) (answer : Answer) (answered : List ℕ) (now : MonitorState)
     (parts : Create) → call_of (running_registers s trap.hart) ≡ call_of trap.registers
-    → IsTable now.table → AnswersCall s trap given changes first answer answered now → IsMade (asked_in (call_of trap.registers)) answer parts
+    → IsTable now.table → AnswersCall s trap changes first answer answered now → IsMade (asked_in (call_of trap.registers)) answer parts
     → (e : Enclave) × Live now.table answer.value e × HasParts parts
-    × ((digest : List ℕ) → AnswersCall s trap given changes digest answer answered (having_digest now answer.value e digest))
-answer_remeasured s trap given changes first answer answered now parts there is x asked =
+    × ((digest : List ℕ) → AnswersCall s trap changes digest answer answered (having_digest now answer.value e digest))
+answer_remeasured s trap changes first answer answered now parts there is x asked =
     let hart = trap.hart in
     let file = past_call (running_registers s hart) in
     let before = with_running s hart file in
@@ -199,7 +201,7 @@ answer_remeasured s trap given changes first answer answered now parts there is 
         mid = having_digest x.mid answer.value r.0 digest;
         step = r.2 digest;
         woken = ap (λ (m : MonitorState). having_digest m answer.value r.0 digest) x.woken;
-        goes_on = answer_same now answer.value r.0 digest given hart answer x.cleared (marks_of x.mid)
+        goes_on = answer_same now answer.value r.0 digest (given_at s now trap) hart answer x.cleared (marks_of x.mid)
             (new_lists (asked_in (call_of trap.registers)) answer x.cleared) changes answered live x.goes_on;
       },
     )

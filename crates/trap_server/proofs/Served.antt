@@ -1,5 +1,5 @@
 -- A trap that was served, from what was asked, read and written.
-use Rattle.std.proofs.Common.{◌≡◌, inl, inr, subst, ℕ, zero, suc, ◌<◌, ◌≤◌, Bool, true, false, List, [], ◌++◌, take, Option, Result, Err, sym, refl, arith}
+use Rattle.std.proofs.Common.{◌≡◌, inl, inr, subst, ℕ, zero, suc, ◌<◌, ◌≤◌, true, false, List, [], ◌++◌, take, Option, Result, Err, sym, refl, arith}
 use Rattle.std.proofs.Common.{append-nil}
 use Rattle.std.proofs.lemmas.Bool.{true≢false}
 use Rattle.std.specs.Prelude.{slice_index_or}

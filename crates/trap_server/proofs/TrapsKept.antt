@@ -1,5 +1,5 @@
 -- What one trap keeps that was served.
-use Rattle.std.proofs.Common.{◌≡◌, ◌≢◌, ◌∙◌, ◌<◌, ◌≤◌, ◌||◌, ◌⊎◌, ◌==◌, if◌then◌else◌, inl, inr, ℕ, zero, suc, pos, Bool, true, false, List, Option, Some, None, IfSome}
+use Rattle.std.proofs.Common.{◌≡◌, ◌≢◌, ◌∙◌, ◌<◌, ◌≤◌, ◌||◌, ◌⊎◌, inl, inr, ℕ, zero, suc, pos, true, false, List, Option, Some, None, IfSome}
 use Rattle.std.proofs.Common.{slice_index_or, refl, ap, sym, subst, arith}
 use Rattle.pmp_encoding.specs.Views.{SameView}
 use Rattle.pmp_encoding.specs.declared.pages.PageRange.{PageRange}
@@ -9,7 +9,7 @@ use Rattle.sbi_decode.specs.Calls.{call_of}
 use Rattle.sbi_decode.specs.Registers.{RegisterFile}
 use Rattle.sbi_decode.specs.Runners.{EnclaveOf}
 use Rattle.sbi_decode.specs.declared.world.World.{World}
-use Rattle.sbi_decode.specs.declared.world.World.TheVariants.{Host, Enclave as InEnclave}
+use Rattle.sbi_decode.specs.declared.world.World.TheVariants.{Host}
 use Rattle.platforms.specs.CheckLists.{AllPass}
 use Rattle.enclave_table.specs.Checks.{create_checks}
 use Rattle.enclave_table.specs.Enclaves.{EnclaveTable, Live, enclave_at}
@@ -29,7 +29,6 @@ use Rattle.monitor_core.specs.Switches.{HasExited, KeepsRegisters, runner_on}
 use Rattle.monitor_core.specs.Wants.{IsRefusedByNeed}
 use Rattle.monitor_core.specs.Worlds.{ArePlaced}
 use Rattle.monitor_core.specs.declared.answer.Answer.{Answer}
-use Rattle.monitor_core.proofs.Cases.{both}
 use Rattle.monitor_core.proofs.Cleared.{call_clears_memory}
 use Rattle.monitor_core.proofs.Others.{others_call, others_irq}
 use Rattle.monitor_core.proofs.Put.{put_there}
@@ -43,13 +42,10 @@ use Rattle.monitor_core.proofs.Zeroed.{Clears, lost_call, lost_irq}
 use Rattle.trap_server.specs.declared.trap.TrapEvent.{TrapEvent}
 use Rattle.trap_server.specs.declared.trap.TrapEvent.TheVariants.{Call, Stop}
 use Rattle.trap_server.specs.declared.trap.Trap.{Trap}
-use Rattle.trap_server.specs.declared.words.ControlWords.{ControlWords}
 use Rattle.trap_server.specs.declared.answer.NewLists.TheVariants as lists
 use Rattle.trap_server.specs.Answered.{marks_of, new_lists, no_answer, unmarked}
 use Rattle.trap_server.specs.Firmware.{AreDestroyed, AreThose, AsksMemory, IsThere, KeepsTrap, called, is_new, private_pages}
-use Rattle.trap_server.specs.Given.{GivesWords, keeping, words_in}
-use Rattle.trap_server.specs.Service.{AsksFor, ServesAs, ServesCall, ServesStop, ServesTrap}
-use Rattle.trap_server.specs.Traps.{is_machine}
+use Rattle.trap_server.specs.Service.{AsksFor, ServesAs, ServesCall, ServesStop}
 use Rattle.trap_server.proofs.ListsKept.{Keeps, call_keeps, irq_keeps, made_by_lists}
 use Rattle.trap_server.proofs.Remeasured.{call_remeasured, made_passes}
 use Rattle.trap_server.proofs.Served.{mark_at}
@@ -109,34 +105,6 @@ woken_hosts :
 woken_hosts s mid new other woken layout placed low on = ap (λ (y : MonitorState). y.worlds other) woken
     ∙ placed.marked other (subst (λ l. other < l.harts) (sym layout) low) (mark_at mid other on)
 
--- an enclave is in user mode, and no world in machine mode where no host came so
-user_mode :
-    (hosts kept : ℕ → ControlWords) (hart : ℕ) (before after : World) (came given : ControlWords) → GivesWords hosts hart before after came kept given
-    → (id : ℕ) → after ≡ InEnclave id → given.mode ≡ 0
-user_mode hosts kept hart before after came given w id at = ap (λ (x : ControlWords). x.mode) (w.gives ∙ ap (λ v. words_in v (kept hart)) at)
-
-abbrev pub AreBelow : (ℕ → ControlWords) → Type 0
-AreBelow hosts = (hart : ℕ) → is_machine (hosts hart).mode ≡ false
-
-kept_below : (before : World) (hosts : ℕ → ControlWords) (hart : ℕ) (came : ControlWords) → AreBelow hosts → is_machine came.mode ≡ false
-    → AreBelow (keeping before hosts hart came)
-kept_below Host hosts hart came all below = λ other. both (other == hart)
-    (λ yes. ap (λ t. is_machine (if t then came else hosts other).mode) yes ∙ below)
-    (λ no. ap (λ t. is_machine (if t then came else hosts other).mode) no ∙ all other)
-kept_below (InEnclave id) hosts hart came all below = all
-
-pub still_below : (hosts kept : ℕ → ControlWords) (hart : ℕ) (before after : World) (came given : ControlWords)
-    → GivesWords hosts hart before after came kept given → AreBelow hosts → is_machine came.mode ≡ false → AreBelow kept
-still_below hosts kept hart before after came given w all below = subst AreBelow (sym w.keeps) (kept_below before hosts hart came all below)
-
-words_below : (after : World) (host : ControlWords) → is_machine host.mode ≡ false → is_machine (words_in after host).mode ≡ false
-words_below Host host below = below
-words_below (InEnclave id) host below = refl
-
-given_below : (hosts kept : ℕ → ControlWords) (hart : ℕ) (before after : World) (came given : ControlWords) → GivesWords hosts hart before after came kept given
-    → AreBelow kept → is_machine given.mode ≡ false
-given_below hosts kept hart before after came given w all = ap (λ (x : ControlWords). is_machine x.mode) w.gives ∙ words_below after (kept hart) (all hart)
-
 -- pages that are to be made zero are those of an enclave that is gone
 destroyed :
     (s mid new : MonitorState) (wiped : Option PageRange) → new ≡ unmarked 4 mid → IfSome wiped (λ range. ClearsMemory s.table.layout range)
@@ -163,11 +131,10 @@ pub record IsReady (s : MonitorState) (hart : ℕ) : Type 0 where
   pub placed : ArePlaced s
 
 call_kept :
-    (s : MonitorState) (hosts kept : ℕ → ControlWords) (trap : Trap) (given : ControlWords) (changes : SetChanges) (read question answered : List ℕ)
+    (s : MonitorState) (trap : Trap) (changes : SetChanges) (read question answered : List ℕ)
     (new : MonitorState) → IsReady s trap.hart → call_of (running_registers s trap.hart) ≡ call_of trap.registers → trap.event ≡ Call
-    → GivesWords hosts trap.hart (s.worlds trap.hart) (new.worlds trap.hart) trap.control kept given → AreBelow kept
-    → ServesCall s trap given changes read question answered new → KeepsTrap s hosts trap changes read question answered new kept
-call_kept s hosts kept trap given changes read question answered new ready there is words all x =
+    → ServesCall s trap changes read question answered new → KeepsTrap s trap changes read question answered new
+call_kept s trap changes read question answered new ready there is x =
     let hart = trap.hart in
     let came = running_registers s hart in
     let file = past_call came in
@@ -184,7 +151,6 @@ call_kept s hosts kept trap given changes read question answered new ready there
       cleared = a.cleared;
       woken = marks_of a.mid;
       lists = lists;
-      given = given;
       says = a.goes_on;
       made = λ is.
           let m = made_by_lists (asked_in call) x.answer a.cleared (ap (λ c. new_lists (asked_in c) x.answer a.cleared) there ∙ is) in
@@ -217,9 +183,6 @@ call_kept s hosts kept trap given changes read question answered new ready there
           let through = call_through call (λ parts. x.digest) t hart x.answer a.cleared a.mid (placed.current hart ready.known) a.step lived in
           subst (λ (e : TrapEvent). AreThose e came (new.registers me)) (sym is)
           (subst (λ (y : MonitorState). AreThose Call came (y.registers me)) (sym a.woken) (past came _ _ (put_there s hart file) through));
-      words = words;
-      below = given_below hosts kept hart (s.worlds hart) (new.worlds hart) trap.control given words all;
-      user = user_mode hosts kept hart (s.worlds hart) (new.worlds hart) trap.control given words;
     }
 
 -- what is no call is refused by no number
@@ -227,11 +190,10 @@ none_refused : (refusal : Refusal) → no_answer.status ≡ below_zero (refusal_
 none_refused refusal is = let z : pos 0 ≡ below_zero (refusal_number refusal) = is in cc
 
 stop_kept :
-    (s : MonitorState) (hosts kept : ℕ → ControlWords) (trap : Trap) (given : ControlWords) (changes : SetChanges) (read question answered : List ℕ)
+    (s : MonitorState) (trap : Trap) (changes : SetChanges) (read question answered : List ℕ)
     (new : MonitorState) → IsReady s trap.hart → trap.event ≡ Stop
-    → GivesWords hosts trap.hart (s.worlds trap.hart) (new.worlds trap.hart) trap.control kept given → AreBelow kept
-    → ServesStop s trap given changes read question answered new → KeepsTrap s hosts trap changes read question answered new kept
-stop_kept s hosts kept trap given changes read question answered new ready is words all x =
+    → ServesStop s trap changes read question answered new → KeepsTrap s trap changes read question answered new
+stop_kept s trap changes read question answered new ready is x =
     let hart = trap.hart in
     let t = s in
     let me = runner_on s hart in
@@ -244,7 +206,6 @@ stop_kept s hosts kept trap given changes read question answered new ready is wo
       cleared = None;
       woken = marks_of x.mid;
       lists = lists.Nothing;
-      given = given;
       says = x.goes_on;
       made = λ is. let z : lists.Nothing ≡ lists.HostAndMade = is in absurd cc;
       keeps = λ world there off. woken_keeps t x.mid new world x.woken (irq_keeps (s.worlds hart) t hart x.mid world x.step) there;
@@ -265,24 +226,21 @@ stop_kept s hosts kept trap given changes read question answered new ready is wo
       registers = woken_registers s x.mid new hart x.woken (interrupt_keeps_registers world t hart x.mid refl x.step);
       came = λ none. subst (λ (e : TrapEvent). AreThose e (running_registers s hart) (new.registers me)) (sym is)
           (ap (λ (y : MonitorState). y.registers me) x.woken ∙ interrupt_through world t hart x.mid refl x.step);
-      words = words;
-      below = given_below hosts kept hart world (new.worlds hart) trap.control given words all;
-      user = user_mode hosts kept hart world (new.worlds hart) trap.control given words;
     }
 
 by_event :
-    (event : TrapEvent) (s : MonitorState) (hosts kept : ℕ → ControlWords) (trap : Trap) (given : ControlWords) (changes : SetChanges)
+    (event : TrapEvent) (s : MonitorState) (trap : Trap) (changes : SetChanges)
     (read question answered : List ℕ) (new : MonitorState) → IsReady s trap.hart → call_of (running_registers s trap.hart) ≡ call_of trap.registers
-    → trap.event ≡ event → GivesWords hosts trap.hart (s.worlds trap.hart) (new.worlds trap.hart) trap.control kept given → AreBelow kept
-    → ServesAs event s trap given changes read question answered new → KeepsTrap s hosts trap changes read question answered new kept
-by_event Call s hosts kept trap given changes read question answered new ready there is words all x =
-    call_kept s hosts kept trap given changes read question answered new ready there is words all x
-by_event Stop s hosts kept trap given changes read question answered new ready there is words all x =
-    stop_kept s hosts kept trap given changes read question answered new ready is words all x
+    → trap.event ≡ event
+    → ServesAs event s trap changes read question answered new → KeepsTrap s trap changes read question answered new
+by_event Call s trap changes read question answered new ready there is x =
+    call_kept s trap changes read question answered new ready there is x
+by_event Stop s trap changes read question answered new ready there is x =
+    stop_kept s trap changes read question answered new ready is x
 
 pub trap_kept :
-    (s : MonitorState) (hosts kept : ℕ → ControlWords) (trap : Trap) (changes : SetChanges) (read question answered : List ℕ) (new : MonitorState)
-    → IsReady s trap.hart → call_of (running_registers s trap.hart) ≡ call_of trap.registers → AreBelow kept
-    → ServesTrap s hosts trap changes read question answered new kept → KeepsTrap s hosts trap changes read question answered new kept
-trap_kept s hosts kept trap changes read question answered new ready there all x =
-    by_event trap.event s hosts kept trap x.given changes read question answered new ready there refl x.words all x.step
+    (s : MonitorState) (trap : Trap) (changes : SetChanges) (read question answered : List ℕ) (new : MonitorState)
+    → IsReady s trap.hart → call_of (running_registers s trap.hart) ≡ call_of trap.registers
+    → ServesAs trap.event s trap changes read question answered new → KeepsTrap s trap changes read question answered new
+trap_kept s trap changes read question answered new ready there x =
+    by_event trap.event s trap changes read question answered new ready there refl x

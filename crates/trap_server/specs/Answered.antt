@@ -15,11 +15,10 @@ use Rattle.monitor_core.specs.declared.set_changes.SetChange.{SetChange}
 use Rattle.monitor_core.specs.declared.set_changes.SetChanges.{SetChanges}
 use Rattle.monitor_core.specs.Changes.{without_mark}
 use Rattle.trap_server.specs.declared.words.ControlWords.{ControlWords}
-use Rattle.trap_server.specs.Given.{words_in}
 use Rattle.trap_server.specs.declared.answer.Head.{Head}
 use Rattle.trap_server.specs.declared.answer.NewLists.{NewLists}
 use Rattle.trap_server.specs.declared.answer.NewLists.TheVariants as renewed
-use Rattle.trap_server.specs.Answers.{front_bytes, lists_bytes}
+use Rattle.trap_server.specs.Answers.{front_bytes, given_bytes, lists_bytes}
 use Rattle.enclave_table.specs.Views.{current_view}
 
 -- the marks of the harts below n taken away
@@ -69,8 +68,9 @@ status_word (pos n) = n
 status_word (negsuc n) = 2 ^ 64 - (n + 1)
 
 -- the front of an answer on a hart
-abbrev pub head_of : MonitorState → ℕ → Answer → ℕ → Option PageRange → List Bool → NewLists → Head
-head_of s hart answer used cleared woken new =
+abbrev pub head_of : MonitorState → ℕ → Answer → ℕ → Option PageRange → List Bool → NewLists
+    → Option ControlWords → Head
+head_of s hart answer used cleared woken new given =
     record {
       hart = hart;
       world = s.worlds hart;
@@ -80,12 +80,8 @@ head_of s hart answer used cleared woken new =
       zero = cleared;
       woken = woken;
       lists = new;
+      given = given;
     }
-
--- the control words with which the world that runs on a hart goes on there, where the hosts have
--- these
-abbrev pub given_on : MonitorState → (ℕ → ControlWords) → ℕ → ControlWords
-given_on s hosts hart = words_in (s.worlds hart) (hosts hart)
 
 -- the two words of a change have 64 bits
 abbrev pub HasWords : SetChange → Type 0
@@ -98,16 +94,30 @@ pub record AreWords (changes : SetChanges) : Type 0 where
   pub second : HasWords changes.second
   pub third : HasWords changes.third
 
+-- control words have 64 bits each
+pub record AreControl (words : ControlWords) : Type 0 where
+  pub status : words.status < 2 ^ 64
+  pub satp : words.satp < 2 ^ 64
+  pub mie : words.mie < 2 ^ 64
+  pub scounteren : words.scounteren < 2 ^ 64
+  pub senvcfg : words.senvcfg < 2 ^ 64
+  pub hstatus : words.hstatus < 2 ^ 64
+  pub medeleg : words.medeleg < 2 ^ 64
+  pub mideleg : words.mideleg < 2 ^ 64
+  pub mode : words.mode < 2 ^ 64
+
 -- an answer is written with which a hart goes on: how many entries the world needs that runs
--- there, what becomes of register sets, the control words that the world is given, and the lists of
--- entries that are new
-pub record IsAnswer (s : MonitorState) (given : ControlWords) (hart : ℕ) (answer : Answer)
+-- there, what becomes of register sets, the lists of entries that are new, and after them the
+-- control words that are given
+pub record IsAnswer (s : MonitorState) (given : Option ControlWords) (hart : ℕ) (answer : Answer)
     (cleared : Option PageRange) (woken : List Bool) (new : NewLists) (changes : SetChanges)
     (bytes : List ℕ) : Type 0 where
   pub used : ℕ
   pub needs : Needs (current_view s.table (s.worlds hart)) used
+  pub front : List ℕ
   pub puts : PutsLists s.table answer.value new (front_bytes
-      (head_of s hart answer used cleared woken new) changes given) bytes
+      (head_of s hart answer used cleared woken new given) changes) front
+  pub ends : bytes ≡ front ++ given_bytes given
 
 -- what is in the answer's place where there was no call
 abbrev pub no_answer : Answer

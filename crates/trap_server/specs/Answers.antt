@@ -11,7 +11,7 @@ use Rattle.monitor_core.specs.declared.set_changes.SetChange.{SetChange}
 use Rattle.monitor_core.specs.declared.set_changes.SetChanges.{SetChanges}
 use Rattle.trap_server.specs.declared.words.ControlWords.{ControlWords}
 use Rattle.monitor_core.specs.Answers.{world_number}
-use Rattle.trap_server.specs.Words.{answer_tag, bytes_of, control_tag}
+use Rattle.trap_server.specs.Words.{answer_tag, bytes_of}
 use Rattle.trap_server.specs.declared.answer.Head.{Head}
 use Rattle.trap_server.specs.declared.answer.NewLists.{NewLists}
 use Rattle.trap_server.specs.declared.answer.NewLists.TheVariants as renewed
@@ -38,6 +38,11 @@ list_count renewed.Nothing = 0
 list_count renewed.Host = 1
 list_count renewed.HostAndMade = 2
 
+-- how many control words
+abbrev pub control_count : Option ControlWords → ℕ
+control_count None = 0
+control_count (Some words) = 9
+
 -- what comes before the changes of register sets
 abbrev pub head_bytes : Head → List ℕ
 head_bytes head =
@@ -45,7 +50,7 @@ head_bytes head =
     ∷ (world_number head.world ∷ (head.status
     ∷ (head.value ∷ (head.used ∷ ((pages_of head.zero).first
     ∷ ((pages_of head.zero).count ∷ (wake_word head.woken
-    ∷ (list_count head.lists ∷ []))))))))))
+    ∷ (list_count head.lists ∷ (control_count head.given ∷ [])))))))))))
 
 -- the number of a kind of change
 abbrev pub kind_number : ChangeKind → ℕ
@@ -93,13 +98,18 @@ abbrev pub address_bytes : List Entry → ℕ → List ℕ
 address_bytes entries zero = []
 address_bytes entries (suc n) = address_bytes entries n ++ little_bytes 8 (address_at entries n)
 
--- the control words in their order, after their tag
+-- control words in their order
 abbrev pub control_bytes : ControlWords → List ℕ
 control_bytes words =
-    bytes_of (control_tag ∷ (words.status
+    bytes_of (words.status
     ∷ (words.satp ∷ (words.mie ∷ (words.scounteren
     ∷ (words.senvcfg ∷ (words.hstatus
-    ∷ (words.medeleg ∷ (words.mideleg ∷ (words.mode ∷ []))))))))))
+    ∷ (words.medeleg ∷ (words.mideleg ∷ (words.mode ∷ [])))))))))
+
+-- those that are given
+abbrev pub given_bytes : Option ControlWords → List ℕ
+given_bytes None = []
+given_bytes (Some words) = control_bytes words
 
 -- a list of entries as registers: how many they are, 64 configuration bytes and 64 address
 -- registers, zero after its end
@@ -113,10 +123,5 @@ lists_bytes [] = []
 lists_bytes (entries ∷ lists) = list_bytes entries ++ lists_bytes lists
 
 -- the bytes of the frame before its lists
-abbrev pub front_bytes : Head → SetChanges → ControlWords → List ℕ
-front_bytes head changes control = head_bytes head ++ changes_bytes changes
-    ++ control_bytes control
-
--- the bytes of the frame
-abbrev pub answer_bytes : Head → SetChanges → ControlWords → List (List Entry) → List ℕ
-answer_bytes head changes control lists = front_bytes head changes control ++ lists_bytes lists
+abbrev pub front_bytes : Head → SetChanges → List ℕ
+front_bytes head changes = head_bytes head ++ changes_bytes changes

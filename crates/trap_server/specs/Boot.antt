@@ -18,7 +18,6 @@ use Rattle.trap_server.specs.declared.end.EndReason.TheVariants.{NotUnderstood, 
 use Rattle.trap_server.specs.declared.end.EndReason.TheVariants.{NeedsEntries, Memory}
 use Rattle.trap_server.specs.declared.fault.ServeFault.{ServeFault}
 use Rattle.trap_server.specs.declared.fault.ServeFault.TheVariants as faults
-use Rattle.trap_server.specs.Tables.{first_host_words}
 use Rattle.trap_server.specs.EndFrames.{end_bytes}
 use Rattle.trap_server.specs.Answered.{IsAnswer, no_answer}
 use Rattle.trap_server.specs.declared.answer.NewLists.TheVariants as renewed
@@ -45,9 +44,9 @@ abbrev pub no_changes : SetChanges
 no_changes = record { first = no_change; second = no_change; third = no_change }
 
 -- the answer to a platform: with which hart 0 goes on in the opening state, and the list of the
--- host, which all harts load. It changes no set of registers
+-- host, which all harts load. It changes no set of registers, and gives no control words
 abbrev pub IsFirstAnswer : PlatformLayout → List ℕ → Type 0
-IsFirstAnswer layout bytes = IsAnswer (opening_monitor layout) first_host_words 0 no_answer None
+IsFirstAnswer layout bytes = IsAnswer (opening_monitor layout) None 0 no_answer None
     (others layout.harts) renewed.Host no_changes bytes
 
 -- why the loop ends before a trap was read, and what was written. A refusal is the last frame.

@@ -36,14 +36,12 @@ use Rattle.monitor_core.specs.declared.answer.Answer.{Answer}
 use Rattle.trap_server.specs.declared.trap.TrapEvent.{TrapEvent}
 use Rattle.trap_server.specs.declared.trap.TrapEvent.TheVariants as trap_events
 use Rattle.trap_server.specs.declared.trap.Trap.{Trap}
-use Rattle.trap_server.specs.declared.words.ControlWords.{ControlWords}
 use Rattle.trap_server.specs.declared.answer.NewLists.{NewLists}
 use Rattle.trap_server.specs.declared.answer.NewLists.TheVariants as renewed
 use Rattle.trap_server.specs.Answered.{AreAwake, IsAnswer}
-use Rattle.trap_server.specs.Given.{GivesWords}
 use Rattle.trap_server.specs.PageDigest.{ArePages, question_bytes}
-use Rattle.trap_server.specs.Runs.{ServesTraps, first_words, next_trap, no_trap}
-use Rattle.trap_server.specs.Traps.{is_machine}
+use Rattle.trap_server.specs.Runs.{ServesTraps, next_trap, no_trap}
+use Rattle.trap_server.specs.Service.{given_at}
 use Rattle.trap_server.specs.Words.{word_at}
 
 -- the configuration byte of entry i in the bytes of a list
@@ -74,10 +72,10 @@ pub record HasFewest (bytes : List ℕ) (limit : Limit) (view : View) : Type 0 w
 -- are in it: the first is the host's, the second that of the enclave whose number is in word 4.
 -- Each other world keeps the list that it had
 abbrev pub list_after : List ℕ → (ℕ → List ℕ) → ℕ → List ℕ
-list_after answered lists zero = if nat_lt 0 (word_at answered 9) then drop 256 answered
+list_after answered lists zero = if nat_lt 0 (word_at answered 9) then drop 184 answered
     else lists 0
 list_after answered lists (suc n) = if word_at answered 9 == 2 && word_at answered 4 == suc n
-    then drop 840 answered else lists (suc n)
+    then drop 768 answered else lists (suc n)
 
 -- what a hart has loaded after an answer, by the lists of the worlds: where the answer names it, in
 -- word 1, that of the world in word 2; where its bit is among the woken, in word 8, the host's; and
@@ -89,21 +87,19 @@ loaded_after answered lists before hart = if word_at answered 1 == hart
 
 -- the list that was answered last of a world by its number; before any trap the one of the answer
 -- to the platform
-abbrev pub list_last : (opened : List ℕ) {old : MonitorState} {hosts : ℕ
-    → ControlWords} {read written : List ℕ} {new : MonitorState} {kept : ℕ
-    → ControlWords} → ServesTraps old hosts read written new kept → ℕ → List ℕ
-list_last opened no_trap world = drop 256 opened
+abbrev pub list_last : (opened : List ℕ) {old : MonitorState} {read written : List ℕ}
+    {new : MonitorState} → ServesTraps old read written new → ℕ → List ℕ
+list_last opened no_trap world = drop 184 opened
 list_last opened
-    (next_trap served trap frame more question answered changes new kept size is step) world =
+    (next_trap served trap frame more question answered changes new size is step) world =
     list_after answered (list_last opened served) world
 
 -- the list that a hart loaded last
-abbrev pub loaded_last : (opened : List ℕ) {old : MonitorState} {hosts : ℕ
-    → ControlWords} {read written : List ℕ} {new : MonitorState} {kept : ℕ
-    → ControlWords} → ServesTraps old hosts read written new kept → ℕ → List ℕ
-loaded_last opened no_trap hart = drop 256 opened
+abbrev pub loaded_last : (opened : List ℕ) {old : MonitorState} {read written : List ℕ}
+    {new : MonitorState} → ServesTraps old read written new → ℕ → List ℕ
+loaded_last opened no_trap hart = drop 184 opened
 loaded_last opened
-    (next_trap served trap frame more question answered changes new kept size is step) hart =
+    (next_trap served trap frame more question answered changes new size is step) hart =
     loaded_after answered (list_after answered (list_last opened served))
     (loaded_last opened served hart) hart
 
@@ -156,17 +152,17 @@ AreThose trap_events.Stop came now = now ≡ came
 
 -- what is kept over a trap that was served: what was asked for and read, the answer, and the state
 -- before and after
-pub record KeepsTrap (old : MonitorState) (hosts : ℕ → ControlWords) (trap : Trap)
-    (changes : SetChanges) (read question answered : List ℕ) (new : MonitorState)
-    (kept : ℕ → ControlWords) : Type 0 where
+pub record KeepsTrap (old : MonitorState) (trap : Trap) (changes : SetChanges)
+    (read question answered : List ℕ) (new : MonitorState) : Type 0 where
   -- what the answer says: its status and value, the pages that are to be made zero, the harts that
-  -- are woken, the lists of entries that are new, and the control words
+  -- are woken, the lists of entries that are new, and the control words where a host enters an
+  -- enclave
   pub answer : Answer
   pub cleared : Option PageRange
   pub woken : List Bool
   pub lists : NewLists
-  pub given : ControlWords
-  pub says : IsAnswer new given trap.hart answer cleared woken lists changes answered
+  pub says : IsAnswer new (given_at old new trap) trap.hart answer cleared woken lists changes
+      answered
   -- a creation or destruction is refused for want of entries just where a view after it needs more
   pub need :
       IsRefusedByNeed (called trap.event trap.registers) old.table (old.worlds trap.hart)
@@ -198,30 +194,23 @@ pub record KeepsTrap (old : MonitorState) (hosts : ℕ → ControlWords) (trap :
   pub came : ((id : ℕ) → runner_on old trap.hart ≡ EnclaveOf id → HasExited old new id → ⊥)
       → AreThose trap.event (running_registers old trap.hart)
       (new.registers (runner_on old trap.hart))
-  -- each world has its own control words; none goes on in machine mode, and an enclave in user mode
-  pub words : GivesWords hosts trap.hart (old.worlds trap.hart) (new.worlds trap.hart) trap.control
-      kept given
-  pub below : is_machine given.mode ≡ false
-  pub user : (id : ℕ) → new.worlds trap.hart ≡ InEnclave id → given.mode ≡ 0
 
 -- each trap of a run keeps that, whatever the register sets are
-abbrev pub AreKept : {old : MonitorState} {hosts : ℕ
-    → ControlWords} {read written : List ℕ} {new : MonitorState} {kept : ℕ
-    → ControlWords} → ServesTraps old hosts read written new kept → Type 0
+abbrev pub AreKept : {old : MonitorState} {read written : List ℕ} {new : MonitorState}
+    → ServesTraps old read written new → Type 0
 AreKept no_trap = ⊤
-AreKept (next_trap {mid = mid} {now = now} served trap frame more question answered changes new kept
-    size is step) = AreKept served × ((sets : Runner → RegisterFile) → AreThere mid trap sets
-    → KeepsTrap (with_sets mid sets) now trap changes more question answered
-    (with_sets new (changed trap.hart changes sets)) kept)
+AreKept (next_trap {mid = mid} served trap frame more question answered changes new size is step) =
+    AreKept served × ((sets : Runner → RegisterFile) → AreThere mid trap sets
+    → KeepsTrap (with_sets mid sets) trap changes more question answered
+    (with_sets new (changed trap.hart changes sets)))
 
 -- after any traps: the table is sound, and the platform is the one that was read. Each hart is in
 -- the host's world or in that of an enclave that is Running, and each of these runs on just one; no
 -- hart is to be woken. The list that was answered last of each world that is there means its view,
 -- by the fewest entries that do, and so does the list that each hart loaded last for the view of
--- its world. No host that waits is to go on in machine mode. And what each trap kept
+-- its world. And what each trap kept
 pub record FirmwareHeadline (layout : PlatformLayout) (opened read written : List ℕ)
-    (s : MonitorState) (kept : ℕ → ControlWords)
-    (served : ServesTraps (opening_monitor layout) first_words read written s kept) : Type 0 where
+    (s : MonitorState) (served : ServesTraps (opening_monitor layout) read written s) : Type 0 where
   pub table : IsTable s.table
   pub platform : s.table.layout ≡ layout
   pub worlds : ArePlaced s
@@ -232,5 +221,4 @@ pub record FirmwareHeadline (layout : PlatformLayout) (opened read written : Lis
   pub banks : (hart : ℕ) → hart < layout.harts
       → HasFewest (loaded_last opened served hart) layout.limit
       (current_view s.table (s.worlds hart))
-  pub modes : (hart : ℕ) → is_machine (kept hart).mode ≡ false
   pub each : AreKept served

@@ -1,28 +1,36 @@
--- Whose words are kept at a trap, and which are given.
-use Rattle.std.specs.Prelude.{◌≡◌, ℕ, ◌==◌, slice_index_or, if◌then◌else◌}
+-- Which control words an answer gives, and which its bytes say.
+use Rattle.std.specs.Prelude.{ℕ, ◌+◌, ◌*◌, ◌==◌, if◌then◌else◌, List, Option, None, Some}
 use Rattle.sbi_decode.specs.declared.world.World.{World}
 use Rattle.sbi_decode.specs.declared.world.World.TheVariants.{Host, Enclave as InEnclave}
-use Rattle.trap_server.specs.declared.words.ControlWords.{ControlWords}
 use Rattle.trap_server.specs.declared.host_words.HostWords.{HostWords}
-use Rattle.trap_server.specs.Tables.{enclave_words, first_host_words}
+use Rattle.trap_server.specs.declared.words.ControlWords.{ControlWords}
+use Rattle.trap_server.specs.Tables.{enclave_words}
+use Rattle.trap_server.specs.Words.{word_at}
 
--- the words with which the host of each hart came last, or begins
-unfoldable pub host_words : HostWords → ℕ → ControlWords
-host_words kept hart = slice_index_or kept.hosts hart first_host_words
+-- the words that are given at a trap, by the worlds that run on the hart before and after it, and
+-- by what came with it: those of an enclave where a host enters it. Otherwise none are: the world
+-- that goes on has those with which it ran there last
+abbrev pub words_given : World → World → HostWords → Option ControlWords
+words_given Host (InEnclave id) came = Some (enclave_words came)
+words_given Host Host came = None
+words_given (InEnclave id) after came = None
 
--- words came with a trap of a world on a hart: the host's are kept there, an enclave's are not
-abbrev pub keeping : World → (ℕ → ControlWords) → ℕ → ControlWords → ℕ → ControlWords
-keeping Host hosts hart came = λ other. if other == hart then came else hosts other
-keeping (InEnclave id) hosts hart came = hosts
+-- the control words that are in bytes from a word on, in their order
+abbrev pub control_at : List ℕ → ℕ → ControlWords
+control_at bytes from = record {
+  status = word_at bytes from;
+  satp = word_at bytes (from + 1);
+  mie = word_at bytes (from + 2);
+  scounteren = word_at bytes (from + 3);
+  senvcfg = word_at bytes (from + 4);
+  hstatus = word_at bytes (from + 5);
+  medeleg = word_at bytes (from + 6);
+  mideleg = word_at bytes (from + 7);
+  mode = word_at bytes (from + 8);
+}
 
--- the words with which a world goes on, on a hart whose host has these
-abbrev pub words_in : World → ControlWords → ControlWords
-words_in Host host = host
-words_in (InEnclave id) host = enclave_words host
-
--- at a trap on a hart words came from the world that ran there: those of the hosts are kept as they
--- came last, and these are given to the world that goes on there
-pub record GivesWords (hosts : ℕ → ControlWords) (hart : ℕ) (before after : World)
-    (came : ControlWords) (kept : ℕ → ControlWords) (given : ControlWords) : Type 0 where
-  pub keeps : kept ≡ keeping before hosts hart came
-  pub gives : given ≡ words_in after (kept hart)
+-- the control words that an answer says: word 10 is how many, nine or none. They are after its
+-- lists, of which word 9 says how many they are
+abbrev pub said_words : List ℕ → Option ControlWords
+said_words answered = if word_at answered 10 == 9
+    then Some (control_at answered (23 + 73 * word_at answered 9)) else None

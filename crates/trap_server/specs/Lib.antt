@@ -18,4 +18,3 @@ pub mod Platforms
 pub mod PageDigest
 pub mod Answers
 pub mod EndFrames
-pub mod RoundTrip

@@ -6,9 +6,6 @@ use Rattle.enclave_table.specs.Boot.{opening_table}
 use Rattle.enclave_table.specs.Fewest.{FitsIn}
 use Rattle.enclave_table.specs.Views.{host_view}
 use Rattle.monitor_core.specs.States.{MonitorState, opening_monitor}
-use Rattle.trap_server.specs.declared.words.ControlWords.{ControlWords}
-use Rattle.trap_server.specs.Given.{keeping}
-use Rattle.trap_server.specs.Tables.{first_host_words}
 use Rattle.trap_server.specs.declared.trap.Trap.{Trap}
 use Rattle.trap_server.specs.Platforms.{IsPlatformFrame}
 use Rattle.trap_server.specs.Traps.{IsNoTrap, IsTrapFrame}
@@ -18,59 +15,34 @@ use Rattle.trap_server.specs.declared.end.EndReason.TheVariants.{NotUnderstood}
 use Rattle.trap_server.specs.EndFrames.{end_bytes}
 use Rattle.trap_server.specs.Ends.{IsPart}
 use Rattle.trap_server.specs.Boot.{EndsAtFirst, IsFirstAnswer}
-use Rattle.trap_server.specs.Steps.{StopsTrap}
-use Rattle.trap_server.specs.Service.{ServesAll}
-use Rattle.trap_server.specs.Sets.{said_changes}
+use Rattle.trap_server.specs.Service.{ServesAll, given_at}
+use Rattle.trap_server.specs.Steps.{Says, StopsTrap}
 use Rattle.monitor_core.specs.declared.set_changes.SetChanges.{SetChanges}
 
--- traps that were served in turn, from one state and the hosts' control words to others: the bytes
--- that were read for them, and those that were written
-pub data ServesTraps (old : MonitorState) (hosts : ℕ → ControlWords) : List ℕ → List ℕ
-    → MonitorState → (ℕ → ControlWords) → Type 0 where
-  no_trap : ServesTraps old hosts [] [] old hosts
-  next_trap : {read written : List ℕ} {mid : MonitorState} {now : ℕ → ControlWords}
-      → ServesTraps old hosts read written mid now
+-- traps that were served in turn, from one state to another: the bytes that were read for them, and
+-- those that were written
+pub data ServesTraps (old : MonitorState) : List ℕ → List ℕ → MonitorState → Type 0 where
+  no_trap : ServesTraps old [] [] old
+  next_trap : {read written : List ℕ} {mid : MonitorState} → ServesTraps old read written mid
       → (trap : Trap) (frame more question answered : List ℕ) (changes : SetChanges)
-      (new : MonitorState) (kept : ℕ → ControlWords)
-      → length frame ≡ 160 → IsTrapFrame frame mid.table.layout.harts trap
-      → ServesAll mid now trap changes more question answered new kept
-      → ServesTraps old hosts (read ++ (frame ++ more)) (written ++ (answered ++ question)) new kept
+      (new : MonitorState) → length frame ≡ 96 → IsTrapFrame frame mid.table.layout.harts trap
+      → ServesAll mid trap changes more question answered new
+      → ServesTraps old (read ++ (frame ++ more)) (written ++ (answered ++ question)) new
 
 -- how many they are
-abbrev pub trap_count : {old : MonitorState} {hosts : ℕ
-    → ControlWords} {read written : List ℕ} {new : MonitorState} {kept : ℕ → ControlWords}
-    → ServesTraps old hosts read written new kept → ℕ
+abbrev pub trap_count : {old : MonitorState} {read written : List ℕ} {new : MonitorState}
+    → ServesTraps old read written new → ℕ
 trap_count no_trap = 0
-trap_count (next_trap served trap frame more question answered changes new kept size is step) =
+trap_count (next_trap served trap frame more question answered changes new size is step) =
     trap_count served + 1
 
--- the words with which the host of each hart came last; where no trap was the host's, those that it
--- had before
-abbrev pub came_last : (hosts : ℕ
-    → ControlWords) {old : MonitorState} {read written : List ℕ} {new : MonitorState} {kept : ℕ
-    → ControlWords} → ServesTraps old hosts read written new kept → ℕ → ControlWords
-came_last hosts no_trap = hosts
-came_last hosts (next_trap {mid = mid} served trap frame more question answered changes new kept
-    size is step) = keeping (mid.worlds trap.hart) (came_last hosts served) trap.hart trap.control
-
--- after any traps what is kept is that
-abbrev pub KeepsWhatCame : Type 0
-KeepsWhatCame = (old : MonitorState) (hosts : ℕ
-    → ControlWords) (read written : List ℕ) (new : MonitorState) (kept : ℕ
-    → ControlWords) (served : ServesTraps old hosts read written new kept)
-    → kept ≡ came_last hosts served
-
--- what becomes of register sets at each trap is what its answer says
-abbrev pub AreSaid : {old : MonitorState} {hosts : ℕ
-    → ControlWords} {read written : List ℕ} {new : MonitorState} {kept : ℕ → ControlWords}
-    → ServesTraps old hosts read written new kept → Type 0
+-- what becomes of register sets at each trap is what its answer says; and so are the control words
+-- that are given
+abbrev pub AreSaid : {old : MonitorState} {read written : List ℕ} {new : MonitorState}
+    → ServesTraps old read written new → Type 0
 AreSaid no_trap = ⊤
-AreSaid (next_trap served trap frame more question answered changes new kept size is step) =
-    AreSaid served × (said_changes answered ≡ changes)
-
--- before any trap each host has the words with which it begins
-abbrev pub first_words : ℕ → ControlWords
-first_words hart = first_host_words
+AreSaid (next_trap {mid = mid} served trap frame more question answered changes new size is step) =
+    AreSaid served × Says answered changes (given_at mid new trap)
 
 -- the platform was read, which keeps its rules and has as many entries as the host's view needs,
 -- and its answer written; then traps were served, and after them these bytes were read and written
@@ -81,14 +53,13 @@ pub record Ran (before after held holds : Option (List ℕ)) (beyond rest : List
   pub read : List ℕ
   pub written : List ℕ
   pub state : MonitorState
-  pub hosts : ℕ → ControlWords
   pub count : ℕ
   pub size : length first ≡ 1336
   pub platform : IsPlatformFrame first layout
   pub rules : IsLayout layout
   pub fits : FitsIn layout.limit (host_view (opening_table layout))
   pub begins : IsFirstAnswer layout opened
-  pub served : ServesTraps (opening_monitor layout) first_words read written state hosts
+  pub served : ServesTraps (opening_monitor layout) read written state
   pub said : AreSaid served
   pub counted : trap_count served ≡ count
   pub consumed : Consumes before after (first ++ (read ++ beyond))
@@ -106,16 +77,15 @@ abbrev pub StopsBetween : ServeFault → ℕ → MonitorState → List ℕ → L
 StopsBetween (faults.Refused NotUnderstood) count s beyond rest after =
     RefusesNext count s beyond after × (rest ≡ end_bytes NotUnderstood)
 StopsBetween (faults.Refused _) count s beyond rest after = ⊥
-StopsBetween faults.Read count s beyond rest after = (length beyond < 160) × (rest ≡ [])
+StopsBetween faults.Read count s beyond rest after = (length beyond < 96) × (rest ≡ [])
 StopsBetween faults.Write count s beyond rest after = RefusesNext count s beyond after
     × IsPart rest (end_bytes NotUnderstood)
 
 -- the next trap was read, and why the loop ends at it
-abbrev pub StopsInside : ServeFault → MonitorState → (ℕ → ControlWords) → List ℕ → List ℕ
-    → Option (List ℕ) → Type 0
-StopsInside fault s hosts beyond rest after =
-    (trap : Trap) × (frame read : List ℕ) × (length frame ≡ 160)
-    × IsTrapFrame frame s.table.layout.harts trap × StopsTrap fault s hosts trap read rest after
+abbrev pub StopsInside : ServeFault → MonitorState → List ℕ → List ℕ → Option (List ℕ) → Type 0
+StopsInside fault s beyond rest after =
+    (trap : Trap) × (frame read : List ℕ) × (length frame ≡ 96)
+    × IsTrapFrame frame s.table.layout.harts trap × StopsTrap fault s trap read rest after
     × (beyond ≡ frame ++ read)
 
 -- the loop ended early, and why: before a trap was read, or after some traps, of which each was
@@ -127,4 +97,4 @@ EndsEarly fault before after held holds =
     EndsAtFirst fault before after held holds
     ⊎ ((beyond rest : List ℕ) × (run : Ran before after held holds beyond rest)
     × (StopsBetween fault run.count run.state beyond rest after
-    ⊎ StopsInside fault run.state run.hosts beyond rest after))
+    ⊎ StopsInside fault run.state beyond rest after))

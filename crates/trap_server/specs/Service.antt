@@ -17,7 +17,7 @@ use Rattle.monitor_core.specs.Changes.{past_call, with_running}
 use Rattle.monitor_core.specs.Measured.{IsMade, asked_in}
 use Rattle.monitor_core.specs.Steps.{DoesCall, Interrupts}
 use Rattle.trap_server.specs.declared.words.ControlWords.{ControlWords}
-use Rattle.trap_server.specs.Given.{GivesWords}
+use Rattle.trap_server.specs.Given.{words_given}
 use Rattle.trap_server.specs.declared.trap.TrapEvent.{TrapEvent}
 use Rattle.trap_server.specs.declared.trap.TrapEvent.TheVariants.{Call, Stop}
 use Rattle.trap_server.specs.declared.trap.Trap.{Trap}
@@ -25,18 +25,21 @@ use Rattle.trap_server.specs.PageDigest.{ArePages, question_of}
 use Rattle.trap_server.specs.declared.answer.NewLists.TheVariants as renewed
 use Rattle.trap_server.specs.Answered.{IsAnswer, marks_of, new_lists, no_answer, unmarked}
 
+-- the control words that a trap gives, which came in one state and goes on in another
+abbrev pub given_at : MonitorState → MonitorState → Trap → Option ControlWords
+given_at s new trap = words_given (s.worlds trap.hart) (new.worlds trap.hart) trap.host
+
 -- a call of the world that runs on a hart is a step of the monitor, in which a creation gets this
 -- digest; then no hart is marked, and each that was is woken. So it is answered
-pub record AnswersCall (s : MonitorState) (trap : Trap) (given : ControlWords)
-    (changes : SetChanges) (digest : List ℕ) (answer : Answer) (answered : List ℕ)
-    (new : MonitorState) : Type 0 where
+pub record AnswersCall (s : MonitorState) (trap : Trap) (changes : SetChanges) (digest : List ℕ)
+    (answer : Answer) (answered : List ℕ) (new : MonitorState) : Type 0 where
   pub cleared : Option PageRange
   pub mid : MonitorState
   pub step : let file = past_call (running_registers s trap.hart) in
       DoesCall (call_of file) (λ parts. digest) (with_running s trap.hart file) trap.hart answer
       cleared mid
   pub woken : new ≡ unmarked 4 mid
-  pub goes_on : IsAnswer new given trap.hart answer cleared (marks_of mid)
+  pub goes_on : IsAnswer new (given_at s new trap) trap.hart answer cleared (marks_of mid)
       (new_lists (asked_in (call_of trap.registers)) answer cleared) changes answered
 
 -- after an enclave was made its private pages are asked for, and read once, by rising number, and
@@ -50,56 +53,46 @@ AsksFor asked answer question read digest =
     × (digest ≡ digest_of (layout_of parts) pages))
 
 -- a call is answered, and then an enclave that it made gets the digest of the pages that were read
-pub record ServesCall (s : MonitorState) (trap : Trap) (given : ControlWords)
-    (changes : SetChanges) (read question answered : List ℕ) (new : MonitorState) : Type 0 where
+pub record ServesCall (s : MonitorState) (trap : Trap) (changes : SetChanges)
+    (read question answered : List ℕ) (new : MonitorState) : Type 0 where
   pub digest : List ℕ
   pub answer : Answer
-  pub answers : AnswersCall s trap given changes digest answer answered new
+  pub answers : AnswersCall s trap changes digest answer answered new
   pub asks : AsksFor (asked_in (call_of trap.registers)) answer question read digest
 
 -- an interrupt is a step of the monitor
-pub record ServesStop (s : MonitorState) (trap : Trap) (given : ControlWords)
-    (changes : SetChanges) (read question answered : List ℕ) (new : MonitorState) : Type 0 where
+pub record ServesStop (s : MonitorState) (trap : Trap) (changes : SetChanges)
+    (read question answered : List ℕ) (new : MonitorState) : Type 0 where
   pub mid : MonitorState
   pub nothing_asked : question ≡ []
   pub nothing_read : read ≡ []
   pub step : Interrupts (s.worlds trap.hart) s trap.hart mid
   pub woken : new ≡ unmarked 4 mid
-  pub goes_on : IsAnswer new given trap.hart no_answer None (marks_of mid) renewed.Nothing changes
-      answered
+  pub goes_on : IsAnswer new (given_at s new trap) trap.hart no_answer None (marks_of mid)
+      renewed.Nothing changes answered
 
--- a trap is served, by what happened; the hart goes on with these control words
-abbrev pub ServesAs : TrapEvent → MonitorState → Trap → ControlWords → SetChanges → List ℕ
-    → List ℕ → List ℕ → MonitorState → Type 0
-ServesAs Call s trap given changes read question answered new =
-    ServesCall s trap given changes read question answered new
-ServesAs Stop s trap given changes read question answered new =
-    ServesStop s trap given changes read question answered new
-
--- a trap is served, and each world has its own control words: those that came are kept where they
--- are the host's, and the world that goes on is given its own
-pub record ServesTrap (s : MonitorState) (hosts : ℕ → ControlWords) (trap : Trap)
-    (changes : SetChanges) (read question answered : List ℕ) (new : MonitorState)
-    (kept : ℕ → ControlWords) : Type 0 where
-  pub given : ControlWords
-  pub words : GivesWords hosts trap.hart (s.worlds trap.hart) (new.worlds trap.hart) trap.control
-      kept given
-  pub step : ServesAs trap.event s trap given changes read question answered new
+-- a trap is served, by what happened
+abbrev pub ServesAs : TrapEvent → MonitorState → Trap → SetChanges → List ℕ → List ℕ → List ℕ
+    → MonitorState → Type 0
+ServesAs Call s trap changes read question answered new =
+    ServesCall s trap changes read question answered new
+ServesAs Stop s trap changes read question answered new =
+    ServesStop s trap changes read question answered new
 
 -- so it is whatever the register sets are in which the trap's call is, and the answer says what
 -- becomes of them
-abbrev pub ServesAll : MonitorState → (ℕ → ControlWords) → Trap → SetChanges → List ℕ → List ℕ
-    → List ℕ → MonitorState → (ℕ → ControlWords) → Type 0
-ServesAll s hosts trap changes read question answered new kept =
+abbrev pub ServesAll : MonitorState → Trap → SetChanges → List ℕ → List ℕ → List ℕ → MonitorState
+    → Type 0
+ServesAll s trap changes read question answered new =
     (sets : Runner → RegisterFile) → AreThere s trap sets
-    → ServesTrap (with_sets s sets) hosts trap changes read question answered
-    (with_sets new (changed trap.hart changes sets)) kept
+    → ServesAs trap.event (with_sets s sets) trap changes read question answered
+    (with_sets new (changed trap.hart changes sets))
 
 -- two traps that a frame is of differ in registers that it does not have, and are served alike
 abbrev pub FramesTell : Type 0
 FramesTell =
     (frame : List ℕ) (harts : ℕ) (one other : Trap) → IsTrapFrame frame harts one
-    → IsTrapFrame frame harts other → (s : MonitorState) (hosts : ℕ → ControlWords)
-    (changes : SetChanges) (read question answered : List ℕ) (new : MonitorState)
-    (kept : ℕ → ControlWords) → ServesAll s hosts one changes read question answered new kept
-    → ServesAll s hosts other changes read question answered new kept
+    → IsTrapFrame frame harts other → (s : MonitorState) (changes : SetChanges)
+    (read question answered : List ℕ) (new : MonitorState)
+    → ServesAll s one changes read question answered new
+    → ServesAll s other changes read question answered new

@@ -46,7 +46,7 @@ change_at answered from = record {
 -- what an answer says of register sets
 abbrev pub said_changes : List ℕ → SetChanges
 said_changes answered = record {
-  first = change_at answered 10;
-  second = change_at answered 14;
-  third = change_at answered 18;
+  first = change_at answered 11;
+  second = change_at answered 15;
+  third = change_at answered 19;
 }

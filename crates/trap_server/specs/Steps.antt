@@ -1,6 +1,6 @@
 -- What each part of the loop does, where it is done and where it is not.
-use Rattle.std.specs.Prelude.{◌≡◌, ◌⊎◌, ℕ, ◌+◌, ◌/◌, ◌<◌, true, false, List, [], ◌++◌, Option}
-use Rattle.std.specs.Prelude.{Result, Ok, Err, Bool, slice_index_or}
+use Rattle.std.specs.Prelude.{◌≡◌, ◌⊎◌, ℕ, ◌+◌, ◌/◌, List, [], ◌++◌, Option}
+use Rattle.std.specs.Prelude.{Result, Ok, Err}
 use Rattle.std.specs.Io.KnownBytes.{Appends, Consumes}
 use Rattle.byte_streams.specs.Writings.{TakesPart}
 use Rattle.enclave_table.specs.Enclaves.{Live}
@@ -16,9 +16,9 @@ use Rattle.monitor_core.specs.declared.answer.Answer.{Answer}
 use Rattle.trap_server.specs.Answered.{AreAwake, no_answer}
 use Rattle.trap_server.specs.EndFrames.{end_bytes}
 use Rattle.trap_server.specs.Ends.{BreaksOff, IsPart}
-use Rattle.trap_server.specs.Given.{GivesWords}
+use Rattle.trap_server.specs.Given.{said_words}
 use Rattle.trap_server.specs.PageDigest.{ArePages, BreaksAtPage, StopsAtPage, question_of}
-use Rattle.trap_server.specs.Service.{AnswersCall, ServesAll, ServesStop}
+use Rattle.trap_server.specs.Service.{AnswersCall, ServesAll, ServesStop, given_at}
 use Rattle.trap_server.specs.Sets.{AreThere, said_changes, with_sets}
 use Rattle.sbi_decode.specs.Registers.{RegisterFile}
 use Rattle.sbi_decode.specs.Runners.{Runner}
@@ -40,31 +40,26 @@ Writes (Err fault) Are held holds = (fault ≡ faults.Write) × (bytes : List �
     × TakesPart bytes held holds
 
 -- a trap is answered by what happened, whatever digest an enclave that it makes will get
-abbrev pub AnswersAs : TrapEvent → MonitorState → Trap → ControlWords → SetChanges → Answer
-    → List ℕ → MonitorState → Type 0
-AnswersAs Call s trap given changes answer answered new = (digest : List ℕ)
-    × AnswersCall s trap given changes digest answer answered new
-AnswersAs Stop s trap given changes answer answered new = (answer ≡ no_answer)
-    × ServesStop s trap given changes [] [] answered new
+abbrev pub AnswersAs : TrapEvent → MonitorState → Trap → SetChanges → Answer → List ℕ
+    → MonitorState → Type 0
+AnswersAs Call s trap changes answer answered new = (digest : List ℕ)
+    × AnswersCall s trap changes digest answer answered new
+AnswersAs Stop s trap changes answer answered new = (answer ≡ no_answer)
+    × ServesStop s trap changes [] [] answered new
 
--- a trap is answered, and each world has its own control words
-pub record AnswersTrap (s : MonitorState) (hosts : ℕ → ControlWords) (trap : Trap)
-    (answer : Answer) (answered : List ℕ) : Type 0 where
-  pub given : ControlWords
+-- a trap is answered
+pub record AnswersTrap (s : MonitorState) (trap : Trap) (answer : Answer) (answered : List ℕ) :
+    Type 0 where
   pub changes : SetChanges
   pub new : MonitorState
-  pub kept : ℕ → ControlWords
-  pub words : GivesWords hosts trap.hart (s.worlds trap.hart) (new.worlds trap.hart) trap.control
-      kept given
   pub answers : (sets : Runner → RegisterFile) → AreThere s trap sets
-      → AnswersAs trap.event (with_sets s sets) trap given changes answer answered
+      → AnswersAs trap.event (with_sets s sets) trap changes answer answered
       (with_sets new (changed trap.hart changes sets))
 
 -- a call is answered that made an enclave of these parts, so that its private pages are asked for
-abbrev pub AnswersMade : MonitorState → (ℕ → ControlWords) → Trap → Create → List ℕ → Type 0
-AnswersMade s hosts trap parts answered = (trap.event ≡ Call) × (answer : Answer)
-    × IsMade (asked_in (call_of trap.registers)) answer parts
-    × AnswersTrap s hosts trap answer answered
+abbrev pub AnswersMade : MonitorState → Trap → Create → List ℕ → Type 0
+AnswersMade s trap parts answered = (trap.event ≡ Call) × (answer : Answer)
+    × IsMade (asked_in (call_of trap.registers)) answer parts × AnswersTrap s trap answer answered
 
 -- why the loop ends after an enclave of these parts was made and the call answered: what was read
 -- and written since. Its pages were asked for, and what came is no frame of the page that was to
@@ -83,26 +78,29 @@ StopsMeasuring faults.Write parts read rest after =
 
 -- why the loop ends at a trap that was read, and what was read and written for it. A write failed
 -- in the answer. Or it was answered, and the loop ends as the enclave that it made is measured
-abbrev pub StopsTrap : ServeFault → MonitorState → (ℕ → ControlWords) → Trap → List ℕ → List ℕ
-    → Option (List ℕ) → Type 0
-StopsTrap fault s hosts trap read rest after =
-    ((answer : Answer) × (answered : List ℕ) × AnswersTrap s hosts trap answer answered
+abbrev pub StopsTrap : ServeFault → MonitorState → Trap → List ℕ → List ℕ → Option (List ℕ)
+    → Type 0
+StopsTrap fault s trap read rest after =
+    ((answer : Answer) × (answered : List ℕ) × AnswersTrap s trap answer answered
     × (fault ≡ faults.Write) × (read ≡ []) × IsPart rest answered)
-    ⊎ ((parts : Create) × (answered more : List ℕ) × AnswersMade s hosts trap parts answered
+    ⊎ ((parts : Create) × (answered more : List ℕ) × AnswersMade s trap parts answered
     × StopsMeasuring fault parts read more after × (rest ≡ answered ++ more))
 
+-- the bytes of an answer say what becomes of register sets, and the control words that are given
+abbrev pub Says : List ℕ → SetChanges → Option ControlWords → Type 0
+Says answered changes given = (said_changes answered ≡ changes) × (said_words answered ≡ given)
+
 -- a trap was served and answered, or the loop ends, and why
-abbrev pub Serves : Result (Unit {0}) ServeFault → Trap → MonitorState → (ℕ → ControlWords)
-    → MonitorState → (ℕ → ControlWords) → Option (List ℕ) → Option (List ℕ) → Option (List ℕ)
-    → Option (List ℕ) → Type 0
-Serves (Ok done) trap old hosts new kept before after held holds =
+abbrev pub Serves : Result (Unit {0}) ServeFault → Trap → MonitorState → MonitorState
+    → Option (List ℕ) → Option (List ℕ) → Option (List ℕ) → Option (List ℕ) → Type 0
+Serves (Ok done) trap old new before after held holds =
     (read question answered : List ℕ) × (changes : SetChanges)
-    × ServesAll old hosts trap changes read question answered new kept
-    × (said_changes answered ≡ changes) × AreAwake new
+    × ServesAll old trap changes read question answered new
+    × Says answered changes (given_at old new trap) × AreAwake new
     × (new.table.layout ≡ old.table.layout) × Consumes before after read
     × Appends held holds (answered ++ question)
-Serves (Err fault) trap old hosts new kept before after held holds =
-    (read rest : List ℕ) × StopsTrap fault old hosts trap read rest after
+Serves (Err fault) trap old new before after held holds =
+    (read rest : List ℕ) × StopsTrap fault old trap read rest after
     × Consumes before after read × Appends held holds rest
 
 -- the pages of an enclave that was made were asked for and read, and it has their digest; or the

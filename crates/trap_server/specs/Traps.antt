@@ -1,11 +1,10 @@
 -- The frame of a trap.
-use Rattle.std.specs.Prelude.{◌≡◌, ◌⊎◌, ℕ, ◌-◌, ◌/◌, ◌%◌, ◌^◌, ◌<◌, ◌≤◌, ◌==◌, Bool, true, false}
+use Rattle.std.specs.Prelude.{◌≡◌, ◌⊎◌, ℕ, ◌-◌, ◌<◌, ◌≤◌, Bool, true, false}
 use Rattle.std.specs.Prelude.{List, [], length, Option, Result, Ok, Err}
 use Rattle.std.specs.Io.KnownBytes.{Consumes, IsAtEnd}
 use Rattle.byte_streams.specs.Streams.{WriteFails, one_failure_more}
 use Rattle.sbi_decode.specs.Registers.{RegisterFile, x_of}
-use Rattle.trap_server.specs.declared.words.ControlWords.{ControlWords}
-use Rattle.trap_server.specs.Words.{word_at, call_tag, control_tag, stop_tag}
+use Rattle.trap_server.specs.Words.{word_at, call_tag, stop_tag}
 use Rattle.trap_server.specs.FrameBytes.{Breaks}
 use Rattle.trap_server.specs.declared.trap.TrapEvent.{TrapEvent}
 use Rattle.trap_server.specs.declared.trap.TrapEvent.TheVariants.{Call, Stop}
@@ -22,48 +21,31 @@ IsTagOf Stop tag = tag ≡ stop_tag
 abbrev pub HasCall : List ℕ → RegisterFile → Type 0
 HasCall bytes file = (n : ℕ) → 10 ≤ n → n < 18 → x_of file n ≡ word_at bytes (n - 8)
 
--- the words from number 11 on are the control words, each in its place
-pub record HasControl (bytes : List ℕ) (words : ControlWords) : Type 0 where
-  pub status : words.status ≡ word_at bytes 11
-  pub satp : words.satp ≡ word_at bytes 12
-  pub mie : words.mie ≡ word_at bytes 13
-  pub scounteren : words.scounteren ≡ word_at bytes 14
-  pub senvcfg : words.senvcfg ≡ word_at bytes 15
-  pub hstatus : words.hstatus ≡ word_at bytes 16
-  pub medeleg : words.medeleg ≡ word_at bytes 17
-  pub mideleg : words.mideleg ≡ word_at bytes 18
-  pub mode : words.mode ≡ word_at bytes 19
-
--- MPP in the word of the mode, bits 12:11, is 3, which says machine mode
-abbrev pub is_machine : ℕ → Bool
-is_machine mode = mode / 2 ^ 11 % 4 == 3
-
--- the bytes are the frame of a trap on one of that many harts, of a world that runs below machine
--- mode
+-- the bytes are the frame of a trap on one of that many harts. After the words of a call are mie
+-- and scounteren as they were
 pub record IsTrapFrame (bytes : List ℕ) (harts : ℕ) (trap : Trap) : Type 0 where
   pub tag : IsTagOf trap.event (word_at bytes 0)
   pub hart : word_at bytes 1 ≡ trap.hart
   pub known : trap.hart < harts
   pub call : HasCall bytes trap.registers
-  pub control_follows : word_at bytes 10 ≡ control_tag
-  pub control : HasControl bytes trap.control
-  pub below : is_machine trap.control.mode ≡ false
+  pub mie : trap.host.mie ≡ word_at bytes 10
+  pub scounteren : trap.host.scounteren ≡ word_at bytes 11
 
 -- bytes that are no frame of a trap: they have its size and are none, or the input ends within it
 abbrev pub IsNoTrap : List ℕ → ℕ → Option (List ℕ) → Type 0
 IsNoTrap bytes harts after =
-    ((length bytes ≡ 160) × ((trap : Trap) → IsTrapFrame bytes harts trap → ⊥))
-    ⊎ ((0 < length bytes) × (length bytes < 160) × IsAtEnd after)
+    ((length bytes ≡ 96) × ((trap : Trap) → IsTrapFrame bytes harts trap → ⊥))
+    ⊎ ((0 < length bytes) × (length bytes < 96) × IsAtEnd after)
 
 -- what the next read of a trap answers, by what it consumed: whether there was one, and which
 abbrev pub ReadsTrap : Result Bool FrameFault → Trap → ℕ → Option (List ℕ) → Option (List ℕ)
     → Type 0
-ReadsTrap (Ok true) trap harts before after = (bytes : List ℕ) × (length bytes ≡ 160)
+ReadsTrap (Ok true) trap harts before after = (bytes : List ℕ) × (length bytes ≡ 96)
     × IsTrapFrame bytes harts trap × Consumes before after bytes
 ReadsTrap (Ok false) trap harts before after = Consumes before after [] × IsAtEnd after
 ReadsTrap (Err faults.NotUnderstood) trap harts before after = (bytes : List ℕ)
     × IsNoTrap bytes harts after × Consumes before after bytes
-ReadsTrap (Err faults.Read) trap harts before after = Breaks 160 before after
+ReadsTrap (Err faults.Read) trap harts before after = Breaks 96 before after
 ReadsTrap (Err faults.Write) trap harts before after = ⊥
 
 -- a read failed where that is the answer, and otherwise none did

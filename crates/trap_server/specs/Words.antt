@@ -24,10 +24,6 @@ call_tag = 0x6c6c6163
 abbrev pub stop_tag : ℕ
 stop_tag = 0x706f7473
 
--- the tag before the control words of a trap: `control`
-abbrev pub control_tag : ℕ
-control_tag = 0x6c6f72746e6f63
-
 -- the tag of a page that is measured: `page`
 abbrev pub page_tag : ℕ
 page_tag = 0x65676170

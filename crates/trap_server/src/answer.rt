@@ -1,12 +1,12 @@
 //! The frame of an answer: with what a hart goes on, and the lists of entries that are new.
 
-ghost use Rattle.std.specs.Prelude.{◌≡◌, ◌<◌, ◌≤◌, ◌+◌, ◌-◌, ◌*◌, ◌++◌, length, take, replicate};
+ghost use Rattle.std.specs.Prelude.{◌≡◌, ◌<◌, ◌≤◌, ◌+◌, ◌-◌, ◌*◌, ◌++◌, length, take, replicate, IfSome};
 ghost use Rattle.monitor_core.specs.Answers.{world_number};
-ghost use Rattle.trap_server.specs.Answered.{HasWords};
-ghost use Rattle.trap_server.specs.Answers.{address_at, address_bytes, cfg_at, cfg_bytes, change_bytes, changes_bytes, control_bytes, front_bytes, head_bytes, kind_number, list_bytes, list_count, pages_of, wake_word};
+ghost use Rattle.trap_server.specs.Answered.{AreControl, HasWords};
+ghost use Rattle.trap_server.specs.Answers.{address_at, address_bytes, cfg_at, cfg_bytes, change_bytes, changes_bytes, control_bytes, control_count, front_bytes, given_bytes, head_bytes, kind_number, list_bytes, list_count, pages_of, wake_word};
 
 use crate::ControlWords;
-use crate::frame::{AnswerBytes, TAG_ANSWER, TAG_CONTROL, put_word};
+use crate::frame::{AnswerBytes, TAG_ANSWER, put_word};
 use monitor_core::{ChangeKind, SetChange, SetChanges};
 use pmp_encoding::{Entry, PageRange};
 use sbi_decode::World;
@@ -39,8 +39,10 @@ pub struct Head {
     pub zero: Option<PageRange>,
     /// The other harts, which run the host and load its list before they go on.
     pub woken: [bool; 4],
-    /// Which lists come after the control words.
+    /// Which lists come after the changes of register sets.
     pub lists: NewLists,
+    /// The control words that come after the lists.
+    pub given: Option<ControlWords>,
 }
 
 /// How many lists an answer has.
@@ -51,6 +53,16 @@ fn list_count(lists: NewLists) -> u64
         NewLists::Nothing => 0,
         NewLists::Host => 1,
         NewLists::HostAndMade => 2,
+    }
+}
+
+/// How many control words an answer has.
+fn control_count(given: &Option<ControlWords>) -> u64
+    ensures { result ≡ control_count given.now }
+{
+    match given {
+        None => 0,
+        Some(_) => 9,
     }
 }
 
@@ -87,7 +99,7 @@ fn pages_of(zero: Option<PageRange>) -> PageRange
 /// Writes the words before the changes of register sets.
 #[inline(always)]
 fn put_head(frame: &mut AnswerBytes, head: &Head)
-    ensures { take 80 frame.new ≡ head_bytes head.now }
+    ensures { take 88 frame.new ≡ head_bytes head.now }
 {
     let pages = pages_of(head.zero);
     put_word(frame, 0, TAG_ANSWER);
@@ -100,6 +112,7 @@ fn put_head(frame: &mut AnswerBytes, head: &Head)
     put_word(frame, 7, pages.count);
     put_word(frame, 8, wake_word(&head.woken));
     put_word(frame, 9, list_count(head.lists));
+    put_word(frame, 10, control_count(&head.given));
 }
 
 /// The number of a kind of change.
@@ -132,14 +145,14 @@ fn put_change(frame: &mut AnswerBytes, from: usize, change: &SetChange)
 /// Writes what becomes of register sets after the head.
 #[inline(always)]
 fn put_changes(frame: &mut AnswerBytes, changes: &SetChanges)
-    ensures bytes { take 176 frame.new ≡ take 80 frame.old ++ changes_bytes changes.now }
+    ensures bytes { take 184 frame.new ≡ take 88 frame.old ++ changes_bytes changes.now }
     ensures first { HasWords changes.now.first }
     ensures second { HasWords changes.now.second }
     ensures third { HasWords changes.now.third }
 {
-    put_change(frame, 10, &changes.first);
-    put_change(frame, 14, &changes.second);
-    put_change(frame, 18, &changes.third);
+    put_change(frame, 11, &changes.first);
+    put_change(frame, 15, &changes.second);
+    put_change(frame, 19, &changes.third);
 }
 
 /// The configuration byte of entry i, and zero past the entries.
@@ -199,34 +212,52 @@ fn put_addresses(frame: &mut AnswerBytes, from: usize, entries: &[Entry])
     clear(frame, 8 * from + 8 * entries.len(), 8 * from + 512);
 }
 
-/// Writes the control words after the changes, below a tag of their own.
+/// Writes the front of the frame, with what a hart goes on, and what becomes of register sets.
 #[inline(always)]
-fn put_control(frame: &mut AnswerBytes, control: &ControlWords)
-    ensures { take 256 frame.new ≡ take 176 frame.old ++ control_bytes control.now }
-{
-    put_word(frame, 22, TAG_CONTROL);
-    put_word(frame, 23, control.status);
-    put_word(frame, 24, control.satp);
-    put_word(frame, 25, control.mie);
-    put_word(frame, 26, control.scounteren);
-    put_word(frame, 27, control.senvcfg);
-    put_word(frame, 28, control.hstatus);
-    put_word(frame, 29, control.medeleg);
-    put_word(frame, 30, control.mideleg);
-    put_word(frame, 31, control.mode);
-}
-
-/// Writes the front of the frame, with what a hart goes on: what becomes of register sets, and its control words.
-#[inline(always)]
-pub fn put_front(frame: &mut AnswerBytes, head: &Head, changes: &SetChanges, control: &ControlWords)
-    ensures bytes { take 256 frame.new ≡ front_bytes head.now changes.now control.now }
+pub fn put_front(frame: &mut AnswerBytes, head: &Head, changes: &SetChanges)
+    ensures bytes { take 184 frame.new ≡ front_bytes head.now changes.now }
     ensures first { HasWords changes.now.first }
     ensures second { HasWords changes.now.second }
     ensures third { HasWords changes.now.third }
 {
     put_head(frame, head);
     put_changes(frame, changes);
-    put_control(frame, control);
+}
+
+/// Writes control words from a word on, in their order.
+#[inline(always)]
+fn put_control(frame: &mut AnswerBytes, from: usize, control: &ControlWords)
+    requires { from + 9 ≤ 178 }
+    ensures bytes { take (8 * from + 72) frame.new
+        ≡ take (8 * from) frame.old ++ control_bytes control.now }
+    ensures fits { AreControl control.now }
+{
+    put_word(frame, from, control.status);
+    put_word(frame, from + 1, control.satp);
+    put_word(frame, from + 2, control.mie);
+    put_word(frame, from + 3, control.scounteren);
+    put_word(frame, from + 4, control.senvcfg);
+    put_word(frame, from + 5, control.hstatus);
+    put_word(frame, from + 6, control.medeleg);
+    put_word(frame, from + 7, control.mideleg);
+    put_word(frame, from + 8, control.mode);
+}
+
+/// Writes the control words that are given from a word on, and says at which byte they end.
+#[inline(always)]
+pub fn put_given(frame: &mut AnswerBytes, from: usize, given: &Option<ControlWords>) -> usize
+    requires { from + 9 ≤ 178 }
+    ensures inside { result ≤ 1424 }
+    ensures bytes { take result frame.new ≡ take (8 * from) frame.old ++ given_bytes given.now }
+    ensures fits { IfSome given.now AreControl }
+{
+    match given {
+        None => 8 * from,
+        Some(control) => {
+            put_control(frame, from, control);
+            8 * from + 72
+        }
+    }
 }
 
 /// Writes a list of entries from a word on, at most 64. It is not inlined: few answers have one.

@@ -15,9 +15,6 @@ pub(crate) const TAG_CALL: u64 = 0x6c6c_6163;
 /// `stop`
 pub(crate) const TAG_STOP: u64 = 0x706f_7473;
 
-/// `control`
-pub(crate) const TAG_CONTROL: u64 = 0x006c_6f72_746e_6f63;
-
 /// `page`
 pub(crate) const TAG_PAGE: u64 = 0x6567_6170;
 
@@ -30,12 +27,12 @@ pub(crate) const TAG_MEASURE: u64 = 0x0065_7275_7361_656d;
 /// `end`
 pub(crate) const TAG_END: u64 = 0x0064_6e65;
 
-/// The bytes of an answer: ten words, three changes of register sets, the control words after their tag, and at most two lists of
-/// entries.
+/// The bytes of an answer: eleven words, three changes of register sets, at most two lists of entries, and at most nine control
+/// words.
 pub type AnswerBytes = [u8; 1424];
 
-/// The bytes of a trap: its tag, the hart, a0 to a7, and the control words after a tag of their own.
-pub type TrapBytes = [u8; 160];
+/// The bytes of a trap: its tag, the hart, a0 to a7, `mie` and `scounteren`.
+pub type TrapBytes = [u8; 96];
 
 /// The bytes of a frame of three words.
 pub type ShortBytes = [u8; 24];

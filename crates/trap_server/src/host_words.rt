@@ -1,47 +1,61 @@
-//! The control words of the host of each hart.
+//! What a trap has of its host's control words, and those that an answer gives.
 
-ghost use Rattle.std.specs.Prelude.{◌≡◌, ◌<◌, ℕ};
-ghost use Rattle.trap_server.specs.Given.{host_words, keeping, words_in};
-ghost use Rattle.trap_server.specs.Tables.{first_host_words};
+ghost use Rattle.std.specs.Prelude.{◌≡◌};
+ghost use Rattle.trap_server.specs.Given.{words_given};
+ghost use Rattle.trap_server.specs.Tables.{enclave_words};
 
 use crate::words::ControlWords;
 use sbi_decode::World;
 
-/// For each of four harts the words with which its host came last; before it came the first time, those with which it begins.
+/// Of `mstatus`: registers of 64 bits in user mode (UXL is 2), and registers of floating point that are open (FS is Initial, 1).
+const WITH_FLOATS: u64 = 0x2_0000_2000;
+
+/// The interrupts that are the monitor's: machine mode's software and timer interrupts.
+const MONITORS_INTERRUPTS: u64 = 0x88;
+
+/// The interrupts that are the host's: supervisor mode's software, timer and external interrupts.
+const HOSTS_INTERRUPTS: u64 = 0x222;
+
+/// Of the counters that user mode reads the time (TM).
+const TIME: u64 = 2;
+
+/// The control words of a host on which those of an enclave depend that it enters. Its others stay with its hart.
 #[derive(Clone, Copy)]
 pub struct HostWords {
-    hosts: [ControlWords; 4],
+    /// `mie`: the interrupts that are enabled.
+    pub mie: u64,
+    /// `scounteren`: the counters that user mode reads.
+    pub scounteren: u64,
 }
 
 impl HostWords {
-    /// No host has come yet.
-    pub fn new() -> HostWords
-        ensures { host_words result ≡ (λ hart. first_host_words) }
+    /// With which an enclave runs on a hart whose host has these words: of them it has only which of the host's
+    /// interrupts are to reach machine mode, and whether user mode reads the time.
+    pub fn of_enclave(&self) -> ControlWords
+        ensures { result ≡ enclave_words self.now }
     {
-        HostWords {
-            hosts: [ControlWords::of_first_host(); 4],
+        ControlWords {
+            status: WITH_FLOATS,
+            satp: 0,
+            mie: MONITORS_INTERRUPTS | (self.mie & HOSTS_INTERRUPTS),
+            scounteren: self.scounteren & TIME,
+            senvcfg: 0,
+            hstatus: 0,
+            medeleg: 0,
+            mideleg: 0,
+            mode: 0,
         }
     }
 
-    /// Saves the words that came with a trap of a world on a hart, where it is the host. Those of other harts stay.
-    pub fn save(&mut self, hart: u8, world: World, came: &ControlWords)
-        requires { hart < 4 }
-        ensures { host_words self.new ≡ keeping world (host_words self.old) hart came.now }
+    /// The words that an answer gives at a trap with which these came, by the worlds before and after it: where a host enters
+    /// an enclave those of the enclave. Every other world goes on with those that its hart has, or kept for it.
+    #[inline(always)]
+    pub fn words_given(&self, before: World, after: World) -> Option<ControlWords>
+        ensures { result ≡ words_given before after self.now }
     {
-        match world {
-            World::Host => self.hosts[hart as usize] = came.copied(),
-            World::Enclave(_) => {}
-        }
-    }
-
-    /// The words with which a world goes on on a hart.
-    pub fn words_for(&self, hart: u8, world: World) -> ControlWords
-        requires { hart < 4 }
-        ensures { result ≡ words_in world (host_words self.now hart) }
-    {
-        match world {
-            World::Host => self.hosts[hart as usize].copied(),
-            World::Enclave(_) => self.hosts[hart as usize].of_enclave(),
+        match (before, after) {
+            (World::Host, World::Enclave(_)) => Some(self.of_enclave()),
+            (World::Host, World::Host) | (World::Enclave(_), _) => None,
         }
     }
 }

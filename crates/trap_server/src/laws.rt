@@ -3,21 +3,15 @@
 ghost use Rattle.std.specs.Prelude.{ℕ, List};
 ghost use Rattle.platforms.specs.Platform.{IsLayout, PlatformLayout};
 ghost use Rattle.monitor_core.specs.States.{MonitorState, opening_monitor};
-ghost use Rattle.trap_server.specs.declared.words.ControlWords.{ControlWords};
 ghost use Rattle.trap_server.specs.Boot.{IsFirstAnswer};
 ghost use Rattle.trap_server.specs.Firmware.{FirmwareHeadline};
-ghost use Rattle.trap_server.specs.Runs.{KeepsWhatCame, ServesTraps, first_words};
+ghost use Rattle.trap_server.specs.Runs.{ServesTraps};
 ghost use Rattle.trap_server.specs.Service.{FramesTell};
 
 /// The frame of a trap has all that decides how it is served: so what was served of the registers that the loop knows was served
 /// of those that the world had.
 pub fn frames_law()
     ensures { FramesTell }
-{}
-
-/// After any traps that were served the words that are kept for the host of a hart are those with which it came last.
-pub fn words_law()
-    ensures { KeepsWhatCame }
 {}
 
 /// After any traps that were served and answered, on every platform that keeps its rules: the table is sound, and each enclave
@@ -27,11 +21,10 @@ pub fn words_law()
 /// destruction was refused for want of entries exactly where a view after it needs more, want of memory aside. Pages that were
 /// asked for are memory and not the monitor's, and were read once; pages that were to be made zero are those of the enclave
 /// that was destroyed. Whatever the register sets are: after the changes that an answer has each world has its own registers.
-/// Control words are given to the world that they are of, and an enclave runs in user mode.
+/// Where a host enters an enclave the answer gives the enclave's control words, and no other answer gives any.
 pub fn firmware_law()
     ensures { (layout : PlatformLayout) (opened read written : List ℕ) (s : MonitorState)
-        (kept : ℕ → ControlWords)
-        (served : ServesTraps (opening_monitor layout) first_words read written s kept)
+        (served : ServesTraps (opening_monitor layout) read written s)
         → IsLayout layout → IsFirstAnswer layout opened
-        → FirmwareHeadline layout opened read written s kept served }
+        → FirmwareHeadline layout opened read written s served }
 {}

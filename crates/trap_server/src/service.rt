@@ -1,6 +1,6 @@
 //! How a trap is served, and its answer written.
 
-ghost use Rattle.std.specs.Prelude.{◌≡◌, ◌<◌, ◌≤◌, ℕ, List, Option, IfNone, IfSome, is_some, take};
+ghost use Rattle.std.specs.Prelude.{◌≡◌, ◌<◌, ◌≤◌, ◌+◌, ◌*◌, ℕ, List, Option, IfNone, IfSome, is_some, take};
 ghost use Rattle.sbi_decode.specs.Calls.{call_of};
 ghost use Rattle.measurement.specs.declared.request.Create.{Create as CreateParts};
 ghost use Rattle.enclave_table.specs.Enclaves.{Live};
@@ -8,10 +8,9 @@ ghost use Rattle.enclave_table.specs.declared.enclave.Enclave.{Enclave};
 ghost use Rattle.monitor_core.specs.Measured.{IsMade, asked_in};
 ghost use Rattle.monitor_core.specs.SetChanges.{AreOfSets};
 ghost use Rattle.monitor_core.specs.Changes.{without_mark};
-ghost use Rattle.trap_server.specs.Given.{host_words, keeping};
 ghost use Rattle.trap_server.specs.declared.answer.NewLists.{NewLists};
 ghost use Rattle.trap_server.specs.declared.answer.NewLists.TheVariants as NewLists;
-ghost use Rattle.trap_server.specs.Answered.{AreAwake, AreWords, IsAnswer, PutsLists, given_on, marks_of, new_lists, status_word, unmarked};
+ghost use Rattle.trap_server.specs.Answered.{AreAwake, AreControl, AreWords, IsAnswer, PutsLists, marks_of, new_lists, status_word, unmarked};
 ghost use Rattle.trap_server.specs.Ends.{CountsReads, CountsWrites};
 ghost use Rattle.trap_server.specs.PageDigest.{HasParts};
 ghost use Rattle.trap_server.specs.Sets.{bare};
@@ -19,7 +18,8 @@ ghost use Rattle.trap_server.specs.Steps.{MeasuresMade, Serves, Writes};
 
 use crate::fault::{ServeFault, end};
 use crate::{
-    AnswerBytes, Head, HostWords, NewLists, Trap, TrapEvent, digest_of, put_front, put_list,
+    AnswerBytes, ControlWords, Head, NewLists, Trap, TrapEvent, digest_of, put_front, put_given,
+    put_list,
 };
 use byte_streams::{Sink, Source, write_whole};
 use monitor_core::{Answer, Core, Create, Served, SetChanges, TakenDigest};
@@ -67,40 +67,40 @@ fn status_word(answer: &Answer) -> u64
 }
 
 /// Puts the lists of entries that are new behind the front of an answer, which made an enclave of this id where its list is
-/// new, and says where they end.
+/// new, and says at which word they end.
 #[inline(always)]
 fn put_lists(frame: &mut AnswerBytes, core: &Core, lists: NewLists, id: u64) -> usize
     requires made { lists ≡ NewLists.HostAndMade
         → (e : Enclave) × Live (bare core.now).table id e }
-    ensures inside { result ≤ 1424 }
-    ensures lists { PutsLists (bare core.now).table id lists (take 256 frame.old)
-        (take result frame.new) }
+    ensures inside { result + 9 ≤ 178 }
+    ensures lists { PutsLists (bare core.now).table id lists (take 184 frame.old)
+        (take (8 * result) frame.new) }
 {
     match lists {
-        NewLists::Nothing => 256,
+        NewLists::Nothing => 23,
         NewLists::Host => {
-            put_list(frame, 32, core.table().host_entries());
-            840
+            put_list(frame, 23, core.table().host_entries());
+            96
         }
         NewLists::HostAndMade => {
-            put_list(frame, 32, core.table().host_entries());
+            put_list(frame, 23, core.table().host_entries());
             let Some(entries) = core.table().enclave_entries(id) else {
                 unreachable!();
             };
-            put_list(frame, 105, entries);
-            1424
+            put_list(frame, 96, entries);
+            169
         }
     }
 }
 
-/// Puts together the frame with which a hart goes on, and the harts that load the host's list with it. It says where the
-/// frame ends.
+/// Puts together the frame with which a hart goes on, the harts that load the host's list with it, and the control words that
+/// are given. It says where the frame ends.
 #[inline(always)]
 fn put_frame(
     frame: &mut AnswerBytes,
     core: &Core,
-    hosts: &HostWords,
     hart: u8,
+    given: Option<ControlWords>,
     answer: &Answer,
     zero: Option<PageRange>,
     woken: [bool; 4],
@@ -113,32 +113,32 @@ fn put_frame(
         → (e : Enclave) × Live (bare core.now).table answer.now.value e }
     ensures inside { result ≤ 1424 }
     ensures words { AreWords changes.now }
-    ensures answer { let s = bare core.now in
-        IsAnswer s (given_on s (host_words hosts.now) hart) hart answer.now zero woken lists
+    ensures control { IfSome given AreControl }
+    ensures answer { IsAnswer (bare core.now) given hart answer.now zero woken lists
         changes.now (take result frame.new) }
 {
-    let world = core.world(hart);
     let head = Head {
         hart,
-        world,
+        world: core.world(hart),
         status: status_word(answer),
         value: answer.value,
         used: core.used(hart),
         zero,
         woken,
         lists,
+        given,
     };
-    let control = hosts.words_for(hart, world);
-    put_front(frame, &head, changes, &control);
-    put_lists(frame, core, lists, answer.value)
+    put_front(frame, &head, changes);
+    let end = put_lists(frame, core, lists, answer.value);
+    put_given(frame, end, &head.given)
 }
 
 /// Writes with what a hart goes on, in a frame that is lent, and whose bytes before decide nothing.
 #[inline(always)]
 pub(crate) fn write_answer<W: Sink>(
     core: &Core,
-    hosts: &HostWords,
     hart: u8,
+    given: Option<ControlWords>,
     answer: Answer,
     zero: Option<PageRange>,
     woken: [bool; 4],
@@ -151,30 +151,22 @@ pub(crate) fn write_answer<W: Sink>(
     requires sets { AreOfSets changes.now }
     requires made { lists ≡ NewLists.HostAndMade
         → (e : Enclave) × Live (bare core.now).table answer.value e }
-    ensures bytes { let s = bare core.now in Writes result
-        (IsAnswer s (given_on s (host_words hosts.now) hart) hart answer zero woken lists
-        changes.now) (W.contents sink.old) (W.contents sink.new) }
+    ensures bytes { Writes result
+        (IsAnswer (bare core.now) given hart answer zero woken lists changes.now)
+        (W.contents sink.old) (W.contents sink.new) }
     ensures words { AreWords changes.now }
+    ensures control { IfSome given AreControl }
     ensures reads { (n : ℕ) → CountsReads result n n }
     ensures writes { CountsWrites result (W.failures sink.old) (W.failures sink.new)
         (W.stalls sink.old) (W.stalls sink.new) }
 {
     let end = put_frame(
-        frame, core, hosts, hart, &answer, zero, woken, lists, changes,
+        frame, core, hart, given, &answer, zero, woken, lists, changes,
     );
     match write_whole(sink, &frame[..end]) {
         Ok(()) => Ok(()),
         Err(_) => Err(ServeFault::Write),
     }
-}
-
-/// Keeps the control words that came with a trap, where it is the host's.
-fn keep_words(core: &Core, hosts: &mut HostWords, trap: &Trap)
-    requires { trap.now.hart < 4 }
-    ensures { host_words hosts.new ≡ keeping ((bare core.now).worlds trap.now.hart)
-        (host_words hosts.old) trap.now.hart trap.now.control }
-{
-    hosts.save(trap.hart, core.world(trap.hart), &trap.control);
 }
 
 /// Whether a call asks for a creation. No other has its parts put together to be looked at.
@@ -188,14 +180,14 @@ fn is_creation(registers: &Registers) -> bool
 /// Which lists are new after a call: the host's after a destruction, which leaves pages to be made zero, and two after a creation
 /// that was done.
 #[inline(always)]
-fn new_lists(registers: &Registers, served: &Served) -> NewLists
-    ensures { result
-        ≡ new_lists (asked_in (call_of registers.now)) served.now.answer served.now.zero }
+fn new_lists(is_creation: bool, served: &Served) -> NewLists
+    ensures { (asked : Option CreateParts) → is_creation ≡ is_some asked
+        → result ≡ new_lists asked served.now.answer served.now.zero }
 {
     if served.zero.is_some() {
         return NewLists::Host;
     }
-    if served.answer.status == 0 && is_creation(registers) {
+    if served.answer.status == 0 && is_creation {
         return NewLists::HostAndMade;
     }
     NewLists::Nothing
@@ -245,7 +237,6 @@ fn measure_made<R: Source, W: Sink>(
 #[inline(always)]
 fn serve_call<R: Source, W: Sink>(
     core: &mut Core,
-    hosts: &mut HostWords,
     trap: &Trap,
     changes: &mut SetChanges,
     frame: &mut AnswerBytes,
@@ -255,25 +246,27 @@ fn serve_call<R: Source, W: Sink>(
     requires hart { trap.now.hart < (bare core.old).table.layout.harts }
     requires awake { AreAwake (bare core.old) }
     requires call { trap.now.event ≡ TrapEvent.Call }
-    ensures served { Serves result trap.now (bare core.old) (host_words hosts.old)
-        (bare core.new) (host_words hosts.new) (R.remaining source.old)
-        (R.remaining source.new) (W.contents sink.old) (W.contents sink.new) }
+    ensures served { Serves result trap.now (bare core.old) (bare core.new)
+        (R.remaining source.old) (R.remaining source.new)
+        (W.contents sink.old) (W.contents sink.new) }
     ensures reads { CountsReads result (R.failures source.old) (R.failures source.new) }
     ensures writes { CountsWrites result (W.failures sink.old) (W.failures sink.new)
         (W.stalls sink.old) (W.stalls sink.new) }
 {
     // (there are at most four: a fact for the proof)
     let _most = core.harts();
-    keep_words(core, hosts, trap);
+    let before = core.world(trap.hart);
+    let is_creation = is_creation(&trap.registers);
     let digest = TakenDigest { bytes: [0; 32] };
     let served = core.serve(trap.hart, &trap.registers, &digest, changes);
     core.cite_invariant();
     let woken = wake_all(core);
-    let lists = new_lists(&trap.registers, &served);
+    let lists = new_lists(is_creation, &served);
+    let given = trap.host.words_given(before, core.world(trap.hart));
     match write_answer(
         core,
-        hosts,
         trap.hart,
+        given,
         served.answer,
         served.zero,
         woken,
@@ -285,7 +278,7 @@ fn serve_call<R: Source, W: Sink>(
         Ok(()) => {}
         Err(fault) => return Err(fault),
     }
-    if !is_creation(&trap.registers) {
+    if !is_creation {
         return Ok(());
     }
     let Some(parts) = made_by(&served.answer, trap) else {
@@ -298,7 +291,6 @@ fn serve_call<R: Source, W: Sink>(
 #[inline(always)]
 fn serve_stop<W: Sink>(
     core: &mut Core,
-    hosts: &mut HostWords,
     trap: &Trap,
     changes: &mut SetChanges,
     frame: &mut AnswerBytes,
@@ -308,22 +300,22 @@ fn serve_stop<W: Sink>(
     requires awake { AreAwake (bare core.old) }
     requires stop { trap.now.event ≡ TrapEvent.Stop }
     ensures served { (before : Option (List ℕ))
-        → Serves result trap.now (bare core.old) (host_words hosts.old)
-        (bare core.new) (host_words hosts.new) before before (W.contents sink.old)
-        (W.contents sink.new) }
+        → Serves result trap.now (bare core.old) (bare core.new) before before
+        (W.contents sink.old) (W.contents sink.new) }
     ensures reads { (n : ℕ) → CountsReads result n n }
     ensures writes { CountsWrites result (W.failures sink.old) (W.failures sink.new)
         (W.stalls sink.old) (W.stalls sink.new) }
 {
     // (there are at most four: a fact for the proof)
     let _most = core.harts();
-    keep_words(core, hosts, trap);
+    let before = core.world(trap.hart);
     let _load = core.interrupt(trap.hart, changes);
     let woken = wake_all(core);
+    let given = trap.host.words_given(before, core.world(trap.hart));
     write_answer(
         core,
-        hosts,
         trap.hart,
+        given,
         NOTHING,
         None,
         woken,
@@ -338,7 +330,6 @@ fn serve_stop<W: Sink>(
 #[inline(always)]
 pub(crate) fn serve_trap<R: Source, W: Sink>(
     core: &mut Core,
-    hosts: &mut HostWords,
     trap: &Trap,
     changes: &mut SetChanges,
     frame: &mut AnswerBytes,
@@ -347,15 +338,15 @@ pub(crate) fn serve_trap<R: Source, W: Sink>(
 ) -> Result<(), ServeFault>
     requires hart { trap.now.hart < (bare core.old).table.layout.harts }
     requires awake { AreAwake (bare core.old) }
-    ensures served { Serves result trap.now (bare core.old) (host_words hosts.old)
-        (bare core.new) (host_words hosts.new) (R.remaining source.old)
-        (R.remaining source.new) (W.contents sink.old) (W.contents sink.new) }
+    ensures served { Serves result trap.now (bare core.old) (bare core.new)
+        (R.remaining source.old) (R.remaining source.new)
+        (W.contents sink.old) (W.contents sink.new) }
     ensures reads { CountsReads result (R.failures source.old) (R.failures source.new) }
     ensures writes { CountsWrites result (W.failures sink.old) (W.failures sink.new)
         (W.stalls sink.old) (W.stalls sink.new) }
 {
     match trap.event {
-        TrapEvent::Call => serve_call(core, hosts, trap, changes, frame, source, sink),
-        TrapEvent::Stop => serve_stop(core, hosts, trap, changes, frame, sink),
+        TrapEvent::Call => serve_call(core, trap, changes, frame, source, sink),
+        TrapEvent::Stop => serve_stop(core, trap, changes, frame, sink),
     }
 }

@@ -4,17 +4,17 @@ ghost use Rattle.std.specs.Prelude.{◌≡◌, ℕ, ◌+◌, ◌≤◌, true, fa
 ghost use Rattle.sbi_decode.specs.Registers.{RegisterFile, x_of};
 ghost use Rattle.trap_server.specs.declared.trap.Trap.{Trap as TrapOf};
 ghost use Rattle.trap_server.specs.Words.{word_at};
-ghost use Rattle.trap_server.specs.Traps.{HasControl, HasCall, IsTrapFrame, ReadsTrap, CountsRead};
+ghost use Rattle.trap_server.specs.Traps.{HasCall, IsTrapFrame, ReadsTrap, CountsRead};
 
-use crate::ControlWords;
-use crate::frame::{TAG_CALL, TAG_CONTROL, TAG_STOP, TrapBytes, word};
+use crate::HostWords;
+use crate::frame::{TAG_CALL, TAG_STOP, TrapBytes, word};
 use crate::frame_bytes::read_whole;
 use crate::frame_fault::FrameFault;
 use byte_streams::Source;
 use sbi_decode::Registers;
 
 /// The bytes of its frame.
-const TRAP_BYTES: usize = 160;
+const TRAP_BYTES: usize = 96;
 
 /// What happened to the world that runs on a hart.
 #[derive(Clone, Copy)]
@@ -25,8 +25,8 @@ pub enum TrapEvent {
     Stop,
 }
 
-/// A trap of a hart, with the registers of a call, a0 to a7, and the control words of the world that ran there. Its other
-/// registers stay with the hart.
+/// A trap of a hart, with the registers of a call, a0 to a7, and two control words of the world that ran there. Its other
+/// registers and control words stay with the hart.
 #[derive(Clone, Copy)]
 pub struct Trap {
     /// What happened.
@@ -35,8 +35,8 @@ pub struct Trap {
     pub hart: u8,
     /// The registers as they were, of which a0 to a7 alone are known.
     pub registers: Registers,
-    /// The control registers as they were.
-    pub control: ControlWords,
+    /// What the control registers had of the words of a host. An enclave's are not looked at.
+    pub host: HostWords,
 }
 
 impl Trap {
@@ -46,7 +46,10 @@ impl Trap {
             event: TrapEvent::Stop,
             hart: 0,
             registers: Registers::new(),
-            control: ControlWords::of_first_host(),
+            host: HostWords {
+                mie: 0,
+                scounteren: 0,
+            },
         }
     }
 }
@@ -59,31 +62,6 @@ fn call_in(bytes: &TrapBytes, registers: &mut Registers)
     for n in 10..18 {
         registers.set(n, word(bytes, n - 8));
     }
-}
-
-/// The control words in a frame, in their order.
-#[inline(always)]
-fn control_in(bytes: &TrapBytes) -> ControlWords
-    ensures { HasControl bytes.now result }
-{
-    ControlWords {
-        status: word(bytes, 11),
-        satp: word(bytes, 12),
-        mie: word(bytes, 13),
-        scounteren: word(bytes, 14),
-        senvcfg: word(bytes, 15),
-        hstatus: word(bytes, 16),
-        medeleg: word(bytes, 17),
-        mideleg: word(bytes, 18),
-        mode: word(bytes, 19),
-    }
-}
-
-/// Whether the word of the mode says machine mode, to which no world returns.
-fn is_machine(mode: u64) -> bool
-    ensures { result ≡ is_machine mode }
-{
-    mode / 2048 % 4 == 3
 }
 
 /// What happened, by the tag.
@@ -104,8 +82,6 @@ fn trap_in(bytes: &TrapBytes, harts: u8, trap: &mut Trap) -> bool
     ensures trap { result ≡ true → IsTrapFrame bytes.now harts trap.new }
     ensures none { result ≡ false → (one : TrapOf) → IsTrapFrame bytes.now harts one → ⊥ }
 {
-    // (before the checks: what comes after so many is compiled as what seldom comes)
-    let control = control_in(bytes);
     let Some(event) = event_in(word(bytes, 0)) else {
         return false;
     };
@@ -113,16 +89,11 @@ fn trap_in(bytes: &TrapBytes, harts: u8, trap: &mut Trap) -> bool
     if hart >= u64::from(harts) {
         return false;
     }
-    if word(bytes, 10) != TAG_CONTROL {
-        return false;
-    }
-    if is_machine(control.mode) {
-        return false;
-    }
     trap.event = event;
     trap.hart = hart as u8;
     call_in(bytes, &mut trap.registers);
-    trap.control = control;
+    trap.host.mie = word(bytes, 10);
+    trap.host.scounteren = word(bytes, 11);
     true
 }
 
@@ -155,5 +126,5 @@ pub fn read_trap<R: Source>(
     Ok(true)
 }
 
-ghost use Rattle.trap_server.specs.Traps.{IsTagOf, is_machine};
+ghost use Rattle.trap_server.specs.Traps.{IsTagOf};
 ghost use Rattle.trap_server.specs.declared.trap.TrapEvent.{TrapEvent as EventOf};

@@ -12,7 +12,7 @@ ghost use Rattle.trap_server.specs.Sets.{bare};
 
 use crate::fault::{ServeFault, end, refuse};
 use crate::service::{NOTHING, serve_trap, write_answer};
-use crate::{EndReason, HostWords, NewLists, Trap, read_platform, read_trap};
+use crate::{EndReason, NewLists, Trap, read_platform, read_trap};
 use byte_streams::{Sink, Source};
 use monitor_core::{Core, SetChanges};
 use platforms::{BootFault, Platform};
@@ -112,13 +112,12 @@ fn serve_booted<R: Source, W: Sink>(
         (W.stalls sink.old) (W.stalls sink.new) }
 {
     let harts = core.harts();
-    let mut hosts = HostWords::new();
     let mut changes = SetChanges::none();
     let mut frame = [0; 1424];
     match write_answer(
         core,
-        &hosts,
         0,
+        None,
         NOTHING,
         None,
         others(harts),
@@ -130,7 +129,7 @@ fn serve_booted<R: Source, W: Sink>(
         Ok(()) => {}
         Err(fault) => return Err(fault),
     }
-    let mut trap_frame = [0; 160];
+    let mut trap_frame = [0; 96];
     let mut trap = Trap::new();
     for _count in 0..u64::MAX {
         let is_there = match read_trap(source, harts, &mut trap_frame, &mut trap) {
@@ -140,15 +139,7 @@ fn serve_booted<R: Source, W: Sink>(
         if !is_there {
             return Ok(());
         }
-        match serve_trap(
-            core,
-            &mut hosts,
-            &trap,
-            &mut changes,
-            &mut frame,
-            source,
-            sink,
-        ) {
+        match serve_trap(core, &trap, &mut changes, &mut frame, source, sink) {
             Ok(()) => {}
             Err(fault) => return Err(fault),
         }

@@ -1,4 +1,4 @@
-use Rattle.std.proofs.Common.{◌≡◌, ◌∙◌, ◌+◌, ◌*◌, ◌++◌, ap, arith, take}
+use Rattle.std.proofs.Common.{◌∙◌, ◌+◌, ◌*◌, ◌++◌, ap, arith, take}
 use Rattle.byteorder.specs.Endian.{little_bytes}
 use Rattle.trap_server.specs.Answers.{kind_number}
 use Rattle.trap_server.proofs.Appended.{word_more}

@@ -8,10 +8,10 @@ returns-clause-bytes c =
     let changes = c.args.changes.now in
     let second = change_bytes changes.second in
     let third = change_bytes changes.third in
-    let one = take 112 c.put_change.new.frame in
-    let two = take 144 c.put_change-2.new.frame in
-    let all = take 176 c.put_change-3.new.frame in
-    two_parts (take 80 c.args.frame.now) one all (change_bytes changes.first) (second ++ third) c.put_change.ensures.bytes
+    let one = take 120 c.put_change.new.frame in
+    let two = take 152 c.put_change-2.new.frame in
+    let all = take 184 c.put_change-3.new.frame in
+    two_parts (take 88 c.args.frame.now) one all (change_bytes changes.first) (second ++ third) c.put_change.ensures.bytes
     (two_parts one two all second third c.put_change-2.ensures.bytes c.put_change-3.ensures.bytes)
 
 pub returns-clause-first : goal.returns-clause-first

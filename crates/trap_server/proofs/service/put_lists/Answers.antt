@@ -6,14 +6,14 @@ use Rattle.trap_server.proofs.service.put_lists.Goals as goal
 
 pub returns-in-Host-clause-lists : goal.returns-in-Host-clause-lists
 returns-in-Host-clause-lists c =
-    host_put c.table.result.now.table (bare c.args.core.now).table c.args.id c.args.lists (take 256 c.args.frame.now) (take 840 c.put_list.new.frame)
+    host_put c.table.result.now.table (bare c.args.core.now).table c.args.id c.args.lists (take 184 c.args.frame.now) (take 768 c.put_list.new.frame)
     c.host_entries.result.now (ap (λ (k : Kept). k.table) c.table.ensures) c.in-Host.is c.host_entries.ensures.list c.put_list.ensures
 
 pub returns-in-Some-clause-lists : goal.returns-in-Some-clause-lists
 returns-in-Some-clause-lists c =
     both_put c.table-in-HostAndMade.result.now.table c.table-in-HostAndMade-2.result.now.table (bare c.args.core.now).table
-    c.args.id c.args.lists (take 256 c.args.frame.now) (take 840 c.put_list-in-HostAndMade.new.frame)
-    (take 1424 c.put_list-in-HostAndMade-2.new.frame) c.host_entries-in-HostAndMade.result.now c.in-Some.entries.now
+    c.args.id c.args.lists (take 184 c.args.frame.now) (take 768 c.put_list-in-HostAndMade.new.frame)
+    (take 1352 c.put_list-in-HostAndMade-2.new.frame) c.host_entries-in-HostAndMade.result.now c.in-Some.entries.now
     (ap (λ (k : Kept). k.table) c.table-in-HostAndMade.ensures)
     (ap (λ (k : Kept). k.table) c.table-in-HostAndMade-2.ensures) c.in-HostAndMade.is c.host_entries-in-HostAndMade.ensures.list
     c.in-Some.ensures.list c.put_list-in-HostAndMade.ensures c.put_list-in-HostAndMade-2.ensures

@@ -1,6 +1,0 @@
--- What the prover finds by itself, written down for the edits that break it (docs/DECISIONS.md, 268).
-use Rattle.std.proofs.Common.{rules}
-use Rattle.trap_server.proofs.service.keep_words.Goals as goal
-
-pub returns : goal.returns
-returns c = search rules
