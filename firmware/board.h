@@ -80,7 +80,7 @@ int differ(const uint64_t *a, const uint64_t *b, unsigned count);
 /* Makes pages of memory that are not the monitor's zero. */
 void make_zero(uint64_t first, uint64_t count);
 
-/* reset.c: pages are private, until they were made zero. */
+/* reset.c: pages are private, until they are made zero. */
 void private_begin(uint64_t first, uint64_t count);
 void private_end(uint64_t first, uint64_t count);
 /* Makes all private pages zero. */
@@ -93,16 +93,30 @@ _Noreturn void end_board(uint64_t status);
 _Noreturn void end_because(const char *why, int64_t number);
 _Noreturn void begin_anew(void);
 
-/* traps.c: runs the hart's world until the monitor has to know of a trap, and says which it is: TAG_CALL or TAG_STOP. */
-uint64_t next_trap(void);
+/* traps.c: runs the hart's world until the monitor has to know of a trap, of this hart or the next that comes: its action says which. */
+struct world *next_trap(void);
 /* Whether the trap of this hart's world is served, without the monitor: trap.S calls it on the hart's own stack. */
 int serve_alone(struct world *world);
-/* What is done with an answer, and with the end, beside loading it. */
+/* What is done with an answer that has lists, and with the end, beside loading it. A trace has a line for each answer. */
+#ifndef TELLS_EACH
+#define TELLS_EACH 0
+#endif
 void answered(const struct answer_frame *answer);
 _Noreturn void ended(const struct end_frame *end);
 
-/* registers.c: the registers of hosts and enclaves, by their places. */
+/* registers.c: the registers of hosts and enclaves, by their places. Tests leave out a kind of change, all zeros, or whose set is which,
+   and see that it is missed. */
 extern struct registers register_sets[MOST_WORLDS];
+enum { NO_ZEROS = ALL_ZERO + 1, ONE_ENCLAVES, ONE_HOSTS };
+#ifndef LEAVE_REGISTERS
+#define LEAVE_REGISTERS 0
+#endif
+static inline struct registers *registers_of(uint64_t hart, uint64_t world)
+{
+    if (LEAVE_REGISTERS == ONE_HOSTS && !world)
+        hart = 0;
+    return &register_sets[place_of(hart, LEAVE_REGISTERS == ONE_ENCLAVES && world ? 1 : world)];
+}
 /* A set as a world begins: all zero but the pc and a0. */
 void registers_begin(struct registers *set, uint64_t pc, uint64_t a0);
 /* What an answer says of them is done. */

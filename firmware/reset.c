@@ -36,6 +36,7 @@ void private_begin(uint64_t first, uint64_t count)
 
 void private_end(uint64_t first, uint64_t count)
 {
+    make_zero(first, count);
     settle();
     for (unsigned i = 0; i < MOST_ENCLAVES; i++)
         if (is_private(&private_ranges[i]) && private_ranges[i].first - first < count)

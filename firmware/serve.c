@@ -29,35 +29,30 @@ static int is_worlds(uint64_t page)
     return is_ram(page) && page - platform->monitor_base / PAGE >= platform->monitor_size / PAGE;
 }
 
-/* The loop's frames are bytes and lie anywhere: where words can't be read or written there, they are here. */
-static uint64_t words[sizeof(struct answer_frame) / sizeof(uint64_t)];
-
-static int is_aligned(const void *at)
+static __attribute__((noinline)) int64_t read_platform(struct platform_frame *frame)
 {
-    return (uintptr_t)at % sizeof(uint64_t) == 0;
-}
-
-static int64_t read_trap(void *to)
-{
-    struct trap_frame *frame = is_aligned(to) ? to : (void *)words;
-    const struct world *world;
-    frame->tag = next_trap();
-    frame->hart = this_hart();
-    world = &worlds[frame->hart];
-    copy_words(frame->call, world->registers->x + 10, 8);
-    frame->control_tag = TAG_CONTROL;
-    control_read(&frame->control);
-    if (!is_aligned(to))
-        memcpy(to, frame, sizeof *frame);
+    *frame = *platform;
+    next = TRAP;
     return sizeof *frame;
 }
 
-static int64_t read_page(struct page_frame *frame)
+static __attribute__((noinline)) int64_t read_trap(struct trap_frame *frame)
 {
-    const uint64_t front[] = {TAG_PAGE, next_page};
+    const struct world *world = next_trap();
+    frame->tag = world->action.kind < ENCLAVE_STOP ? TAG_CALL : TAG_STOP;
+    frame->hart = this_hart();
+    copy_words(frame->call, world->registers->x + 10, 8);
+    frame->control_tag = TAG_CONTROL;
+    control_read(&frame->control);
+    return sizeof *frame;
+}
+
+static __attribute__((noinline)) int64_t read_page(struct page_frame *frame)
+{
     if (!is_worlds(next_page))
         return -1;
-    memcpy(frame, front, sizeof front);
+    frame->tag = TAG_PAGE;
+    frame->page = next_page;
     memcpy(frame->bytes, (const void *)(next_page * PAGE), PAGE);
     next_page++;
     if (--pages_left == 0)
@@ -65,20 +60,23 @@ static int64_t read_page(struct page_frame *frame)
     return sizeof *frame;
 }
 
+/* The loop's frames are bytes. They lie where words can be read and written (tools/retarget), or nothing is served. */
+static int is_aligned(const void *at)
+{
+    return (uintptr_t)at % sizeof(uint64_t) == 0;
+}
+
 /* Arguments that C has as int come in registers of 64 bits whose upper half says nothing. A read is for one whole frame. */
 int64_t read(uint64_t descriptor, void *to, uint64_t n)
 {
-    if ((int)descriptor != 0)
+    if ((int)descriptor != 0 || !is_aligned(to))
         return -1;
-    if (next == PLATFORM && n == sizeof *platform) {
-        memcpy(to, platform, n);
-        next = TRAP;
-        return (int64_t)n;
-    }
     if (next == TRAP && n == sizeof(struct trap_frame))
         return read_trap(to);
     if (next == PAGES && n == sizeof(struct page_frame))
         return read_page(to);
+    if (next == PLATFORM && n == sizeof(struct platform_frame))
+        return read_platform(to);
     return -1;
 }
 
@@ -99,7 +97,7 @@ void make_zero(uint64_t first, uint64_t count)
 
 /* The harts that run the host are the one that goes on and those that are woken, which stand still while its list changes, and no
    longer. An enclave whose list is new runs nowhere. */
-static void change_lists(const struct answer_frame *answer)
+static __attribute__((noinline)) void change_lists(const struct answer_frame *answer)
 {
     if (!stop_harts(answer->wake))
         end_because("a hart does not stop, asked by hart ", this_hart());
@@ -112,32 +110,36 @@ static void change_lists(const struct answer_frame *answer)
     stop_harts(0); /* they go on */
 }
 
-/* No world reaches the pages that are made zero: they were an enclave's, and are closed to the host until its entries change. */
-static int64_t written_answer(const struct answer_frame *answer, uint64_t n)
+/* Another world goes on. */
+static __attribute__((noinline)) void change_world(struct world *self, const struct answer_frame *answer)
 {
-    struct world *world = &worlds[answer->hart];
+    floats_change(self, answer->world);
+    self->number = answer->world;
+    self->registers = registers_of(answer->hart, answer->world);
+    self->bank = answer->world ? (const struct bank *)enclave_banks[answer->world] : &host_bank;
+    self->is_stale = 1;
+    control_write(&answer->control);
+}
+
+/* No world reaches pages that are made zero: they were an enclave's, and are closed to the host until its entries change. */
+static __attribute__((noinline)) int64_t written_answer(struct world *self, const struct answer_frame *answer, uint64_t n)
+{
     if (answer->list_count > 2 || n != offsetof(struct answer_frame, lists) + answer->list_count * sizeof answer->lists[0])
         return -1;
-    if (answer->zero_count) {
-        make_zero(answer->zero_first, answer->zero_count);
+    if (answer->zero_count)
         private_end(answer->zero_first, answer->zero_count);
-    }
     if (answer->list_count)
         change_lists(answer);
-    if (world->number != answer->world) {
-        floats_change(world, answer->world);
-        world->bank = answer->world ? (const struct bank *)enclave_banks[answer->world] : &host_bank;
-        control_write(&answer->control);
-        world->is_stale = 1;
-    }
+    if (self->number != answer->world)
+        change_world(self, answer);
     registers_change(answer);
-    world->number = answer->world;
-    answered(answer);
+    if (answer->list_count || TELLS_EACH)
+        answered(answer);
     return (int64_t)n;
 }
 
 /* An answer has made an enclave, whose number its hart finds in a1. Its pages are asked for while other harts run. */
-static int64_t written_measure(const struct measure_frame *asked)
+static __attribute__((noinline)) int64_t written_measure(const struct measure_frame *asked)
 {
     next = PAGES;
     next_page = asked->first;
@@ -149,17 +151,14 @@ static int64_t written_measure(const struct measure_frame *asked)
 
 int64_t write(uint64_t descriptor, const void *from, uint64_t n)
 {
-    uint64_t tag;
-    if ((int)descriptor != 1 || n > sizeof words)
+    const uint64_t *words = from;
+    if ((int)descriptor != 1 || !is_aligned(from))
         return -1;
-    if (!is_aligned(from))
-        from = memcpy(words, from, n);
-    tag = *(const uint64_t *)from;
-    if (tag == TAG_ANSWER)
-        return written_answer(from, n);
-    if (tag == TAG_MEASURE && n == sizeof(struct measure_frame))
+    if (n >= offsetof(struct answer_frame, lists) && *words == TAG_ANSWER)
+        return written_answer(&worlds[words[1]], from, n);
+    if (n == sizeof(struct measure_frame) && *words == TAG_MEASURE)
         return written_measure(from);
-    if (tag == TAG_END && n == sizeof(struct end_frame))
+    if (n == sizeof(struct end_frame) && *words == TAG_END)
         ended(from);
     return -1;
 }

@@ -98,13 +98,14 @@ static void put_notes(void)
     note("other", most_other);
 }
 
-static uint64_t trapped_as(uint64_t tag)
+static struct world *trapped_as(struct world *world, uint64_t kind)
 {
+    world->action.kind = kind;
     since = instructions();
-    return tag;
+    return world;
 }
 
-uint64_t next_trap(void)
+struct world *next_trap(void)
 {
     while (number < trace->count) {
         now = &trace->events[number++];
@@ -117,7 +118,7 @@ uint64_t next_trap(void)
         if (now->kind == IRQ) {
             do_interrupt();
             asked[0] = ~0ul;
-            return trapped_as(TAG_STOP);
+            return trapped_as(world, ENCLAVE_STOP);
         }
         set_words(world);
         const uint64_t *x = world->registers->x;
@@ -125,7 +126,7 @@ uint64_t next_trap(void)
         asked[1] = x[10];
         asked[2] = x[11] + x[12];
         do_ecall();
-        return trapped_as(TAG_CALL);
+        return trapped_as(world, MONITOR);
     }
     if (trace->has_notes)
         put_notes();
