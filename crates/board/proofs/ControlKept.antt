@@ -123,7 +123,7 @@ module _ (old new : Board) (hart : ℕ) (host : HostWords)
     hosts : (if is_host after then new.control hart else new.hosts hart) ≡ (if is_host before then old.control hart else old.hosts hart)
     enters : (id : ℕ) → before ≡ Host → after ≡ InEnclave id → new.control hart ≡ enclave_words host
     stays : after ≡ before → new.control hart ≡ old.control hart
-    own : host ≡ framed (old.control hart) → ((id : ℕ) → before ≡ InEnclave id → IsOwn (old.control hart) (old.hosts hart))
+    own : (before ≡ Host → host ≡ framed (old.control hart)) → ((id : ℕ) → before ≡ InEnclave id → IsOwn (old.control hart) (old.hosts hart))
         → (id : ℕ) → after ≡ InEnclave id → IsOwn (new.control hart) (new.hosts hart)
 
   said_is : (before after : World) → old.monitor.worlds hart ≡ before → new.monitor.worlds hart ≡ after
@@ -147,7 +147,7 @@ module _ (old new : Board) (hart : ℕ) (host : HostWords)
         enters = λ id from to. gets;
         stays = λ same. let z : InEnclave k ≡ Host = same in absurd cc;
         own = λ of owns id to. subst (λ keeps. IsOwn (new.control hart) keeps) (sym leaves)
-            (subst (λ has. IsOwn has (old.control hart)) (sym (gets ∙ ap enclave_words of)) (refl, refl));
+            (subst (λ has. IsOwn has (old.control hart)) (sym (gets ∙ ap enclave_words (of refl))) (refl, refl));
       }
   by_worlds (InEnclave j) Host was is =
       let none = said_is (InEnclave j) Host was is in
@@ -179,7 +179,8 @@ module _ (old new : Board) (hart : ℕ) (host : HostWords)
   at_hart P h this far = both (h == hart) (λ yes. subst P (sym (eqb-true h hart yes)) this)
       (λ off. far (λ same. both_ways (h == hart) off (eq-eqb h hart same)))
 
-  module _ (of : host ≡ framed (old.control hart)) (still_there : (other : ℕ) → other ≢ hart → new.monitor.worlds other ≡ old.monitor.worlds other) where
+  module _ (of : old.monitor.worlds hart ≡ Host → host ≡ framed (old.control hart))
+      (still_there : (other : ℕ) → other ≢ hart → new.monitor.worlds other ≡ old.monitor.worlds other) where
     host_stays : (h : ℕ) → host_control new h ≡ host_control old h
     host_stays h = at_hart (λ k. host_control new k ≡ host_control old k) h here.hosts
         (λ differ. ap (λ w. if is_host w then new.control h else new.hosts h) (still_there h differ)
@@ -215,7 +216,7 @@ control_kept old trap frame read question answered new same sound places x k =
     served_same trap.event (saved old trap) trap x.changes read question answered new.monitor id other one was at in (
       record {
         hosts = host_stays old new hart trap.host enclave c x.host k.stays;
-        enters = λ id was is. (here old new hart trap.host enclave c).enters id was is ∙ ap enclave_words x.host;
+        enters = λ id was is. (here old new hart trap.host enclave c).enters id was is ∙ ap enclave_words (x.host was);
         stays = control_stays old new hart trap.host enclave c x.host k.stays;
       },
       own_after old new hart trap.host enclave c x.host k.stays,

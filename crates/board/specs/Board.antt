@@ -166,13 +166,13 @@ saved old trap = with_running old.monitor trap.hart trap.registers
 -- the answer names, in its words 6 and 7, are made zero; the lists that it has are kept for their
 -- worlds; the hart that it names loads the list of the world that it names, and each that it wakes
 -- the host's, before any world goes on. Registers of floating point change with the world of the
--- hart that trapped. The frame has two of the control words that this hart has, and they change as
--- the answer says
+-- hart that trapped. Where its host trapped the frame has two of the control words that the hart
+-- has. They change as the answer says
 pub record DoesTrap (old : Board) (trap : Trap) (frame read question answered : List ℕ)
     (new : Board) : Type 0 where
   pub size : length frame ≡ 96
   pub is_trap : IsTrapFrame frame old.monitor.table.layout.harts trap
-  pub host : trap.host ≡ framed (old.control trap.hart)
+  pub host : old.monitor.worlds trap.hart ≡ Host → trap.host ≡ framed (old.control trap.hart)
   pub changes : SetChanges
   pub served : ServesAll old.monitor trap changes read question answered new.monitor
   pub sets : new.monitor.registers ≡ changed trap.hart changes (saved old trap).registers
