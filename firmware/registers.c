@@ -4,7 +4,7 @@
  */
 #include "board.h"
 
-struct registers register_sets[MOST_WORLDS];
+struct registers register_sets[MOST_HARTS + MOST_ENCLAVES];
 
 inline void registers_begin(struct registers *set, uint64_t pc, uint64_t a0)
 {
