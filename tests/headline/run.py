@@ -59,15 +59,16 @@ There are three theorems, over one monitor (`monitor_core`), which the model and
    `step` say of one event. The code owes it there: `boot` and `step` each have a clause `after` (part 3).
 2. **The firmware** (`firmware_law`, part 6). It is about every list of traps that `serve_traps` of `trap_server` read and answered:
    which entries the list has that was answered last of each world, and the one that each hart loaded last, whose pages are asked for or
-   made zero, what becomes of whose registers, and whose control words go on. Of registers it is said for all sets that the harts may
-   keep. The code owes it in the clauses `all` and `early` of `serve_traps`: the traps of `Ran` are such a list, and the words of their
-   answers say just these changes of sets (`said`).
+   made zero, what becomes of whose registers, and which control words an enclave gets that is entered. Of registers it is said for all
+   sets that the harts may keep. The code owes it in the clauses `all` and `early` of `serve_traps`: the traps of `Ran` are such a list,
+   and the words of their answers say just these changes of sets and these control words (`said`).
 3. **A board** (`board_law`, part 7). It is about memory and harts around that loop, and so about what worlds do between traps. What the
    code around the loop owes is a premise there, in one definition (`DoesTrap`): each world keeps the list of entries that an answer last
    had for it, a hart judges by the list that it loaded last, the pages that an answer names are made zero, those that are read are
    memory's, and no world runs meanwhile. The registers of the world that trapped are saved in its set, sets change as the answer says
-   and no other way, and registers of floating point change with the world of a hart. On a hart other worlds run while the pages of a
-   new enclave are read, after its creation was answered: until the next trap no world changes them (`pages_law`).
+   and no other way, and registers of floating point change with the world of a hart. Where an answer has control words the hart keeps
+   its host's and goes on with these; where its host goes on again it has the kept ones. On a hart other worlds run while the pages of
+   a new enclave are read, after its creation was answered: until the next trap no world changes them (`pages_law`).
 
 The first and the third are of the same thing: each run of the model is a run of a board (`model_law`, part 8). Each access of the one
 is an access of the other, with what was said of it. Each call or interrupt is a trap with the same registers, whose answer says what
@@ -82,7 +83,8 @@ the loop and gets from it are those of such a list.
 No theorem here is about these:
 
 - the C and assembly around the loop (`firmware/`). They keep a set of registers as a trap saved it, put a0 to a7 of it into the frame,
-  do the three changes of an answer, and load the set of the world that goes on. What else an answer says they keep, load and make zero.
+  do the three changes of an answer, and load the set of the world that goes on. They keep a host's control words while an enclave runs
+  on its hart. What else an answer says they keep, load and make zero.
   No hart runs a world while its entries change, and pages are read before the next trap. Part 7 takes this as given.
   `firmware/README.md` has these rules; they are tested on QEMU;
 - a build for RV64, which is a retargeted build of a proved module. It is tested on QEMU, and no verdict of a proof covers it;
