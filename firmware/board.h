@@ -105,11 +105,8 @@ enum { NO_ZEROS = ALL_ZERO + 1, ONE_ENCLAVES, ONE_HOSTS };
 #endif
 static inline struct registers *registers_of(uint64_t hart, uint64_t world)
 {
-    if (LEAVE_REGISTERS == ONE_HOSTS)
-        hart = 0;
-    if (LEAVE_REGISTERS == ONE_ENCLAVES && world)
-        world = 1;
-    return &register_sets[world ? MOST_HARTS - 1 + world : hart];
+    uint64_t host = LEAVE_REGISTERS == ONE_HOSTS ? 0 : hart, enclave = LEAVE_REGISTERS == ONE_ENCLAVES ? 1 : world;
+    return &register_sets[world ? MOST_HARTS - 1 + enclave : host];
 }
 /* A set as a world begins: all zero but the pc and a0. */
 void registers_begin(struct registers *set, uint64_t pc, uint64_t a0);

@@ -1,8 +1,8 @@
 /*
- * The registers of machine and supervisor mode that decide what a world can do beside the entries. Each is read once after a
- * trap, into the frame that the proved monitor reads, and where another world goes on it is written once from the frame that it
- * answers with: which world has which words is decided there (crates/trap_server); with which words a hart begins, here alone
- * (at_start). A reader compares the table with the first one of "Control registers" in firmware/README.md.
+ * The registers of machine and supervisor mode that decide what a world can do beside the entries. They stay in the hart while its
+ * world goes on. Where the host enters an enclave each gets the word that the proved monitor answers with (crates/trap_server), and
+ * what it had is kept until the host goes on. With which words a hart begins is decided here alone (at_start). A reader compares the
+ * table with the first one of "Control registers" in firmware/README.md.
  */
 #include "board.h"
 
@@ -25,8 +25,8 @@
 #define MPP_SUPERVISOR (1ul << 11)
 #define MPV (1ul << 39)
 
-/* The word of a frame, its register (a number, where the assembler may not know the name), and which bits of it travel. Two words
-   beside these are of mstatus: status has the bits of STATUS, and mode has MPP and MPV. */
+/* The word of a frame, its register (a number, where the assembler may not know the name), and which bits of it change with the world.
+   Two words beside these are of mstatus: status has the bits of STATUS, and mode has MPP and MPV. */
 #define CONTROL_REGISTERS(X)                                                                                           \
     X(satp, satp, TABLE_OF_PAGES)                                                                                      \
     X(mie, mie, INTERRUPTS)                                                                                            \
@@ -76,7 +76,7 @@ static inline uint64_t mixed(uint64_t old, uint64_t word, uint64_t bits)
     return old ^ ((old ^ word) & bits);
 }
 
-/* A register gets a word, and what it had is kept where there is a place for it. Where not all of it travels these bits change. */
+/* A register gets a word, and what it had is kept where there is a place for it. Where not all of it is a world's these bits change. */
 #define CHANGE(word, csr, bits)                                                                                        \
     {                                                                                                                  \
         uint64_t old = (bits) == ALL ? SWAP(csr, words->word) : READ(csr);                                             \
