@@ -106,6 +106,7 @@ static __attribute__((noinline)) void change_lists(const struct answer_frame *an
         if ((answer->wake | 1ul << answer->hart) >> hart & 1)
             worlds[hart].is_stale = 1;
     stop_harts(0); /* they go on */
+    answered(answer);
 }
 
 /* Another world goes on. What the hart has of the host's status is read before registers of floating point are opened. */
@@ -140,8 +141,6 @@ static __attribute__((noinline)) int64_t written_answer(struct world *self, cons
     if (self->number != answer->world)
         change_world(self, answer);
     registers_change(answer);
-    if (answer->list_count)
-        answered(answer);
     return (int64_t)n;
 }
 
