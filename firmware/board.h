@@ -20,18 +20,19 @@ enum { GO_ON, TICK, TO_HANDLER, ANSWER, SET_TIMER, INTERRUPT_HARTS, FENCE_INSTRU
 enum { START_HART = PUT_BYTE + 1, STOP_HART, SHUT_DOWN, FAIL, REBOOT };
 enum { MONITOR = REBOOT + 1, ENCLAVE_CALL, ENCLAVE_STOP, ENCLAVE_TICK };
 
-/* The registers of a host or an enclave, where trap.S saves and loads them. In x0's place is the hart that its world runs on. */
+/* The registers of a host or an enclave, where trap.S saves and loads them, and floats.c those of floating point. In x0's place is the
+   hart that its world runs on. */
 struct registers {
     union {
         struct world *hart;
         uint64_t x[32];
     };
-    uint64_t pc;
+    uint64_t pc, f[32], fcsr;
 };
 
 /* What there is of each hart. */
 struct world {
-    uint8_t stack[1872];         /* its own, which ends where the rest begins */
+    uint8_t stack[1808];         /* its own, which ends where the rest begins */
     struct registers *registers; /* of its world */
     uint64_t cause, value;       /* what the last trap told */
     volatile uint32_t is_out;    /* the hart is not halted: its world may run */
@@ -39,23 +40,17 @@ struct world {
     uint32_t last_number;        /* of the lock */
     uint32_t requests, fences_asked, fences_made; /* harts.c */
     uint16_t is_stale;           /* its world, its entries or pages are others than when it last ran one */
-    uint16_t floats_kind;        /* what it has of floating point, and where its world's are kept (floats.c) */
-    struct floats *floats;
+    uint16_t floats_kind;        /* what it has of floating point (floats.c) */
+    uint32_t lacks;              /* the control registers that it has not (control.c) */
+    struct control_words host;   /* what its host had in the others, while an enclave runs */
     uint64_t number; /* of its world: 0 is the host, others are enclaves */
     struct caller caller;
     struct action action; /* what was decided of its last trap */
     const struct bank *bank; /* the list of its world */
 } __attribute__((aligned(16)));
 extern struct world worlds[MOST_HARTS];
-_Static_assert(sizeof(struct world) == 1 << 11 && offsetof(struct world, registers) == 1872, "trap.S counts on it");
-_Static_assert(offsetof(struct world, is_out) == 1872 + 3 * 8, "trap.S counts on it");
-
-/* Where what is kept for a host or an enclave has its place: first those of the hosts of the harts, then enclaves by their number. */
-#define MOST_WORLDS (MOST_HARTS + MOST_ENCLAVES)
-static inline uint64_t place_of(uint64_t hart, uint64_t world)
-{
-    return world ? MOST_HARTS - 1 + world : hart;
-}
+_Static_assert(sizeof(struct world) == 1 << 11 && offsetof(struct world, registers) == 1808, "trap.S counts on it");
+_Static_assert(offsetof(struct world, is_out) == 1808 + 3 * 8, "trap.S counts on it");
 
 /* trap.S: the hart that calls lets go of the monitor and runs its world until a trap needs the monitor, or is parked until another
    hart wants it. The monitor goes on as the next hart that comes, whose struct world is told. `instructions` counts since the hart
@@ -97,25 +92,21 @@ _Noreturn void begin_anew(void);
 struct world *next_trap(void);
 /* Whether the trap of this hart's world is served, without the monitor: trap.S calls it on the hart's own stack. */
 int serve_alone(struct world *world);
-/* What is done with an answer that has lists, and with the end, beside loading it. A trace has a line for each answer. */
-#ifndef TELLS_EACH
-#define TELLS_EACH 0
-#endif
+/* What is done with an answer that has lists, and with the end, beside loading it. */
 void answered(const struct answer_frame *answer);
 _Noreturn void ended(const struct end_frame *end);
 
-/* registers.c: the registers of hosts and enclaves, by their places. Tests leave out a kind of change, all zeros, or whose set is which,
-   and see that it is missed. */
-extern struct registers register_sets[MOST_WORLDS];
+/* registers.c: the registers of the hosts of the harts, and behind them those of enclaves by their numbers. Tests leave out a kind of
+   change, all zeros, or whose set is which, and see that it is missed. */
+extern struct registers register_sets[MOST_HARTS + MOST_ENCLAVES];
 enum { NO_ZEROS = ALL_ZERO + 1, ONE_ENCLAVES, ONE_HOSTS };
 #ifndef LEAVE_REGISTERS
 #define LEAVE_REGISTERS 0
 #endif
 static inline struct registers *registers_of(uint64_t hart, uint64_t world)
 {
-    if (LEAVE_REGISTERS == ONE_HOSTS && !world)
-        hart = 0;
-    return &register_sets[place_of(hart, LEAVE_REGISTERS == ONE_ENCLAVES && world ? 1 : world)];
+    uint64_t host = LEAVE_REGISTERS == ONE_HOSTS ? 0 : hart, enclave = LEAVE_REGISTERS == ONE_ENCLAVES ? 1 : world;
+    return &register_sets[world ? MOST_HARTS - 1 + enclave : host];
 }
 /* A set as a world begins: all zero but the pc and a0. */
 void registers_begin(struct registers *set, uint64_t pc, uint64_t a0);
@@ -125,15 +116,16 @@ void registers_change(const struct answer_frame *answer);
 /* control.c: the registers of machine and supervisor mode that decide what a world can do, read for a frame and written from
    one on the hart that calls. */
 void control_at_start(void);
-void control_read(struct control_words *words);
-void control_write(const struct control_words *words);
+void control_told(const struct world *self, struct trap_frame *frame);
+void control_enter(struct world *self, const struct control_words *words, uint64_t status);
+void control_leave(const struct world *self);
 void control_to_handler(struct world *world);
 
 /* floats.c, on the hart that calls: another world goes on; and the hart begins. An enclave that is new begins with zeros. */
 #define FLOATS_DIRTY (3ul << 13) /* FS of mstatus */
-void floats_change(struct world *self, uint64_t world);
+void floats_change(const struct world *self, const struct registers *next, uint64_t status);
 void floats_at_start(struct world *self);
-void floats_begin(uint64_t enclave);
+void floats_begin(struct registers *set);
 
 /* harts.c, with the states of the harts, hart h in bit h: one that is in neither word is stopped. They change with the lock. */
 struct harts {
@@ -217,6 +209,12 @@ void find_board(uint64_t tree);
     ({                                                                                                                 \
         uint64_t value_;                                                                                               \
         __asm__ volatile("csrr %0, " #csr : "=r"(value_)::"memory");                                                   \
+        value_;                                                                                                        \
+    })
+#define SWAP(csr, value)                                                                                               \
+    ({                                                                                                                 \
+        uint64_t value_;                                                                                               \
+        __asm__ volatile("csrrw %0, " #csr ", %1" : "=r"(value_) : "r"((uint64_t)(value)) : "memory");                  \
         value_;                                                                                                        \
     })
 #define WRITE(csr, value) __asm__ volatile("csrw " #csr ", %0" ::"r"((uint64_t)(value)) : "memory")

@@ -1,8 +1,8 @@
 /*
- * The registers of machine and supervisor mode that decide what a world can do beside the entries. Each is read once after a
- * trap, into the frame that the proved monitor reads, and where another world goes on it is written once from the frame that it
- * answers with: which world has which words is decided there (crates/trap_server); with which words a hart begins, here alone
- * (at_start). A reader compares the table with the first one of "Control registers" in firmware/README.md.
+ * The registers of machine and supervisor mode that decide what a world can do beside the entries. They stay in the hart while its
+ * world goes on. Where the host enters an enclave each gets the word that the proved monitor answers with (crates/trap_server), and
+ * what it had is kept until the host goes on. With which words a hart begins is decided here alone (at_start). A reader compares the
+ * table with the first one of "Control registers" in firmware/README.md.
  */
 #include "board.h"
 
@@ -25,8 +25,8 @@
 #define MPP_SUPERVISOR (1ul << 11)
 #define MPV (1ul << 39)
 
-/* The word of a frame, its register (a number, where the assembler may not know the name), and which bits of it travel. Two words
-   beside these are of mstatus: status has the bits of STATUS, and mode has MPP and MPV. */
+/* The word of a frame, its register (a number, where the assembler may not know the name), and which bits of it change with the world.
+   Two words beside these are of mstatus: status has the bits of STATUS, and mode has MPP and MPV. */
 #define CONTROL_REGISTERS(X)                                                                                           \
     X(satp, satp, TABLE_OF_PAGES)                                                                                      \
     X(mie, mie, INTERRUPTS)                                                                                            \
@@ -62,53 +62,61 @@ enum {
 #define NUMBER(word, csr, bits) NUMBER_##word,
     CONTROL_REGISTERS(NUMBER)
 #undef NUMBER
-        COUNT
 };
-/* Which of the registers a hart lacks, and whether any lacks one. Their words are zero, and not looked at. */
-static uint8_t lacks[MOST_HARTS][COUNT], is_one_lacking;
-
-static void find_registers(uint64_t hart)
+/* Which of the registers a hart lacks, by their numbers. Their words are zero, and not looked at. */
+static void find_registers(struct world *self)
 {
-#define FIND(word, csr, bits) is_one_lacking |= lacks[hart][NUMBER_##word] = !IS_THERE(csr);
+#define FIND(word, csr, bits) self->lacks |= (uint32_t)!IS_THERE(csr) << NUMBER_##word;
     CONTROL_REGISTERS(FIND)
 #undef FIND
 }
 
-#define TAKE(word, csr, bits) words->word = READ(csr) & (bits);
-#define TAKE_IF(word, csr, bits)                                                                                       \
-    if (lacks[this_hart()][NUMBER_##word])                                                                             \
-        words->word = 0;                                                                                               \
-    else                                                                                                               \
-        TAKE(word, csr, bits)
-void control_read(struct control_words *words)
-{
-    uint64_t status = READ(mstatus);
-    words->status = status & STATUS;
-    words->mode = status & (MPP | MPV);
-    if (is_one_lacking) {
-        CONTROL_REGISTERS(TAKE_IF)
-    } else {
-        CONTROL_REGISTERS(TAKE)
-    }
-}
-
-/* A register is read first where not all of it travels: these bits of it change. */
 static inline uint64_t mixed(uint64_t old, uint64_t word, uint64_t bits)
 {
     return old ^ ((old ^ word) & bits);
 }
-#define GIVE(word, csr, bits) WRITE(csr, (bits) == ALL ? words->word : mixed(READ(csr), words->word, bits));
-#define GIVE_IF(word, csr, bits)                                                                                       \
-    if (!lacks[this_hart()][NUMBER_##word])                                                                            \
-        GIVE(word, csr, bits)
-void control_write(const struct control_words *words)
+
+/* A register gets a word, and what it had is kept where there is a place for it. Where not all of it is a world's these bits change. */
+#define CHANGE(word, csr, bits)                                                                                        \
+    {                                                                                                                  \
+        uint64_t old = (bits) == ALL ? SWAP(csr, words->word) : READ(csr);                                             \
+        if ((bits) != ALL)                                                                                             \
+            WRITE(csr, mixed(old, words->word, bits));                                                                 \
+        if (kept)                                                                                                      \
+            kept->word = old & (bits);                                                                                 \
+    }
+#define CHANGE_IF(word, csr, bits)                                                                                     \
+    if (!(self->lacks >> NUMBER_##word & 1))                                                                           \
+        CHANGE(word, csr, bits)
+static inline void change(const struct world *self, const struct control_words *words, struct control_words *kept)
 {
     WRITE(mstatus, mixed(READ(mstatus), words->status | words->mode, STATUS | MPP | MPV));
-    if (is_one_lacking) {
-        CONTROL_REGISTERS(GIVE_IF)
+    if (self->lacks) {
+        CONTROL_REGISTERS(CHANGE_IF)
     } else {
-        CONTROL_REGISTERS(GIVE)
+        CONTROL_REGISTERS(CHANGE)
     }
+}
+
+/* The host of this hart enters an enclave: its words are kept, with the status that is told. */
+void control_enter(struct world *self, const struct control_words *words, uint64_t status)
+{
+    self->host.status = status & STATUS;
+    self->host.mode = status & (MPP | MPV);
+    change(self, words, &self->host);
+}
+
+/* It goes on, with the words that it had. */
+void control_leave(const struct world *self)
+{
+    change(self, &self->host, 0);
+}
+
+/* Of the words of the world that trapped those on which an enclave's depend. */
+void control_told(const struct world *self, struct trap_frame *frame)
+{
+    frame->mie = READ(mie) & INTERRUPTS;
+    frame->scounteren = self->lacks >> NUMBER_scounteren & 1 ? 0 : READ(scounteren);
 }
 
 /*
@@ -142,7 +150,7 @@ void control_to_handler(struct world *world)
     WRITE(scause, world->cause);
     WRITE(stval, world->value);
     WRITE(mstatus, (status & ~(SIE | SPIE | SPP | MPP | MPV)) | before | MPP_SUPERVISOR);
-    if (!lacks[this_hart()][NUMBER_hstatus])
+    if (!(world->lacks >> NUMBER_hstatus & 1))
         WRITE(0x600, (READ(0x600) & ~SPV) | (status & MPV ? SPV : 0));
     world->registers->pc = handler & ~3ul;
     if (handler & 1 && world->cause & INTERRUPT)
@@ -153,8 +161,9 @@ void control_to_handler(struct world *world)
    register that there is not is a trap, which changes it. */
 void control_at_start(void)
 {
-    find_registers(this_hart());
-    floats_at_start(&worlds[this_hart()]);
+    struct world *self = &worlds[this_hart()];
+    find_registers(self);
+    floats_at_start(self);
     WRITE(mcounteren, COUNTERS);
     if (IS_THERE(0x30a)) /* menvcfg */
         WRITE(0x30a, STCE | PBMTE | CBZE | CBCFE | CBIE_FLUSH);
@@ -165,5 +174,6 @@ void control_at_start(void)
     CLEAR(mip, SOFTWARE_OF_SUPERVISOR | TIMER_OF_SUPERVISOR);
     host_timer_begin(IS_THERE(0x14d)); /* stimecmp */
     WRITE(mstatus, at_start.status);
-    control_write(&at_start);
+    self->host = at_start;
+    control_leave(self);
 }

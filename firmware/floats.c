@@ -1,14 +1,9 @@
 /*
  * The registers of floating point: f0 to f31 and fcsr. The host of each hart has a set, and each enclave has one, which goes with it
- * from hart to hart. That of a world which runs is in its hart, and the others are here. Which world goes on the proved answer
+ * from hart to hart. That of a world which runs is in its hart, and the others are kept. Which world goes on the proved answer
  * says, and FS of an enclave's status word is the core's too (crates/trap_server).
  */
 #include "board.h"
-
-struct floats {
-    uint64_t f[32], fcsr;
-};
-static struct floats sets[MOST_WORLDS];
 
 /* What a hart has of them. Where floats are in its integer registers (Zfinx) it has fcsr alone, which no FS closes. */
 enum { NONE, FCSR_ALONE, SINGLES, DOUBLES };
@@ -24,45 +19,42 @@ void load_doubles(const uint64_t *f);
 void keep_singles(uint64_t *f);
 void load_singles(const uint64_t *f);
 
-static void keep(const struct world *self, struct floats *set)
+static void keep(const struct world *self)
 {
     if (self->floats_kind == DOUBLES)
-        keep_doubles(set->f);
+        keep_doubles(self->registers->f);
     else if (self->floats_kind == SINGLES)
-        keep_singles(set->f);
+        keep_singles(self->registers->f);
 }
 
-static void load(const struct world *self)
+static void load(const struct world *self, const struct registers *set)
 {
-    WRITE(fcsr, self->floats->fcsr);
+    WRITE(fcsr, set->fcsr);
     if (self->floats_kind == DOUBLES)
-        load_doubles(self->floats->f);
+        load_doubles(set->f);
     else if (self->floats_kind == SINGLES)
-        load_singles(self->floats->f);
+        load_singles(set->f);
 }
 
 /* An enclave goes on with FS Initial. Where it is not Dirty when another world follows, f0 to f31 are those that it was given. The
    host's set is kept whatever its FS says: it may have changed that itself. FS is then as the next world's status word has it. */
-void floats_change(struct world *self, uint64_t world)
+void floats_change(const struct world *self, const struct registers *next, uint64_t status)
 {
-    struct floats *left = self->floats;
-    uint64_t status = READ(mstatus);
     if (!self->floats_kind)
         return;
     SET(mstatus, FLOATS_DIRTY);
     if (LEAVE_FLOATS != (self->number ? ENCLAVES_SET : HOSTS_SET)) {
-        left->fcsr = READ(fcsr);
+        self->registers->fcsr = READ(fcsr);
         if (!self->number || (status & FLOATS_DIRTY) == FLOATS_DIRTY)
-            keep(self, left);
+            keep(self);
     }
-    self->floats = &sets[place_of(this_hart(), world)];
-    load(self);
+    load(self, next);
 }
 
-void floats_begin(uint64_t enclave)
+void floats_begin(struct registers *set)
 {
     if (LEAVE_FLOATS != ZEROS)
-        memset(&sets[place_of(0, enclave)], 0, sizeof(struct floats));
+        memset(set->f, 0, sizeof set->f + sizeof set->fcsr);
 }
 
 /* What a hart has is found by trying. Its host begins with zeros. */
@@ -78,8 +70,7 @@ void floats_at_start(struct world *self)
         self->floats_kind = FCSR_ALONE;
     else
         self->floats_kind = DOES(".option push\n .option arch, +d\n fmv.x.d t1, f0\n .option pop\n") ? DOUBLES : SINGLES;
-    self->floats = &sets[place_of(this_hart(), 0)];
-    memset(self->floats, 0, sizeof(struct floats));
+    floats_begin(self->registers);
     if (self->floats_kind)
-        load(self);
+        load(self, self->registers);
 }

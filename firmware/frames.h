@@ -13,7 +13,6 @@
 #define TAG_PAGE TAG('p', 'a', 'g', 'e', 0, 0, 0, 0)
 #define TAG_ANSWER TAG('a', 'n', 's', 'w', 'e', 'r', 0, 0)
 #define TAG_MEASURE TAG('m', 'e', 'a', 's', 'u', 'r', 'e', 0)
-#define TAG_CONTROL TAG('c', 'o', 'n', 't', 'r', 'o', 'l', 0)
 #define TAG_END TAG('e', 'n', 'd', 0, 0, 0, 0, 0)
 
 #define PAGE 4096ul
@@ -30,15 +29,10 @@ struct platform_frame {
     } device[MOST_RANGES];
 };
 
-/* The control registers of a world (control.c says which each word is of). */
-struct control_words {
-    uint64_t status, satp, mie, scounteren, senvcfg, hstatus, medeleg, mideleg, mode;
-};
-
-/* Read for each trap: a call, or what stops an enclave, an interrupt or a thing that it may not do. call[0] is a0. */
+/* Read for each trap: a call, or what stops an enclave, an interrupt or a thing that it may not do. call[0] is a0. Of the control words
+   of the world that trapped it has the two that an enclave's depend on. */
 struct trap_frame {
-    uint64_t tag, hart, call[8], control_tag;
-    struct control_words control;
+    uint64_t tag, hart, call[8], mie, scounteren;
 };
 
 /* Read after each page that is asked for. */
@@ -59,14 +53,18 @@ struct set_change {
     uint64_t kind, whose, first, second;
 };
 
-/* Written: with what a hart goes on, and after it the lists of entries that are new, of which it is list_count: the host's, and that
-   of the enclave that was made, whose number is the value. The changes are made in their order. */
+/* What an enclave has in the control registers (control.c says of which each word is). */
+struct control_words {
+    uint64_t status, satp, mie, scounteren, senvcfg, hstatus, medeleg, mideleg, mode;
+};
+
+/* Written: with what a hart goes on. After it come the lists of entries that are new, list_count of them: the host's, and that of the
+   enclave that was made, whose number is the value; and behind them control words, 9 where a host enters an enclave and otherwise 0.
+   The changes are made in their order. */
 struct answer_frame {
-    uint64_t tag, hart, world, status, value, used, zero_first, zero_count, wake, list_count;
+    uint64_t tag, hart, world, status, value, used, zero_first, zero_count, wake, list_count, word_count;
     struct set_change changes[3];
-    uint64_t control_tag;
-    struct control_words control;
-    struct bank lists[2];
+    struct bank lists[];
 };
 
 /* Written: pages to be read, one after another. */
@@ -80,8 +78,8 @@ struct end_frame {
 };
 
 _Static_assert(sizeof(struct platform_frame) == 1336, "167 words");
-_Static_assert(sizeof(struct trap_frame) == 160, "20 words");
+_Static_assert(sizeof(struct trap_frame) == 96, "12 words");
 _Static_assert(sizeof(struct page_frame) == 4112, "514 words");
-_Static_assert(offsetof(struct answer_frame, lists) == 256, "32 words");
-_Static_assert(sizeof(struct answer_frame) == 256 + 2 * 584, "and 73 for each list");
+_Static_assert(sizeof(struct answer_frame) == 184, "23 words");
+_Static_assert(sizeof(struct bank) == 584 && sizeof(struct control_words) == 72, "73 words of a list, 9 of control");
 #endif

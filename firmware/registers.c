@@ -4,7 +4,7 @@
  */
 #include "board.h"
 
-struct registers register_sets[MOST_WORLDS];
+struct registers register_sets[MOST_HARTS + MOST_ENCLAVES];
 
 inline void registers_begin(struct registers *set, uint64_t pc, uint64_t a0)
 {
@@ -30,8 +30,9 @@ static inline void change(struct registers *set, const struct set_change *change
 
 void registers_change(const struct answer_frame *answer)
 {
+    struct registers *host = registers_of(answer->hart, 0);
 #pragma GCC unroll 3
     for (const struct set_change *it = answer->changes; it < answer->changes + 3; it++)
         if (it->kind && it->kind != LEAVE_REGISTERS)
-            change(registers_of(answer->hart, it->whose), it);
+            change(it->whose ? registers_of(0, it->whose) : host, it);
 }

@@ -42,8 +42,7 @@ static __attribute__((noinline)) int64_t read_trap(struct trap_frame *frame)
     frame->tag = world->action.kind < ENCLAVE_STOP ? TAG_CALL : TAG_STOP;
     frame->hart = this_hart();
     copy_words(frame->call, world->registers->x + 10, 8);
-    frame->control_tag = TAG_CONTROL;
-    control_read(&frame->control);
+    control_told(world, frame);
     return sizeof *frame;
 }
 
@@ -52,9 +51,8 @@ static __attribute__((noinline)) int64_t read_page(struct page_frame *frame)
     if (!is_worlds(next_page))
         return -1;
     frame->tag = TAG_PAGE;
-    frame->page = next_page;
-    memcpy(frame->bytes, (const void *)(next_page * PAGE), PAGE);
-    next_page++;
+    frame->page = next_page++;
+    memcpy(frame->bytes, (const void *)(frame->page * PAGE), PAGE);
     if (--pages_left == 0)
         next = TRAP;
     return sizeof *frame;
@@ -108,24 +106,34 @@ static __attribute__((noinline)) void change_lists(const struct answer_frame *an
         if ((answer->wake | 1ul << answer->hart) >> hart & 1)
             worlds[hart].is_stale = 1;
     stop_harts(0); /* they go on */
+    answered(answer);
 }
 
-/* Another world goes on. */
-static __attribute__((noinline)) void change_world(struct world *self, const struct answer_frame *answer)
+/* Another world goes on. What the hart has of the host's status is read before registers of floating point are opened. */
+static inline void change_world(struct world *self, const struct answer_frame *answer)
 {
-    floats_change(self, answer->world);
+    uint64_t status = READ(mstatus);
+    struct registers *next = registers_of(answer->hart, answer->world);
+    floats_change(self, next, status);
     self->number = answer->world;
-    self->registers = registers_of(answer->hart, answer->world);
-    self->bank = answer->world ? (const struct bank *)enclave_banks[answer->world] : &host_bank;
+    self->registers = next;
     self->is_stale = 1;
-    control_write(&answer->control);
+    if (answer->world) {
+        self->bank = (const struct bank *)enclave_banks[answer->world];
+        control_enter(self, (const struct control_words *)&answer->lists[answer->list_count], status);
+    } else {
+        self->bank = &host_bank;
+        control_leave(self);
+    }
 }
 
 /* No world reaches pages that are made zero: they were an enclave's, and are closed to the host until its entries change. */
 static __attribute__((noinline)) int64_t written_answer(struct world *self, const struct answer_frame *answer, uint64_t n)
 {
-    if (answer->list_count > 2 || n != offsetof(struct answer_frame, lists) + answer->list_count * sizeof answer->lists[0])
+    if (answer->list_count > 2 || n != sizeof *answer + answer->list_count * sizeof answer->lists[0] + 8 * answer->word_count)
         return -1;
+    if (answer->world && answer->world != self->number && answer->word_count != 9)
+        return -1; /* it has no control words */
     if (answer->zero_count)
         private_end(answer->zero_first, answer->zero_count);
     if (answer->list_count)
@@ -133,8 +141,6 @@ static __attribute__((noinline)) int64_t written_answer(struct world *self, cons
     if (self->number != answer->world)
         change_world(self, answer);
     registers_change(answer);
-    if (answer->list_count || TELLS_EACH)
-        answered(answer);
     return (int64_t)n;
 }
 
@@ -144,7 +150,7 @@ static __attribute__((noinline)) int64_t written_measure(const struct measure_fr
     next = PAGES;
     next_page = asked->first;
     pages_left = asked->count;
-    floats_begin(worlds[this_hart()].registers->x[11]);
+    floats_begin(registers_of(0, worlds[this_hart()].registers->x[11]));
     private_begin(asked->first, asked->count);
     return sizeof *asked;
 }
@@ -154,7 +160,7 @@ int64_t write(uint64_t descriptor, const void *from, uint64_t n)
     const uint64_t *words = from;
     if ((int)descriptor != 1 || !is_aligned(from))
         return -1;
-    if (n >= offsetof(struct answer_frame, lists) && *words == TAG_ANSWER)
+    if (n >= sizeof(struct answer_frame) && *words == TAG_ANSWER)
         return written_answer(&worlds[words[1]], from, n);
     if (n == sizeof(struct measure_frame) && *words == TAG_MEASURE)
         return written_measure(from);

@@ -9,7 +9,7 @@
  * monitor itself is told from a world's.
  */
     .equ    PC, 32 * 8          # of a register set
-    .equ    REGISTERS, 1872     # of a struct world: the end of the hart's own stack, and where the set of its world is
+    .equ    REGISTERS, 1808     # of a struct world: the end of the hart's own stack, and where the set of its world is
     .equ    CAUSE, REGISTERS + 8
     .equ    VALUE, REGISTERS + 16
     .equ    IS_OUT, REGISTERS + 24

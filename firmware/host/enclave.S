@@ -18,7 +18,7 @@ enclave:
     li      a7, EXTENSION
     li      a6, STOP
     ecall
-    li      s2, 100000000
+    li      s2, 500000000
 1:  addi    s2, s2, -1
     bnez    s2, 1b
     ld      a0, (s0)

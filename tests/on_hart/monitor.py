@@ -288,8 +288,8 @@ def sets_of(image, payload):
     """What a board says on which two enclaves have exited, and whether nothing of their registers is left in the monitor's memory."""
     with Wired(image, payload, 1) as board:
         board.has_ended(20)
-        # (after the sets of four hosts, of x1 to x31 and the program counter)
-        left = [board.word(symbol(image, "register_sets") + 264 * (4 + enclave) + 8 * word) for enclave in (0, 1) for word in range(1, 33)]
+        # (after the sets of four hosts, of x1 to x31, the program counter and floats)
+        left = [board.word(symbol(image, "register_sets") + 528 * (4 + enclave) + 8 * word) for enclave in (0, 1) for word in range(1, 33)]
     return board.said, not any(left)
 
 
