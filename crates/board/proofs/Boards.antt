@@ -15,7 +15,8 @@ use Rattle.trap_server.specs.Words.{word_at}
 use Rattle.monitor_core.specs.States.{MonitorState, opening_monitor}
 use Rattle.board.specs.Board.{Board, BoardEvent, BoardRun, DoesAccess, DoesCompute, DoesTrap, Floats, DoesWrite, HappensOn, access, computed, trapped, wrote}
 use Rattle.board.specs.Board.{booted, booted_board, happened, saved}
-use Rattle.board.specs.Headline.{AreMeasured, BoardHeadline, EachKeeps, HaveOwnControl, IsServed, read_on, written_on}
+use Rattle.board.specs.Headline.{AreMeasured, BoardHeadline, EachKeeps, HaveOwnControl, IsServed}
+use Rattle.board.specs.Headline.{control_by, floats_of, host_control, read_on, written_on, wrote_last}
 use Rattle.board.proofs.Fresh.{measured_access, measured_trap}
 use Rattle.board.proofs.Here.{call_there}
 use Rattle.sbi_decode.specs.Registers.{RegisterFile}
@@ -24,7 +25,7 @@ use Rattle.sbi_decode.specs.declared.world.World.TheVariants.{Host, Enclave as I
 use Rattle.trap_server.specs.Sets.{with_sets}
 use Rattle.trap_server.specs.declared.words.ControlWords.{ControlWords}
 use Rattle.board.proofs.Accessed.{StepsPromise, access_kept}
-use Rattle.board.proofs.Control.{wrote_kept, wrote_own}
+use Rattle.board.proofs.Control.{wrote_host, wrote_own}
 use Rattle.board.proofs.ControlKept.{control_kept}
 use Rattle.board.proofs.Floats.{computed_kept, runs_there}
 use Rattle.board.proofs.FloatsKept.{floats_kept}
@@ -65,9 +66,9 @@ module _ (law : FirmwareHolds) (steps : StepsPromise) (layout : PlatformLayout) 
 
   -- the headline of a board whose traps were served
   headline : (events : List BoardEvent) (board : Board) (run : BoardRun layout opened events board)
-      → IsServed layout opened (read_on run) (written_on run) board → HaveOwnControl board → AreMeasured board → EachKeeps run
-      → BoardHeadline layout opened events board run
-  headline events board run served control measured each =
+      → IsServed layout opened (read_on run) (written_on run) board → ((hart : ℕ) → host_control board hart ≡ wrote_last run hart)
+      → HaveOwnControl board → AreMeasured board → EachKeeps run → BoardHeadline layout opened events board run
+  headline events board run served hosts control measured each =
       let f = firmware (read_on run) (written_on run) board served in
       record {
         served = served;
@@ -78,6 +79,7 @@ module _ (law : FirmwareHolds) (steps : StepsPromise) (layout : PlatformLayout) 
         floats = λ hart low. sym (runs_there board hart f.worlds (subst (λ l. hart < l.harts) (sym f.platform) low));
         banks = λ hart low. subst (λ bytes. HasFewest bytes layout.limit (current_view board.monitor.table (board.monitor.worlds hart)))
             (sym (served.loads hart)) (f.banks hart low);
+        hosts = hosts;
         control = control;
         measured = measured;
         each = each;
@@ -123,17 +125,19 @@ module _ (law : FirmwareHolds) (steps : StepsPromise) (layout : PlatformLayout) 
       let kept = access_kept steps old hart a value said new before.table fewest x in
       headline (events ++ access hart a value said ∷ []) new (happened run (access hart a value said) x)
       (still_served (read_on run) (written_on run) old hart a value said new before.served x)
-      (subst HaveOwnControl (sym x.state) before.control)
+      (λ h. ap (λ b. host_control b h) x.state ∙ before.hosts h) (subst HaveOwnControl (sym x.state) before.control)
       (measured_access old hart a said new before.worlds x.known (ap (λ (b : Board). b.monitor) x.state) kept before.measured) (before.each, kept)
   by_event events old new run (computed hart floats) x before =
       headline (events ++ computed hart floats ∷ []) new (happened run (computed hart floats) x)
       (computed_served (read_on run) (written_on run) old hart floats new before.served x)
-      (subst HaveOwnControl (sym x.state) before.control) (subst AreMeasured (sym x.state) before.measured)
-      (before.each, computed_kept old hart floats new before.worlds x)
+      (λ h. ap (λ b. host_control b h) x.state ∙ before.hosts h) (subst HaveOwnControl (sym x.state) before.control)
+      (subst AreMeasured (sym x.state) before.measured) (before.each, computed_kept old hart floats new before.worlds x)
   by_event events old new run (wrote hart words) x before =
       headline (events ++ wrote hart words ∷ []) new (happened run (wrote hart words) x)
-      (wrote_served (read_on run) (written_on run) old hart words new before.served x) (wrote_own old hart words new x before.control)
-      (subst AreMeasured (sym x.state) before.measured) (before.each, wrote_kept old hart words new x)
+      (wrote_served (read_on run) (written_on run) old hart words new before.served x)
+      (λ h. wrote_host old hart words new x h ∙ ap (control_by (wrote hart words) old h) (before.hosts h))
+      (wrote_own old hart words new x before.control) (subst AreMeasured (sym x.state) before.measured)
+      (before.each, λ who. ap (λ b. floats_of b who) x.state)
   by_event events old new run (trapped trap frame read question answered) x before =
       let next = next_served (read_on run) (written_on run) old trap frame read question answered new before.served x in
       let f = firmware (read_on run ++ (frame ++ read)) (written_on run ++ (answered ++ question)) new next in
@@ -145,7 +149,8 @@ module _ (law : FirmwareHolds) (steps : StepsPromise) (layout : PlatformLayout) 
       let floats = floats_kept old trap frame read question answered new harts before.table f.table before.worlds f.worlds x k in
       let control = control_kept old trap frame read question answered new harts f.table f.worlds x k in
       headline (events ++ trapped trap frame read question answered ∷ []) new (happened run (trapped trap frame read question answered) x) next
-      (control.1 before.control) (measured_trap old trap frame read question answered new before.table x kept before.measured) (
+      (λ h. control.0.hosts h ∙ before.hosts h) (control.1 before.control)
+      (measured_trap old trap frame read question answered new before.table x kept before.measured) (
         before.each,
         (
           kept,
@@ -163,5 +168,5 @@ module _ (law : FirmwareHolds) (steps : StepsPromise) (layout : PlatformLayout) 
   board_kept _ _ (booted memory floats kept control hosts) =
       headline [] (booted_board layout opened memory floats kept control hosts) (booted memory floats kept control hosts)
       (record { served = no_trap; keeps = λ world. refl; loads = λ hart. refl })
-      (λ hart id is. let z : Host ≡ InEnclave id = is in absurd cc) (λ id e live fresh. absurd (none_live layout id e live)) tt
+      (λ hart. refl) (λ hart id is. let z : Host ≡ InEnclave id = is in absurd cc) (λ id e live fresh. absurd (none_live layout id e live)) tt
   board_kept _ _ (happened {events = events} {old = old} {new = new} run event happens) = by_event events old new run event happens (board_kept events old run)

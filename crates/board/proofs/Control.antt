@@ -1,17 +1,15 @@
 -- Control words where a world writes them, and over a trap by what is said.
-use Rattle.std.proofs.Common.{◌≡◌, ◌≢◌, ◌∙◌, ℕ, ◌==◌, Bool, true, false, if◌then◌else◌, Option, Some, None, refl, ap, sym, subst}
+use Rattle.std.proofs.Common.{◌≡◌, ◌∙◌, ℕ, ◌==◌, ◌&&◌, Bool, true, false, if◌then◌else◌, Option, Some, None, refl, ap, sym, subst}
 use Rattle.std.proofs.lemmas.Bool.{eq-eqb, eqb-true, ne_eqb}
-use Rattle.sbi_decode.specs.Runners.{Runner, HostOf, runner_of}
-use Rattle.sbi_decode.specs.declared.world.World.{World}
-use Rattle.sbi_decode.specs.declared.world.World.TheVariants.{Host, Enclave as InEnclave}
+use Rattle.sbi_decode.specs.Runners.{Runner}
+use Rattle.sbi_decode.specs.declared.world.World.TheVariants.{Enclave as InEnclave}
 use Rattle.monitor_core.specs.Changes.{is_host, is_same}
-use Rattle.monitor_core.specs.Switches.{runner_on}
 use Rattle.monitor_core.proofs.Cases.{both}
 use Rattle.monitor_core.proofs.Put.{same_not, same_self}
 use Rattle.trap_server.specs.Tables.{enclave_words}
 use Rattle.trap_server.specs.declared.words.ControlWords.{ControlWords}
-use Rattle.board.specs.Board.{Board, ChangesControl, DoesWrite, MayWrite, framed}
-use Rattle.board.specs.Headline.{HaveOwnControl, KeepsOtherControl, floats_of, host_control}
+use Rattle.board.specs.Board.{Board, ChangesControl, DoesWrite, MayWrite, framed, wrote}
+use Rattle.board.specs.Headline.{HaveOwnControl, control_by, host_control}
 
 -- a hart has these words of an enclave's, and keeps those for its host
 abbrev pub IsOwn : ControlWords → ControlWords → Type 0
@@ -62,23 +60,20 @@ module _ (old : Board) (hart : ℕ) (words : ControlWords) where
   abbrev after : ℕ → ControlWords
   after h = if h == hart then words else old.control h
 
-  -- where an enclave runs on a hart no host's words change there
-  other_stays : (w : World) (other : ℕ) → old.monitor.worlds other ≡ w → HostOf other ≢ runner_of other w
-      → (if is_host (old.monitor.worlds other) then after other else old.hosts other) ≡ host_control old other
-  other_stays Host other is differ = absurd (differ refl)
-  other_stays (InEnclave id) other is differ = ap (λ w. if is_host w then after other else old.hosts other) is
-      ∙ sym (ap (λ w. if is_host w then old.control other else old.hosts other) is)
+  -- of hosts the one that runs there has these, and each other what it had
+  here : (b host : Bool) (has kept : ControlWords)
+      → (if host then (if b then words else has) else kept) ≡ (if b && host then words else (if host then has else kept))
+  here true true has kept = refl
+  here true false has kept = refl
+  here false host has kept = refl
 
-  pub wrote_kept : (new : Board) → DoesWrite old hart words new → KeepsOtherControl old hart words new
-  wrote_kept new x = record {
-    own = λ host. ap (λ b. host_control b hart) x.state ∙ ap (λ w. if is_host w then after hart else old.hosts hart) host
-        ∙ ap (λ b. if b then words else old.control hart) (eq-eqb hart hart refl);
-    others = λ other differ. ap (λ b. host_control b other) x.state ∙ both (other == hart)
-        (λ here. other_stays (old.monitor.worlds other) other refl
-        (subst (λ h. HostOf other ≢ runner_on old.monitor h) (sym (eqb-true other hart here)) differ))
-        (λ far. ap (λ b. if is_host (old.monitor.worlds other) then (if b then words else old.control other) else old.hosts other) far);
-    floats = λ who. ap (λ b. floats_of b who) x.state;
-  }
+  pub wrote_host : (new : Board) → DoesWrite old hart words new → (h : ℕ)
+      → host_control new h ≡ control_by (wrote hart words) old h (host_control old h)
+  wrote_host new x h = ap (λ b. host_control b h) x.state ∙ here (h == hart) (is_host (old.monitor.worlds h)) (old.control h) (old.hosts h)
+      ∙ both (h == hart)
+      (λ yes. ap (λ k. if h == hart && is_host (old.monitor.worlds k) then words else host_control old h) (eqb-true h hart yes))
+      (λ no. ap (λ b. if b && is_host (old.monitor.worlds h) then words else host_control old h) no
+      ∙ sym (ap (λ b. if b && is_host (old.monitor.worlds hart) then words else host_control old h) no))
 
   -- an enclave's stay but for status
   own_stays : (id : ℕ) → old.monitor.worlds hart ≡ InEnclave id → MayWrite (old.monitor.worlds hart) (old.control hart) words

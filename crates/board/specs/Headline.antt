@@ -1,12 +1,12 @@
 -- What holds of a board after boot and any list of events.
 use Rattle.std.specs.Prelude.{◌≡◌, ◌≢◌, ◌⊎◌, ℕ, ◌/◌, ◌<◌, true, if◌then◌else◌, List, [], ◌++◌}
-use Rattle.std.specs.Prelude.{zero, suc, None, Result, Ok, Err, ⊤}
+use Rattle.std.specs.Prelude.{zero, suc, ◌==◌, ◌&&◌, None, Result, Ok, Err, ⊤}
 use Rattle.pmp_match.specs.declared.access.Access.{Access}
 use Rattle.pmp_match.specs.Accesses.{Reaches}
 use Rattle.pmp_match.specs.declared.access.Kind.TheVariants.{Store}
 use Rattle.pmp_match.specs.declared.cause.Cause.{Cause}
 use Rattle.sbi_decode.specs.declared.world.World.TheVariants.{Host, Enclave as InEnclave}
-use Rattle.sbi_decode.specs.Runners.{Runner, HostOf, EnclaveOf, runner_of}
+use Rattle.sbi_decode.specs.Runners.{Runner, EnclaveOf, runner_of}
 use Rattle.sbi_decode.specs.declared.world.World.{World}
 use Rattle.measurement.specs.Requests.{is_private}
 use Rattle.platforms.specs.Platform.{PlatformLayout}
@@ -70,8 +70,7 @@ pub record IsOwnStore (board : Board) (hart : ℕ) (a : Access) (said : Result (
 -- what holds of each access: the entries of its hart say what the view of its world says. An access
 -- that reaches a page which is private to an enclave, by any other world, is a fault, and so is any
 -- that reaches a page of the monitor. A byte of such a private page stays, but for the enclave's
--- own stores, and a byte of the monitor's pages stays. Nobody's registers of floating point change,
--- and no host's control words
+-- own stores, and a byte of the monitor's pages stays. Nobody's registers of floating point change
 pub record KeepsAccess (old : Board) (hart : ℕ) (a : Access) (said : Result (Unit {0}) Cause)
     (new : Board) : Type 0 where
   pub by_view : said ≡ verdict (current_view old.monitor.table (old.monitor.worlds hart)) a
@@ -83,24 +82,13 @@ pub record KeepsAccess (old : Board) (hart : ℕ) (a : Access) (said : Result (U
       → (new.memory byte ≡ old.memory byte) ⊎ IsOwnStore old hart a said id byte
   pub monitor : (byte : ℕ) → IsMonitorByte old byte → new.memory byte ≡ old.memory byte
   pub floats : (who : Runner) → floats_of new who ≡ floats_of old who
-  pub control : (other : ℕ) → host_control new other ≡ host_control old other
 
 -- what holds of each computation: it changes registers of floating point of the one who runs there,
--- and of nobody else, and no host's control words
+-- and of nobody else
 pub record KeepsOtherFloats (old : Board) (hart : ℕ) (floats : Floats) (new : Board) : Type 0 where
   pub own : floats_of new (runner_on old.monitor hart) ≡ floats
   pub others : (who : Runner) → who ≢ runner_on old.monitor hart
       → floats_of new who ≡ floats_of old who
-  pub control : (other : ℕ) → host_control new other ≡ host_control old other
-
--- what holds of each write of control words: a host that runs there has these, and no other host's
--- change, nor anyone's registers of floating point
-pub record KeepsOtherControl (old : Board) (hart : ℕ) (words : ControlWords) (new : Board) :
-    Type 0 where
-  pub own : old.monitor.worlds hart ≡ Host → host_control new hart ≡ words
-  pub others : (other : ℕ) → HostOf other ≢ runner_on old.monitor hart
-      → host_control new other ≡ host_control old other
-  pub floats : (who : Runner) → floats_of new who ≡ floats_of old who
 
 -- an enclave that was not there before, and is now
 abbrev pub IsNew : Board → Board → Runner → Type 0
@@ -151,11 +139,11 @@ pub record KeepsControl (old : Board) (trap : Trap) (new : Board) : Type 0 where
   pub stays : (hart : ℕ) → new.monitor.worlds hart ≡ old.monitor.worlds hart
       → new.control hart ≡ old.control hart
 
--- what holds of an event
+-- what holds of an event. A write of control words changes nobody's registers of floating point
 abbrev pub Keeps : BoardEvent → Board → Board → Type 0
 Keeps (access hart a value said) old new = KeepsAccess old hart a said new
 Keeps (computed hart floats) old new = KeepsOtherFloats old hart floats new
-Keeps (wrote hart words) old new = KeepsOtherControl old hart words new
+Keeps (wrote hart words) old new = (who : Runner) → floats_of new who ≡ floats_of old who
 Keeps (trapped trap frame read question answered) old new = KeepsMemory old new
     × KeepsFloats old new × KeepsSets old trap new × KeepsControl old trap new
 
@@ -208,13 +196,26 @@ HaveOwnControl board = (hart id : ℕ) → board.monitor.worlds hart ≡ InEncla
     })
     × ((board.control hart).mode ≡ 0)
 
+-- the control words of a host after an event: where it wrote some itself, these
+abbrev pub control_by : BoardEvent → Board → ℕ → ControlWords → ControlWords
+control_by (wrote at words) old hart had =
+    if hart == at && is_host (old.monitor.worlds at) then words else had
+control_by _ old hart had = had
+
+-- those that the host of a hart wrote last; before it wrote any, those with which its hart began
+abbrev pub wrote_last : {layout : PlatformLayout} {opened : List ℕ} {events : List BoardEvent}
+    {board : Board} → BoardRun layout opened events board → ℕ → ControlWords
+wrote_last (booted memory floats kept control hosts) hart = control hart
+wrote_last (happened {old = old} run event happens) hart =
+    control_by event old hart (wrote_last run hart)
+
 -- after any events: the traps among them are a run of the loop, by what was read and written. The
 -- table is sound, and the platform is the one that was booted. Each hart is in the host's world or
 -- in that of an enclave that is Running, and each of these runs on just one; none is to be woken.
 -- The entries that each hart has loaded mean the view of its world, by the fewest that do, and in
--- its registers of floating point it has what its world has. Where an enclave runs it has an
--- enclave's control words. What was measured of an enclave is what it will first run. And what each
--- event kept
+-- its registers of floating point it has what its world has. Each host has the control words that
+-- it wrote last, and an enclave that runs those of an enclave. What was measured of an enclave is
+-- what it will first run. And what each event kept
 pub record BoardHeadline (layout : PlatformLayout) (opened : List ℕ) (events : List BoardEvent)
     (board : Board) (run : BoardRun layout opened events board) : Type 0 where
   pub served : IsServed layout opened (read_on run) (written_on run) board
@@ -227,6 +228,7 @@ pub record BoardHeadline (layout : PlatformLayout) (opened : List ℕ) (events :
       (current_view board.monitor.table (board.monitor.worlds hart))
   pub floats : (hart : ℕ) → hart < layout.harts
       → board.floats hart ≡ floats_of board (runner_on board.monitor hart)
+  pub hosts : (hart : ℕ) → host_control board hart ≡ wrote_last run hart
   pub control : HaveOwnControl board
   pub measured : AreMeasured board
   pub each : EachKeeps run
