@@ -6,15 +6,15 @@ use std::process::Abort;
 use trap_server::{EndReason, ServeFault, serve_traps};
 
 /// The bytes of an answer before its lists, of which byte 72 says how many there are, and those of a list.
-const FRONT: usize = 256;
+const FRONT: usize = 184;
 
 const LIST: usize = 584;
 
 const END: &[u8] = b"end\0\0\0\0\0\x01\0\0\0\0\0\0\0\0\0\0\0\0\0\0\0";
 
 /// A platform of one hart, an interrupt there, and an invalid frame.
-fn frames() -> [u8; 1656] {
-    let mut bytes = [0; 1656];
+fn frames() -> [u8; 1528] {
+    let mut bytes = [0; 1528];
     bytes[..8].copy_from_slice(b"platform");
     bytes[8] = 1;
     bytes[16] = 16;
@@ -24,7 +24,6 @@ fn frames() -> [u8; 1656] {
     bytes[59] = 0x80;
     bytes[67] = 8;
     bytes[1336..1340].copy_from_slice(b"stop");
-    bytes[1416..1423].copy_from_slice(b"control");
     bytes
 }
 

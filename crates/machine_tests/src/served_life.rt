@@ -8,7 +8,7 @@ use std::alloc::Global;
 use std::process::Abort;
 
 /// The words of an answer before its lists, and those of a list.
-const FRONT: u64 = 32;
+const FRONT: u64 = 23;
 
 const LIST: u64 = 73;
 
@@ -25,8 +25,6 @@ const PLATFORM_TAG: u64 = 0x6d72_6f66_7461_6c70;
 const CALL_TAG: u64 = 0x6c6c_6163;
 
 const STOP_TAG: u64 = 0x706f_7473;
-
-const CONTROL_TAG: u64 = 0x006c_6f72_746e_6f63;
 
 const MEASURE_TAG: u64 = 0x0065_7275_7361_656d;
 
@@ -70,7 +68,7 @@ fn put_trap(
     function: u64,
     arguments: [u64; 3],
 ) {
-    let mut words = [0; 20];
+    let mut words = [0; 12];
     words[0] = tag;
     words[1] = hart;
     words[2] = arguments[0];
@@ -78,7 +76,6 @@ fn put_trap(
     words[4] = arguments[2];
     words[8] = function;
     words[9] = EXTENSION;
-    words[10] = CONTROL_TAG;
     put_words(rt, frames, &words);
 }
 
@@ -106,27 +103,29 @@ fn after<'a>(rt: &impl Abort, alloc: Global, written: &'a [u8], words: &[u64]) -
 }
 
 /// Takes an answer: its hart, its world, the status and the value, how many entries there are, the pages to make zero, the
-/// harts that are woken, and how many lists of entries are new, at most two.
-fn after_answer<'a>(rt: &impl Abort, alloc: Global, written: &'a [u8], head: [u64; 9]) -> &'a [u8] {
+/// harts that are woken, how many lists of entries are new, at most two, and how many control words it has, at most nine.
+fn after_answer<'a>(rt: &impl Abort, alloc: Global, written: &'a [u8], head: [u64; 10]) -> &'a [u8] {
     let rest = after(rt, alloc, written, &[ANSWER_TAG]);
     let rest = after(rt, alloc, rest, &head);
     assert!(rt; head[8] <= 2);
-    let bytes = (8 * (FRONT - 10 + LIST * head[8])) as usize;
+    assert!(rt; head[9] <= 9);
+    let bytes = (8 * (FRONT - 11 + LIST * head[8] + head[9])) as usize;
     assert!(rt; rest.len() >= bytes);
     &rest[bytes..]
 }
 
 /// The answers in turn. The host's list is new at boot, after the creation, with the enclave's, and after the destruction. The
-/// pages of the creation are asked for once, after its answer, and those of the destruction named once.
+/// pages of the creation are asked for once, after its answer, and those of the destruction named once. Control words come where the
+/// enclave is entered, on each hart.
 fn answers_a_life(rt: &impl Abort, alloc: Global, written: &[u8]) {
-    let rest = after_answer(rt, alloc, written, [0, 0, 0, 0, 3, 0, 0, 2, 1]);
-    let rest = after_answer(rt, alloc, rest, [0, 0, 0, 1, 4, 0, 0, 2, 2]);
+    let rest = after_answer(rt, alloc, written, [0, 0, 0, 0, 3, 0, 0, 2, 1, 0]);
+    let rest = after_answer(rt, alloc, rest, [0, 0, 0, 1, 4, 0, 0, 2, 2, 0]);
     let rest = after(rt, alloc, rest, &[MEASURE_TAG, PAGE, 1]);
-    let rest = after_answer(rt, alloc, rest, [0, 1, 0, 0, 1, 0, 0, 0, 0]);
-    let rest = after_answer(rt, alloc, rest, [0, 0, 0, 0, 4, 0, 0, 0, 0]);
-    let rest = after_answer(rt, alloc, rest, [1, 1, 0, 0, 1, 0, 0, 0, 0]);
-    let rest = after_answer(rt, alloc, rest, [1, 0, 0, 7, 4, 0, 0, 0, 0]);
-    let rest = after_answer(rt, alloc, rest, [0, 0, 0, 0, 3, PAGE, 1, 2, 1]);
+    let rest = after_answer(rt, alloc, rest, [0, 1, 0, 0, 1, 0, 0, 0, 0, 9]);
+    let rest = after_answer(rt, alloc, rest, [0, 0, 0, 0, 4, 0, 0, 0, 0, 0]);
+    let rest = after_answer(rt, alloc, rest, [1, 1, 0, 0, 1, 0, 0, 0, 0, 9]);
+    let rest = after_answer(rt, alloc, rest, [1, 0, 0, 7, 4, 0, 0, 0, 0, 0]);
+    let rest = after_answer(rt, alloc, rest, [0, 0, 0, 0, 3, PAGE, 1, 2, 1, 0]);
     assert!(rt; rest.is_empty());
 }
 
