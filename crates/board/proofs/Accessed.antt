@@ -31,7 +31,7 @@ use Rattle.hart_sim.specs.States.{MachineState, awoken}
 use Rattle.hart_sim.specs.Steps.{Accesses, Step, TakesEffect, verdict}
 use Rattle.trap_server.specs.Firmware.{HasFewest}
 use Rattle.board.specs.Board.{Board, DoesAccess, memory_after, put_by}
-use Rattle.board.specs.Headline.{IsMonitorByte, IsOwnStore, KeepsAccess, floats_of}
+use Rattle.board.specs.Headline.{IsMonitorByte, IsOwnStore, KeepsAccess, floats_of, host_control}
 use Rattle.board.proofs.Judged.{judged}
 
 -- what a list says that means a view, the view says
@@ -179,4 +179,5 @@ access_kept law old hart a value said new right fewest x =
           ];
       monitor = λ byte own. ap (λ (b : Board). b.memory byte) x.state ∙ closed_stays said old.memory a value byte (closed byte own);
       floats = λ who. ap (λ b. floats_of b who) x.state;
+      control = λ other. ap (λ b. host_control b other) x.state;
     }

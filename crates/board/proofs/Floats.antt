@@ -9,7 +9,7 @@ use Rattle.monitor_core.specs.Worlds.{ArePlaced}
 use Rattle.monitor_core.proofs.Cases.{both}
 use Rattle.monitor_core.proofs.Put.{same_not, same_self}
 use Rattle.board.specs.Board.{Board, ChangesFloats, DoesCompute, Floats, SaysMade, no_floats}
-use Rattle.board.specs.Headline.{KeepsOtherFloats, floats_below, floats_of}
+use Rattle.board.specs.Headline.{KeepsOtherFloats, floats_below, floats_of, host_control}
 use Rattle.board.proofs.Runners.{alone, same_is}
 
 module _ (worlds : ℕ → World) (floats : ℕ → Floats) (kept : Runner → Floats) (who : Runner) where
@@ -75,6 +75,7 @@ computed_kept old hart floats new placed x =
           let far : who ≢ runner_of h (worlds h) = λ is. other (is ∙ ap (λ k. runner_of k (worlds k)) (eqb-true h hart here)) in
           inr (far, far))
           (λ far. inl (refl, ap (λ b. if b then floats else old.floats h) far)));
+      control = λ other. ap (λ b. host_control b other) x.state;
     }
 
 -- a trap on a hart of that many

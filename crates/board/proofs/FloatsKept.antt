@@ -16,13 +16,14 @@ use Rattle.monitor_core.specs.Switches.{runner_on}
 use Rattle.monitor_core.specs.Worlds.{ArePlaced}
 use Rattle.trap_server.specs.Answered.{head_of}
 use Rattle.trap_server.specs.Firmware.{KeepsTrap}
+use Rattle.trap_server.specs.Service.{given_at}
 use Rattle.trap_server.specs.Words.{word_at}
 use Rattle.trap_server.specs.declared.trap.Trap.{Trap}
 use Rattle.board.proofs.Here.{call_there, served_here}
 use Rattle.board.specs.Board.{Board, ChangesFloats, DoesTrap, runner_by, saved}
 use Rattle.board.specs.Headline.{KeepsFloats, floats_of}
 use Rattle.board.proofs.Floats.{made_zero, trap_stays}
-use Rattle.board.proofs.Named.{says}
+use Rattle.board.proofs.Named.{says, whole_is}
 use Rattle.board.proofs.New.{new_said, said_new}
 
 -- the number of a world names who runs there
@@ -50,32 +51,42 @@ fresh_waits s id e hart placed known live fresh is = by_world (s.worlds hart) (p
         let one : current.0 ≡ e = same_Some current.0 e (sym current.1 ∙ subst (λ n. Live s.table n e) (ap number same) live) in
         let z : Running ≡ Fresh = sym current.2 ∙ ap (λ (f : Enclave). f.state) one ∙ fresh in cc
 
+-- the answer names who goes on
+pub next_is :
+    (old : Board) (trap : Trap) (frame read question answered : List ℕ) (new : Board) → new.monitor.table.layout.harts ≡ old.monitor.table.layout.harts
+    → IsTable new.monitor.table → ArePlaced new.monitor → (x : DoesTrap old trap frame read question answered new)
+    → KeepsTrap (saved old trap) trap x.changes read question answered new.monitor
+    → runner_by trap.hart (word_at answered 2) ≡ runner_on new.monitor trap.hart
+next_is old trap frame read question answered new same sound places x k =
+    let hart = trap.hart in
+    let a = k.says in
+    let given = given_at (saved old trap) new.monitor trap in
+    let word : word_at answered 2 ≡ world_number (new.monitor.worlds hart) % 2 ^ 64 =
+    ap (λ b. word_at b 2) (whole_is new.monitor given hart k.answer k.cleared k.woken k.lists x.changes answered a)
+    ∙ (says (head_of new.monitor hart k.answer a.used k.cleared k.woken k.lists given) x.changes a.puts.are given).world_is in
+    named_by new.monitor.table (new.monitor.worlds hart) hart (word_at answered 2) sound
+    (places.current hart (subst (λ n. hart < n) (sym same) x.is_trap.known)) word
+
 pub floats_kept :
     (old : Board) (trap : Trap) (frame read question answered : List ℕ) (new : Board) → new.monitor.table.layout.harts ≡ old.monitor.table.layout.harts
     → IsTable old.monitor.table → IsTable new.monitor.table → ArePlaced old.monitor → ArePlaced new.monitor
     → (x : DoesTrap old trap frame read question answered new)
-    → KeepsTrap (saved old trap) old.hosts trap x.changes read question answered new.monitor new.hosts → KeepsFloats old new
+    → KeepsTrap (saved old trap) trap x.changes read question answered new.monitor → KeepsFloats old new
 floats_kept old trap frame read question answered new same right sound placed places x k =
     let hart = trap.hart in
-    let a = k.says in
-    let word : word_at answered 2 ≡ world_number (new.monitor.worlds hart) % 2 ^ 64 = ap (λ b. word_at b 2) a.puts.put
-    ∙ (says (head_of new.monitor hart k.answer a.used k.cleared k.woken k.lists) x.changes k.given a.puts.are).world_is in
     let known : hart < old.monitor.table.layout.harts = x.is_trap.known in
-    let next : runner_by hart (word_at answered 2) ≡ runner_on new.monitor hart = named_by new.monitor.table (new.monitor.worlds hart) hart
-    (word_at answered 2) sound (places.current hart (subst (λ n. hart < n) (sym same) known)) word in
+    let next = next_is old trap frame read question answered new same sound places x k in
     let changes : ChangesFloats old hart (runner_on old.monitor hart) (runner_on new.monitor hart) question answered new =
     subst (λ who. ChangesFloats old hart (runner_on old.monitor hart) who question answered new) next x.floats in
     let one = served_here old trap frame read question answered new x in
     let s = saved old trap in
-    let given = one.given in
-    let step = one.step in
     let there = call_there old trap in
     record {
       begins = λ who is.
-          let said = new_said trap.event s trap given x.changes read question answered new.monitor right there step is.0 is.1 is.3 is.4 in
+          let said = new_said trap.event s trap x.changes read question answered new.monitor right there one is.0 is.1 is.3 is.4 in
           ap (floats_of new) is.2
           ∙ made_zero old new hart question answered known same placed places k.stays changes (EnclaveOf is.0) said.0
           (λ h low. fresh_waits new.monitor is.0 is.1 h places low is.4 said.1);
       stays = λ who none. trap_stays old new hart question answered known same placed places k.stays changes who
-          (λ said. none (said_new trap.event s trap given x.changes read question answered new.monitor right there step who said));
+          (λ said. none (said_new trap.event s trap x.changes read question answered new.monitor right there one who said));
     }

@@ -33,7 +33,6 @@ use Rattle.pmp_match.specs.declared.cause.Cause.{Cause}
 use Rattle.trap_server.specs.declared.trap.TrapEvent.{TrapEvent}
 use Rattle.trap_server.specs.declared.trap.TrapEvent.TheVariants as traps
 use Rattle.trap_server.specs.declared.trap.Trap.{Trap}
-use Rattle.trap_server.specs.declared.words.ControlWords.{ControlWords}
 use Rattle.monitor_core.specs.declared.set_changes.SetChanges.{SetChanges}
 use Rattle.trap_server.specs.Service.{ServesAs}
 use Rattle.board.proofs.Here.{served_here}
@@ -133,16 +132,16 @@ fresh_irq (InEnclave k) s hart new id e live fresh x = turned s.table x.0 k id S
     (subst (λ t. Live t id e) (ap (λ y. y.table) x.2) live) fresh
 
 fresh_served :
-    (event : TrapEvent) (s : MonitorState) (trap : Trap) (given : ControlWords) (changes : SetChanges) (read question answered : List ℕ)
+    (event : TrapEvent) (s : MonitorState) (trap : Trap) (changes : SetChanges) (read question answered : List ℕ)
     (new : MonitorState) (id : ℕ) (e : Enclave)
     → IsTable s.table → Live new.table id e → e.state ≡ Fresh
-    → ServesAs event s trap given changes read question answered new → Live s.table id e ⊎ Absent s.table id
-fresh_served traps.Call s trap given changes read question answered new id e right live fresh x =
+    → ServesAs event s trap changes read question answered new → Live s.table id e ⊎ Absent s.table id
+fresh_served traps.Call s trap changes read question answered new id e right live fresh x =
     let file = past_call (running_registers s trap.hart) in
     let a = x.answers in
     let now : Live a.mid.table id e = subst (λ (y : MonitorState). Live y.table id e) a.woken live in
     fresh_call (call_of file) (λ parts. x.digest) (with_running s trap.hart file) trap.hart x.answer a.cleared a.mid id e right now fresh a.step
-fresh_served traps.Stop s trap given changes read question answered new id e right live fresh x =
+fresh_served traps.Stop s trap changes read question answered new id e right live fresh x =
     let now : Live x.mid.table id e = subst (λ (y : MonitorState). Live y.table id e) x.woken live in
     inl (fresh_irq (s.worlds trap.hart) s trap.hart x.mid id e now fresh x.step)
 
@@ -165,17 +164,17 @@ kept_call call digests s hart answer pages new id e none live x other g was gone
     ]
 
 none_gone :
-    (event : TrapEvent) (s : MonitorState) (trap : Trap) (given : ControlWords) (changes : SetChanges) (read question answered : List ℕ)
+    (event : TrapEvent) (s : MonitorState) (trap : Trap) (changes : SetChanges) (read question answered : List ℕ)
     (new : MonitorState) (id : ℕ) (e : Enclave)
-    → Absent s.table id → Live new.table id e → ServesAs event s trap given changes read question answered new
+    → Absent s.table id → Live new.table id e → ServesAs event s trap changes read question answered new
     → (other : ℕ) (g : Enclave) → Live s.table other g → Absent new.table other → ⊥
-none_gone traps.Call s trap given changes read question answered new id e none live x other g was gone =
+none_gone traps.Call s trap changes read question answered new id e none live x other g was gone =
     let file = past_call (running_registers s trap.hart) in
     let a = x.answers in
     let now : Live a.mid.table id e = subst (λ (y : MonitorState). Live y.table id e) a.woken live in
     let lost : Absent a.mid.table other = subst (λ (y : MonitorState). Absent y.table other) a.woken gone in
     kept_call (call_of file) (λ parts. x.digest) (with_running s trap.hart file) trap.hart x.answer a.cleared a.mid id e none now a.step other g was lost
-none_gone traps.Stop s trap given changes read question answered new id e none live x other g was gone =
+none_gone traps.Stop s trap changes read question answered new id e none live x other g was gone =
     let lost : Absent x.mid.table other = subst (λ (y : MonitorState). Absent y.table other) x.woken gone in
     lost_irq (s.worlds trap.hart) s trap.hart x.mid other g was lost x.step
 
@@ -234,7 +233,7 @@ pub stays_over_creation : (old : Board) (trap : Trap) (frame read question answe
     → Live new.monitor.table id e → new.memory byte ≡ old.memory byte
 stays_over_creation old trap frame read question answered new x k id byte e none live =
     let one = served_here old trap frame read question answered new x in
-    k.stays (λ other gone. none_gone trap.event (saved old trap) trap one.given x.changes read question answered new.monitor id e none live one.step
+    k.stays (λ other gone. none_gone trap.event (saved old trap) trap x.changes read question answered new.monitor id e none live one
     other gone.0 gone.1 gone.2) byte
 
 -- over a trap
@@ -242,7 +241,7 @@ pub measured_trap : (old : Board) (trap : Trap) (frame read question answered : 
     → DoesTrap old trap frame read question answered new → KeepsMemory old new → AreMeasured old → AreMeasured new
 measured_trap old trap frame read question answered new right x k before = λ id e live fresh.
     let one = served_here old trap frame read question answered new x in
-    elim (fresh_served trap.event (saved old trap) trap one.given x.changes read question answered new.monitor id e right live fresh one.step) [
+    elim (fresh_served trap.event (saved old trap) trap x.changes read question answered new.monitor id e right live fresh one) [
       | inl was ↦ before id e was fresh ∙ same_measured old.memory new.memory e.parts (λ byte own. sym (k.private id byte e e (was, own) (live, own)))
       | inr none ↦ k.digest id e none live ∙ same_measured old.memory new.memory e.parts
           (λ byte own. sym (stays_over_creation old trap frame read question answered new x k id byte e none live))

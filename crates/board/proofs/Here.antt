@@ -1,12 +1,11 @@
 -- A trap on a board, as it was served with the register sets that were there.
-use Rattle.std.proofs.Common.{◌≡◌, ◌∙◌, ℕ, List, ap, sym, subst}
+use Rattle.std.proofs.Common.{◌≡◌, ℕ, List, ap, sym, subst}
 use Rattle.sbi_decode.specs.Calls.{call_of}
 use Rattle.sbi_decode.specs.Registers.{RegisterFile}
 use Rattle.sbi_decode.specs.Runners.{Runner}
-use Rattle.monitor_core.specs.SetChanges.{changed}
 use Rattle.monitor_core.specs.States.{running_registers}
 use Rattle.monitor_core.proofs.Put.{put_there}
-use Rattle.trap_server.specs.Service.{ServesTrap}
+use Rattle.trap_server.specs.Service.{ServesAs}
 use Rattle.trap_server.specs.Sets.{with_sets}
 use Rattle.trap_server.specs.declared.trap.Trap.{Trap}
 use Rattle.board.specs.Board.{Board, DoesTrap, saved}
@@ -17,7 +16,7 @@ call_there old trap = ap call_of (put_there old.monitor trap.hart trap.registers
 
 pub served_here :
     (old : Board) (trap : Trap) (frame read question answered : List ℕ) (new : Board) (x : DoesTrap old trap frame read question answered new)
-    → ServesTrap (saved old trap) old.hosts trap x.changes read question answered new.monitor new.hosts
+    → ServesAs trap.event (saved old trap) trap x.changes read question answered new.monitor
 served_here old trap frame read question answered new x =
-    subst (λ (sets : Runner → RegisterFile). ServesTrap (saved old trap) old.hosts trap x.changes read question answered (with_sets new.monitor sets) new.hosts)
+    subst (λ (sets : Runner → RegisterFile). ServesAs trap.event (saved old trap) trap x.changes read question answered (with_sets new.monitor sets))
     (sym x.sets) (x.served (saved old trap).registers (call_there old trap))

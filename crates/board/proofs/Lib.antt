@@ -8,6 +8,8 @@ mod Trapped
 mod Fresh
 mod New
 mod FloatsKept
+mod Control
+mod ControlKept
 mod Boards
 mod FrameWords
 mod PageFrames

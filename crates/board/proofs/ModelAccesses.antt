@@ -38,8 +38,8 @@ module _ (layout : PlatformLayout) (opened : List ℕ) (seen : List BoardEvent) 
   -- an access, with what the view says of it
   acts : (a : Access) (value : ℕ) (said : Result (Unit {0}) Cause) → a.mode ≢ Machine → said ≡ verdict (current_view s.table (s.worlds hart)) a
       → (memory : ℕ → ℕ) → memory ≡ memory_after said s.bytes a value
-      → DoesAccess (board_of s on.registers on.marked on.hosts on.lists on.loaded) hart a value said
-      (record (board_of s on.registers on.marked on.hosts on.lists on.loaded) { memory = memory })
+      → DoesAccess (board_of s on.registers on.marked on.lists on.loaded on.control on.hosts) hart a value said
+      (record (board_of s on.registers on.marked on.lists on.loaded on.control on.hosts) { memory = memory })
   acts a value said below is memory same =
       let fewest = good.banks hart (subst (λ l. hart < l.harts) good.platform known) in
       record {
@@ -48,7 +48,7 @@ module _ (layout : PlatformLayout) (opened : List ℕ) (seen : List BoardEvent) 
         entries = fewest.entries;
         loaded = subst (λ l. MeansList (loaded_pairs (on.loaded hart) 0 (limit_number l.limit)) fewest.entries) (sym good.platform) fewest.list;
         judged = subst (Judges fewest.entries a) (sym is) (judged (current_view s.table (s.worlds hart)) fewest.entries a fewest.fewest.means below);
-        state = ap (λ m. record (board_of s on.registers on.marked on.hosts on.lists on.loaded) { memory = m }) same;
+        state = ap (λ m. record (board_of s on.registers on.marked on.lists on.loaded on.control on.hosts) { memory = m }) same;
       }
 
   -- an access that leaves this state, which differs in memory alone
@@ -57,22 +57,24 @@ module _ (layout : PlatformLayout) (opened : List ℕ) (seen : List BoardEvent) 
       → that.bytes ≡ memory_after said s.bytes a value
       → On (seen ++ access hart a value said ∷ []) that
   access_on a value said below is that table worlds registers bytes =
-      let put = record (board_of s on.registers on.marked on.hosts on.lists on.loaded) { memory = that.bytes } in
-      let same : put ≡ board_of that on.registers on.marked on.hosts on.lists on.loaded = λ i. record {
+      let put = record (board_of s on.registers on.marked on.lists on.loaded on.control on.hosts) { memory = that.bytes } in
+      let same : put ≡ board_of that on.registers on.marked on.lists on.loaded on.control on.hosts = λ i. record {
         monitor = record { table = sym table i; worlds = sym worlds i; registers = on.registers; marked = on.marked };
-        hosts = on.hosts;
         memory = that.bytes;
         lists = on.lists;
         loaded = on.loaded;
         floats = λ hart. no_floats;
         kept = λ who. no_floats;
+        control = on.control;
+        hosts = on.hosts;
       } in
       record {
         registers = on.registers;
         marked = on.marked;
-        hosts = on.hosts;
         lists = on.lists;
         loaded = on.loaded;
+        control = on.control;
+        hosts = on.hosts;
         runs = subst (BoardRun layout opened (seen ++ access hart a value said ∷ [])) same
             (happened on.runs (access hart a value said) (acts a value said below is that.bytes bytes));
         waits = λ who off.
@@ -106,9 +108,10 @@ module _ (layout : PlatformLayout) (opened : List ℕ) (seen : List BoardEvent) 
     on = subst (On (seen ++ [])) (sym x.2) (nothing (awoken s hart) (record {
       registers = on.registers;
       marked = on.marked;
-      hosts = on.hosts;
       lists = on.lists;
       loaded = on.loaded;
+      control = on.control;
+      hosts = on.hosts;
       runs = on.runs;
       waits = on.waits;
     }));
@@ -133,9 +136,10 @@ module _ (layout : PlatformLayout) (opened : List ℕ) (seen : List BoardEvent) 
     on = subst (On (seen ++ [])) (sym x.1) (nothing (with_core (awoken s hart) (with_running (core_of (awoken s hart)) hart file)) (record {
       registers = on.registers;
       marked = on.marked;
-      hosts = on.hosts;
       lists = on.lists;
       loaded = on.loaded;
+      control = on.control;
+      hosts = on.hosts;
       runs = on.runs;
       waits = λ who off.
           on.waits who off

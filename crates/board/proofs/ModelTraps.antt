@@ -1,6 +1,6 @@
 -- A call and an interrupt of the model, on a board that is as its state.
-use Rattle.std.proofs.Common.{ℕ, ◌≡◌, ◌∙◌, ◌+◌, ◌<◌, ◌≤◌, ◌^◌, ◌==◌, false, if◌then◌else◌, List, [], ◌∷◌, ◌++◌}
-use Rattle.std.proofs.Common.{length, Option, Some, None, IfSome, refl, ap, sym, subst, arith}
+use Rattle.std.proofs.Common.{ℕ, ◌≡◌, ◌∙◌, ◌+◌, ◌<◌, ◌≤◌, ◌^◌, ◌==◌, if◌then◌else◌, List, [], ◌∷◌, ◌++◌}
+use Rattle.std.proofs.Common.{Option, Some, None, IfSome, refl, ap, sym, subst}
 use Rattle.std.proofs.lemmas.Bool.{both_ways, eq-eqb, eqb-true}
 use Rattle.pmp_encoding.specs.declared.pages.PageRange.{PageRange}
 use Rattle.platforms.specs.Platform.{PlatformLayout}
@@ -32,20 +32,21 @@ use Rattle.hart_sim.specs.Replies.{RepliesWith}
 use Rattle.hart_sim.specs.States.{MachineState, awoken, core_of, with_core}
 use Rattle.hart_sim.specs.Steps.{Serves}
 use Rattle.trap_server.specs.Answered.{marks_of, new_lists, no_answer}
+use Rattle.trap_server.specs.Service.{given_at}
 use Rattle.trap_server.specs.declared.answer.NewLists.TheVariants as lists
 use Rattle.trap_server.specs.declared.trap.TrapEvent.TheVariants as traps
 use Rattle.trap_server.proofs.ListsKept.{made_by_lists}
 use Rattle.trap_server.proofs.Remeasured.{call_remeasured}
-use Rattle.board.specs.Board.{BoardEvent, trapped}
+use Rattle.board.specs.Board.{BoardEvent, framed, trapped}
 use Rattle.board.specs.Model.{IsOneTrap, SaysReply}
 use Rattle.board.proofs.Asked.{asks, frames_of_memory}
 use Rattle.board.proofs.Follows.{Follows, IsElsewhere, call_follows, digest_by, irq_follows, owner_current}
 use Rattle.board.proofs.Rooms.{AllFit, call_fits, irq_fits, lists_fit}
 use Rattle.board.proofs.Runners.{same_is}
 use Rattle.board.proofs.Runners.{alone as alone_on}
-use Rattle.board.proofs.TrapFrames.{trap_frame, trap_on}
+use Rattle.board.proofs.TrapFrames.{trap_frame}
 use Rattle.board.proofs.OnBoards.{IsGood, Next, OnBoard, Waits, monitor_of}
-use Rattle.board.proofs.TrapsOn.{TrapLeaves, clears, found, trap_seen}
+use Rattle.board.proofs.TrapsOn.{TrapLeaves, clears, found, trap_at, trap_seen}
 
 module _ (layout : PlatformLayout) (opened : List ℕ) (seen : List BoardEvent) (s : MachineState) (hart : ℕ) (reply : Reply) (new : MachineState)
     (known : hart < s.table.layout.harts) (on : OnBoard layout opened seen s) (good : IsGood layout s on.registers on.marked on.loaded) where
@@ -140,9 +141,10 @@ module _ (layout : PlatformLayout) (opened : List ℕ) (seen : List BoardEvent) 
           needs = x.5.1;
           lists = l.1;
           reads = a.3;
-          serves = λ given answered that same goes_on all there.
+          serves = λ answered that same goes_on all there.
               let after = changed hart changes all in
               let any = with_sets base all in
+              let trap = trap_at layout opened seen traps.Call s hart file on in
               let past = past_call (running_registers any hart) in
               record {
                 digest = digest_by digests (asked_in call);
@@ -153,7 +155,7 @@ module _ (layout : PlatformLayout) (opened : List ℕ) (seen : List BoardEvent) 
                   step = subst (λ c. DoesCall c (λ parts. digest_by digests (asked_in call)) (with_running any hart past) hart answer pages
                       (with_sets mid after)) (sym there) (f.2 all);
                   woken = same after;
-                  goes_on = answer_with that after given hart answer pages (marks_of mid) which changes answered goes_on;
+                  goes_on = answer_with that after (given_at base that trap) hart answer pages (marks_of mid) which changes answered goes_on;
                 };
                 asks = a.2;
               };
@@ -233,15 +235,16 @@ module _ (layout : PlatformLayout) (opened : List ℕ) (seen : List BoardEvent) 
           needs = x.3.1;
           lists = refl;
           reads = frames_of_memory s.bytes 0 0;
-          serves = λ given answered that same goes_on all there.
+          serves = λ answered that same goes_on all there.
               let after = changed hart f.1 all in
+              let trap = trap_at layout opened seen traps.Stop s hart running on in
               record {
                 mid = with_sets mid after;
                 nothing_asked = refl;
                 nothing_read = refl;
                 step = f.2 all;
                 woken = same after;
-                goes_on = answer_with that after given hart no_answer None (marks_of mid) lists.Nothing f.1 answered goes_on;
+                goes_on = answer_with that after (given_at base that trap) hart no_answer None (marks_of mid) lists.Nothing f.1 answered goes_on;
               };
         },
         new_fit,
@@ -255,10 +258,10 @@ module _ (layout : PlatformLayout) (opened : List ℕ) (seen : List BoardEvent) 
       → (now : List BoardEvent) × IsOneTrap traps.Call hart (λ file. past_call file ≡ calling s hart words) reply now × OnBoard layout opened (seen ++ now) new
   trap_next file words came x replied =
       let t = trap_seen layout opened seen traps.Call s new hart file on known x in (
-        trapped (trap_on traps.Call hart file) (trap_frame traps.Call hart file) x.read x.question t.0 ∷ [],
+        trapped (trap_at layout opened seen traps.Call s hart file on) (trap_frame traps.Call hart file (framed (on.control hart))) x.read x.question t.0 ∷ [],
         record {
-          trap = trap_on traps.Call hart file;
-          frame = trap_frame traps.Call hart file;
+          trap = trap_at layout opened seen traps.Call s hart file on;
+          frame = trap_frame traps.Call hart file (framed (on.control hart));
           read = x.read;
           question = x.question;
           answered = t.0;
@@ -277,10 +280,11 @@ module _ (layout : PlatformLayout) (opened : List ℕ) (seen : List BoardEvent) 
   stop_next x replied =
       let t = trap_seen layout opened seen traps.Stop s new hart running on known x in
       record {
-        now = trapped (trap_on traps.Stop hart running) (trap_frame traps.Stop hart running) x.read x.question t.0 ∷ [];
+        now = trapped (trap_at layout opened seen traps.Stop s hart running on) (trap_frame traps.Stop hart running (framed (on.control hart)))
+            x.read x.question t.0 ∷ [];
         is_seen = record {
-          trap = trap_on traps.Stop hart running;
-          frame = trap_frame traps.Stop hart running;
+          trap = trap_at layout opened seen traps.Stop s hart running on;
+          frame = trap_frame traps.Stop hart running (framed (on.control hart));
           read = x.read;
           question = x.question;
           answered = t.0;

@@ -19,13 +19,12 @@ use Rattle.hart_sim.specs.Changes.{with_words}
 use Rattle.hart_sim.specs.States.{MachineState, awoken, opening_state}
 use Rattle.hart_sim.specs.Steps.{Accesses, DoesEvent, IsEvent, Run, TakesEffect, step, still, verdict}
 use Rattle.trap_server.specs.Boot.{IsFirstAnswer}
-use Rattle.trap_server.specs.Runs.{first_words}
 use Rattle.board.specs.Board.{BoardEvent, booted, no_floats}
 use Rattle.board.specs.Model.{AreSeen, RunsOnBoard}
 use Rattle.board.proofs.Boards.{BoardHolds}
 use Rattle.board.proofs.ModelAccesses.{access_next, reg_next}
 use Rattle.board.proofs.ModelTraps.{call_next, irq_next, stop_next, trap_next}
-use Rattle.board.proofs.OnBoards.{IsGood, Next, OnBoard, board_of}
+use Rattle.board.proofs.OnBoards.{IsGood, Next, OnBoard, board_of, no_words}
 use Rattle.board.proofs.Rooms.{AllFit}
 
 -- an access leaves the table
@@ -44,7 +43,7 @@ access_table (Ok done) s a value reply new x = took_table a.kind s a value reply
 module _ (law : BoardHolds) (layout : PlatformLayout) (opened : List ℕ) (rules : IsLayout layout) (answer : IsFirstAnswer layout opened) where
   good_of : (seen : List BoardEvent) (s : MachineState) (on : OnBoard layout opened seen s) → IsGood layout s on.registers on.marked on.loaded
   good_of seen s on =
-      let h = law layout opened seen (board_of s on.registers on.marked on.hosts on.lists on.loaded) on.runs rules answer in
+      let h = law layout opened seen (board_of s on.registers on.marked on.lists on.loaded on.control on.hosts) on.runs rules answer in
       record { table = h.table; platform = h.platform; worlds = h.worlds; awake = h.awake; banks = h.banks }
 
   by_event : (seen : List BoardEvent) (s : MachineState) (hart : ℕ) (event : Event) (reply : Reply) (new : MachineState) → hart < s.table.layout.harts
@@ -85,10 +84,11 @@ module _ (law : BoardHolds) (layout : PlatformLayout) (opened : List ℕ) (rules
     on = record {
       registers = λ who. zeros;
       marked = λ hart. false;
-      hosts = first_words;
-      lists = λ world. drop 256 opened;
-      loaded = λ hart. drop 256 opened;
-      runs = booted (λ byte. 0) (λ hart. no_floats) (λ who. no_floats);
+      lists = λ world. drop 184 opened;
+      loaded = λ hart. drop 184 opened;
+      control = λ hart. no_words;
+      hosts = λ hart. no_words;
+      runs = booted (λ byte. 0) (λ hart. no_floats) (λ who. no_floats) (λ hart. no_words) (λ hart. no_words);
       waits = λ who off. refl;
     };
     fits = record {
@@ -112,7 +112,7 @@ module _ (law : BoardHolds) (layout : PlatformLayout) (opened : List ℕ) (rules
       let r = reached events replies s run in
       record {
         seen = r.seen;
-        board = board_of s r.on.registers r.on.marked r.on.hosts r.on.lists r.on.loaded;
+        board = board_of s r.on.registers r.on.marked r.on.lists r.on.loaded r.on.control r.on.hosts;
         each = r.each;
         runs = r.on.runs;
         is_as = record { table = refl; worlds = refl; memory = refl; registers = r.on.waits };

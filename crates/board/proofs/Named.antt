@@ -13,18 +13,28 @@ use Rattle.trap_server.specs.declared.answer.Head.{Head}
 use Rattle.trap_server.specs.declared.answer.NewLists.{NewLists}
 use Rattle.trap_server.specs.declared.words.ControlWords.{ControlWords}
 use Rattle.trap_server.specs.Answered.{IsAnswer, head_of}
-use Rattle.trap_server.specs.Answers.{answer_bytes, pages_of}
+use Rattle.trap_server.specs.Answers.{front_bytes, given_bytes, lists_bytes, pages_of}
 use Rattle.trap_server.specs.Words.{word_at}
 
 -- words 6 and 7 of some bytes are these pages
 abbrev pub Names : List ℕ → PageRange → Type 0
 Names bytes range = (word_at bytes 6 ≡ range.first) × (word_at bytes 7 ≡ range.count)
 
+-- the bytes of an answer
+abbrev pub whole : Head → SetChanges → List (List Entry) → Option ControlWords → List ℕ
+whole head changes lists given = (front_bytes head changes ++ lists_bytes lists) ++ given_bytes given
+
+pub whole_is :
+    (s : MonitorState) (given : Option ControlWords) (hart : ℕ) (answer : Answer) (cleared : Option PageRange) (woken : List Bool) (new : NewLists)
+    (changes : SetChanges) (bytes : List ℕ) (a : IsAnswer s given hart answer cleared woken new changes bytes)
+    → bytes ≡ whole (head_of s hart answer a.used cleared woken new given) changes a.puts.are given
+whole_is s given hart answer cleared woken new changes bytes a = a.ends ∙ ap (λ b. b ++ given_bytes given) a.puts.put
+
 -- the words at their places are those that were put there, where they have 64 bits
-in_bytes : (head : Head) (changes : SetChanges) (control : ControlWords) (lists : List (List Entry)) → (pages_of head.zero).first < 2 ^ 64
-    → (pages_of head.zero).count < 2 ^ 64 → Names (answer_bytes head changes control lists) (pages_of head.zero)
-in_bytes head changes control lists first count =
-    let bytes = answer_bytes head changes control lists in
+in_bytes : (head : Head) (changes : SetChanges) (lists : List (List Entry)) (given : Option ControlWords) → (pages_of head.zero).first < 2 ^ 64
+    → (pages_of head.zero).count < 2 ^ 64 → Names (whole head changes lists given) (pages_of head.zero)
+in_bytes head changes lists given first count =
+    let bytes = whole head changes lists given in
     (little_number-reads_back 8 (pages_of head.zero).first (drop 56 bytes) first, little_number-reads_back 8 (pages_of head.zero).count (drop 64 bytes) count)
 
 -- pages in the space
@@ -35,13 +45,14 @@ small (Some range) inside = (omega (arith, inside), omega (arith, inside))
 
 -- an answer names the pages that are to be made zero
 pub named :
-    (s : MonitorState) (given : ControlWords) (hart : ℕ) (answer : Answer) (cleared : Option PageRange) (woken : List Bool) (new : NewLists)
+    (s : MonitorState) (given : Option ControlWords) (hart : ℕ) (answer : Answer) (cleared : Option PageRange) (woken : List Bool) (new : NewLists)
     (changes : SetChanges) (bytes : List ℕ) → IsAnswer s given hart answer cleared woken new changes bytes
     → IfSome cleared (λ range. range.first + range.count ≤ 2 ^ 44) → Names bytes (pages_of cleared)
 named s given hart answer cleared woken new changes bytes a inside =
     let low = small cleared inside in
-    let put = in_bytes (head_of s hart answer a.used cleared woken new) changes given a.puts.are low.0 low.1 in
-    (ap (λ b. word_at b 6) a.puts.put ∙ put.0, ap (λ b. word_at b 7) a.puts.put ∙ put.1)
+    let put = in_bytes (head_of s hart answer a.used cleared woken new given) changes a.puts.are given low.0 low.1 in
+    let is = whole_is s given hart answer cleared woken new changes bytes a in
+    (ap (λ b. word_at b 6) is ∙ put.0, ap (λ b. word_at b 7) is ∙ put.1)
 
 -- a word that was put, as 64 bits
 put_word : (x : ℕ) (rest : List ℕ) → little_number 8 (little_bytes 8 x ++ rest) ≡ x % 2 ^ 64
@@ -54,10 +65,10 @@ pub record Says (bytes : List ℕ) (world status value used : ℕ) : Type 0 wher
   pub value_is : word_at bytes 4 ≡ value % 2 ^ 64
   pub used_is : word_at bytes 5 ≡ used % 2 ^ 64
 
-pub says : (head : Head) (changes : SetChanges) (control : ControlWords) (lists : List (List Entry))
-    → Says (answer_bytes head changes control lists) (world_number head.world) head.status head.value head.used
-says head changes control lists =
-    let bytes = answer_bytes head changes control lists in
+pub says : (head : Head) (changes : SetChanges) (lists : List (List Entry)) (given : Option ControlWords)
+    → Says (whole head changes lists given) (world_number head.world) head.status head.value head.used
+says head changes lists given =
+    let bytes = whole head changes lists given in
     record {
       world_is = put_word (world_number head.world) (drop 24 bytes);
       status_is = put_word head.status (drop 32 bytes);

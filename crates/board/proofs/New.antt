@@ -25,17 +25,16 @@ use Rattle.monitor_core.specs.Steps.{DoesCall}
 use Rattle.monitor_core.specs.declared.answer.Answer.{Answer}
 use Rattle.trap_server.specs.Answered.{head_of, marks_of, new_lists, status_word}
 use Rattle.trap_server.specs.PageDigest.{question_of}
-use Rattle.trap_server.specs.Service.{AnswersCall, ServesAs, ServesCall}
+use Rattle.trap_server.specs.Service.{AnswersCall, ServesAs, ServesCall, given_at}
 use Rattle.trap_server.specs.Words.{word_at}
 use Rattle.trap_server.specs.declared.trap.TrapEvent.{TrapEvent}
 use Rattle.trap_server.specs.declared.trap.TrapEvent.TheVariants as traps
 use Rattle.trap_server.specs.declared.trap.Trap.{Trap}
-use Rattle.trap_server.specs.declared.words.ControlWords.{ControlWords}
 use Rattle.monitor_core.specs.declared.set_changes.SetChanges.{SetChanges}
 use Rattle.board.specs.Board.{SaysMade}
 use Rattle.board.proofs.Fresh.{placed}
 use Rattle.board.proofs.Made.{Absent, made_call, made_irq}
-use Rattle.board.proofs.Named.{Says, says}
+use Rattle.board.proofs.Named.{Says, says, whole_is}
 
 -- a creation that was done is answered with the number of the enclave
 pub record IsDone (s : MonitorState) (answer : Answer) (new : MonitorState) : Type 0 where
@@ -93,10 +92,10 @@ as_word id low = omega (arith, low)
 some_question : (parts : Create) → question_of parts ≢ []
 some_question parts is = cc
 
-module _ (s : MonitorState) (trap : Trap) (given : ControlWords) (changes : SetChanges) (read question answered : List ℕ) (new : MonitorState)
+module _ (s : MonitorState) (trap : Trap) (changes : SetChanges) (read question answered : List ℕ) (new : MonitorState)
     (right : IsTable s.table) (there : call_of (running_registers s trap.hart) ≡ call_of trap.registers)
-    (x : ServesCall s trap given changes read question answered new) where
-  abbrev a : AnswersCall s trap given changes x.digest x.answer answered new
+    (x : ServesCall s trap changes read question answered new) where
+  abbrev a : AnswersCall s trap changes x.digest x.answer answered new
   a = x.answers
 
   abbrev file : RegisterFile
@@ -108,8 +107,10 @@ module _ (s : MonitorState) (trap : Trap) (given : ControlWords) (changes : SetC
   -- the words of the answer
   words : Says answered (world_number (new.worlds trap.hart)) (status_word x.answer.status) x.answer.value a.goes_on.used
   words = subst (λ bytes. Says bytes (world_number (new.worlds trap.hart)) (status_word x.answer.status) x.answer.value a.goes_on.used)
-      (sym a.goes_on.puts.put) (says (head_of new trap.hart x.answer a.goes_on.used a.cleared (marks_of a.mid)
-      (new_lists (asked_in (call_of trap.registers)) x.answer a.cleared)) changes given a.goes_on.puts.are)
+      (sym (whole_is new (given_at s new trap) trap.hart x.answer a.cleared (marks_of a.mid)
+      (new_lists (asked_in (call_of trap.registers)) x.answer a.cleared) changes answered a.goes_on))
+      (says (head_of new trap.hart x.answer a.goes_on.used a.cleared (marks_of a.mid)
+      (new_lists (asked_in (call_of trap.registers)) x.answer a.cleared) (given_at s new trap)) changes a.goes_on.puts.are (given_at s new trap))
 
   done : (parts : Create) → IsMade (asked_in (call_of file)) x.answer parts → IsDone t x.answer a.mid
   done parts m = ended (call_of file) (λ all. x.digest) t trap.hart x.answer a.cleared a.mid parts m a.step
@@ -153,22 +154,22 @@ module _ (s : MonitorState) (trap : Trap) (given : ControlWords) (changes : SetC
 
 -- a trap that says it of one is its creation
 pub said_new :
-    (event : TrapEvent) (s : MonitorState) (trap : Trap) (given : ControlWords) (changes : SetChanges) (read question answered : List ℕ)
+    (event : TrapEvent) (s : MonitorState) (trap : Trap) (changes : SetChanges) (read question answered : List ℕ)
     (new : MonitorState) → IsTable s.table
-    → call_of (running_registers s trap.hart) ≡ call_of trap.registers → ServesAs event s trap given changes read question answered new
+    → call_of (running_registers s trap.hart) ≡ call_of trap.registers → ServesAs event s trap changes read question answered new
     → (who : Runner) → SaysMade question answered who → (id : ℕ) × (e : Enclave) × (who ≡ EnclaveOf id) × Absent s.table id × Live new.table id e
-said_new traps.Call s trap given changes read question answered new right there x who m =
-    call_said s trap given changes read question answered new right there x who m
-said_new traps.Stop s trap given changes read question answered new right there x who m = absurd (m.0 x.nothing_asked)
+said_new traps.Call s trap changes read question answered new right there x who m =
+    call_said s trap changes read question answered new right there x who m
+said_new traps.Stop s trap changes read question answered new right there x who m = absurd (m.0 x.nothing_asked)
 
 -- and its creation says it of one that is new, which is Fresh
 pub new_said :
-    (event : TrapEvent) (s : MonitorState) (trap : Trap) (given : ControlWords) (changes : SetChanges) (read question answered : List ℕ)
+    (event : TrapEvent) (s : MonitorState) (trap : Trap) (changes : SetChanges) (read question answered : List ℕ)
     (new : MonitorState) → IsTable s.table
-    → call_of (running_registers s trap.hart) ≡ call_of trap.registers → ServesAs event s trap given changes read question answered new
+    → call_of (running_registers s trap.hart) ≡ call_of trap.registers → ServesAs event s trap changes read question answered new
     → (id : ℕ) (e : Enclave) → Absent s.table id → Live new.table id e → SaysMade question answered (EnclaveOf id) × (e.state ≡ Fresh)
-new_said traps.Call s trap given changes read question answered new right there x id e none live =
-    call_new s trap given changes read question answered new right there x id e none live
-new_said traps.Stop s trap given changes read question answered new right there x id e none live =
+new_said traps.Call s trap changes read question answered new right there x id e none live =
+    call_new s trap changes read question answered new right there x id e none live
+new_said traps.Stop s trap changes read question answered new right there x id e none live =
     let now : Live x.mid.table id e = subst (λ (y : MonitorState). Live y.table id e) x.woken live in
     absurd (made_irq (s.worlds trap.hart) s trap.hart x.mid id e none now x.step)

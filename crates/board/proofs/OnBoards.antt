@@ -25,15 +25,30 @@ monitor_of s registers marked = record {
   marked = marked;
 }
 
-abbrev pub board_of : MachineState → (Runner → RegisterFile) → (ℕ → Bool) → (ℕ → ControlWords) → (ℕ → List ℕ) → (ℕ → List ℕ) → Board
-board_of s registers marked hosts lists loaded = record {
+abbrev pub board_of : MachineState → (Runner → RegisterFile) → (ℕ → Bool) → (ℕ → List ℕ) → (ℕ → List ℕ) → (ℕ → ControlWords) → (ℕ → ControlWords) → Board
+board_of s registers marked lists loaded control hosts = record {
   monitor = monitor_of s registers marked;
-  hosts = hosts;
   memory = s.bytes;
   lists = lists;
   loaded = loaded;
   floats = λ hart. no_floats;
   kept = λ who. no_floats;
+  control = control;
+  hosts = hosts;
+}
+
+-- control words of which none was written
+abbrev pub no_words : ControlWords
+no_words = record {
+  status = 0;
+  satp = 0;
+  mie = 0;
+  scounteren = 0;
+  senvcfg = 0;
+  hstatus = 0;
+  medeleg = 0;
+  mideleg = 0;
+  mode = 0;
 }
 
 -- who runs on no hart
@@ -43,10 +58,11 @@ Waits s who = (hart : ℕ) → hart < s.table.layout.harts → who ≢ runner_of
 pub record OnBoard (layout : PlatformLayout) (opened : List ℕ) (seen : List BoardEvent) (s : MachineState) : Type 0 where
   pub registers : Runner → RegisterFile
   pub marked : ℕ → Bool
-  pub hosts : ℕ → ControlWords
   pub lists : ℕ → List ℕ
   pub loaded : ℕ → List ℕ
-  pub runs : BoardRun layout opened seen (board_of s registers marked hosts lists loaded)
+  pub control : ℕ → ControlWords
+  pub hosts : ℕ → ControlWords
+  pub runs : BoardRun layout opened seen (board_of s registers marked lists loaded control hosts)
   pub waits : (who : Runner) → Waits s who → registers who ≡ s.registers who
 
 -- what the theorem of a board says of one that is as a state

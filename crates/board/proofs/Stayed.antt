@@ -7,7 +7,7 @@ use Rattle.enclave_table.specs.declared.enclave.Enclave.{Enclave}
 use Rattle.monitor_core.specs.States.{MonitorState}
 use Rattle.trap_server.specs.Boot.{IsFirstAnswer}
 use Rattle.trap_server.specs.declared.trap.Trap.{Trap}
-use Rattle.board.specs.Board.{Board, BoardEvent, BoardRun, DoesTrap, HappensOn, access, computed, happened, saved, trapped}
+use Rattle.board.specs.Board.{Board, BoardEvent, BoardRun, DoesTrap, HappensOn, access, computed, happened, saved, trapped, wrote}
 use Rattle.board.specs.Headline.{IsPrivateByte}
 use Rattle.board.specs.Stays.{IsNoTrap, KeepsFreshPages, RunsOn, begins, goes_on}
 use Rattle.board.proofs.Boards.{BoardHolds}
@@ -47,6 +47,12 @@ module _ (law : BoardHolds) (layout : PlatformLayout) (opened : List ℕ) (rules
     monitor = ap (λ (b : Board). b.monitor) x.state ∙ r.monitor;
     keeps = λ id byte e own fresh. ap (λ (b : Board). b.memory byte) x.state ∙ r.keeps id byte e own fresh;
   }
+  next old mid new (wrote hart words) quiet r x = record {
+    events = r.events ++ wrote hart words ∷ [];
+    run = happened r.run (wrote hart words) x;
+    monitor = ap (λ (b : Board). b.monitor) x.state ∙ r.monitor;
+    keeps = λ id byte e own fresh. ap (λ (b : Board). b.memory byte) x.state ∙ r.keeps id byte e own fresh;
+  }
   next old mid new (trapped trap frame read question answered) quiet r x = absurd quiet
 
   reached : (events : List BoardEvent) (old new : Board) → BoardRun layout opened events old → RunsOn old new → Reached old new
@@ -65,7 +71,7 @@ module _ (law : BoardHolds) (layout : PlatformLayout) (opened : List ℕ) (rules
       let after = happened run (trapped trap frame read question answered) x in
       let k = (law layout opened (events ++ trapped trap frame read question answered ∷ []) mid after rules answer).each.1 in
       let one = served_here old trap frame read question answered mid x in
-      let said = new_said trap.event (saved old trap) trap one.given x.changes read question answered mid.monitor before.table (call_there old trap) one.step
+      let said = new_said trap.event (saved old trap) trap x.changes read question answered mid.monitor before.table (call_there old trap) one
       id e none live in
       fresh_stay (events ++ trapped trap frame read question answered ∷ []) mid new after on id byte e (live, own) said.1
       ∙ stays_over_creation old trap frame read question answered mid x k.0 id byte e none live

@@ -2,11 +2,11 @@
 use Rattle.std.proofs.Common.{◌≡◌, ◌∙◌, ℕ, zero, suc, ◌+◌, ◌-◌, ◌<◌, ◌≤◌, List, [], ◌∷◌, ◌++◌, length, slice_index, refl, ap, sym, arith}
 use Rattle.sbi_decode.specs.Registers.{RegisterFile, x_of}
 use Rattle.trap_server.specs.Traps.{IsTagOf, IsTrapFrame}
-use Rattle.trap_server.specs.Words.{call_tag, control_tag, stop_tag, word_at}
+use Rattle.trap_server.specs.Words.{call_tag, stop_tag, word_at}
 use Rattle.trap_server.specs.declared.trap.Trap.{Trap}
 use Rattle.trap_server.specs.declared.trap.TrapEvent.{TrapEvent}
 use Rattle.trap_server.specs.declared.trap.TrapEvent.TheVariants.{Call, Stop}
-use Rattle.trap_server.specs.declared.words.ControlWords.{ControlWords}
+use Rattle.trap_server.specs.declared.host_words.HostWords.{HostWords}
 use Rattle.board.proofs.FrameWords.{frame_words, length_words, word_back}
 
 abbrev tag_of : TrapEvent → ℕ
@@ -29,71 +29,51 @@ x_at file i (suc n) (suc j) rest low =
     let e : suc i + j ≡ i + suc j = omega arith in
     x_at file (suc i) n j rest (omega (arith, low)) ∙ ap (x_of file) e
 
--- the control words of a world that has written none
-abbrev no_words : ControlWords
-no_words = record {
-  status = 0;
-  satp = 0;
-  mie = 0;
-  scounteren = 0;
-  senvcfg = 0;
-  hstatus = 0;
-  medeleg = 0;
-  mideleg = 0;
-  mode = 0;
-}
+abbrev pub trap_on : TrapEvent → ℕ → RegisterFile → HostWords → Trap
+trap_on event hart file host = record { event = event; hart = hart; registers = file; host = host }
 
-abbrev pub trap_on : TrapEvent → ℕ → RegisterFile → Trap
-trap_on event hart file = record { event = event; hart = hart; registers = file; control = no_words }
+abbrev last_words : HostWords → List ℕ
+last_words host = host.mie ∷ (host.scounteren ∷ [])
 
-abbrev last_words : List ℕ
-last_words = control_tag ∷ (0 ∷ (0 ∷ (0 ∷ (0 ∷ (0 ∷ (0 ∷ (0 ∷ (0 ∷ (0 ∷ [])))))))))
+abbrev trap_words : TrapEvent → ℕ → RegisterFile → HostWords → List ℕ
+trap_words event hart file host = tag_of event ∷ (hart ∷ (xs_from file 10 8 ++ last_words host))
 
-abbrev trap_words : TrapEvent → ℕ → RegisterFile → List ℕ
-trap_words event hart file = tag_of event ∷ (hart ∷ (xs_from file 10 8 ++ last_words))
+abbrev pub trap_frame : TrapEvent → ℕ → RegisterFile → HostWords → List ℕ
+trap_frame event hart file host = frame_words (trap_words event hart file host)
 
-abbrev pub trap_frame : TrapEvent → ℕ → RegisterFile → List ℕ
-trap_frame event hart file = frame_words (trap_words event hart file)
+module _ (event : TrapEvent) (hart : ℕ) (file : RegisterFile) (host : HostWords) where
+  abbrev words : List ℕ
+  words = trap_words event hart file host
 
-size_of : (event : TrapEvent) (hart : ℕ) (file : RegisterFile) → length (trap_words event hart file) ≡ 20
-size_of event hart file = refl
+  abbrev frame : List ℕ
+  frame = trap_frame event hart file host
 
-pub frame_size : (event : TrapEvent) (hart : ℕ) (file : RegisterFile) → length (trap_frame event hart file) ≡ 160
-frame_size event hart file =
-    let all = length_words (trap_words event hart file) in
-    let many = size_of event hart file in
-    omega (arith, all, many)
+  size_of : length words ≡ 12
+  size_of = refl
 
-word_in : (event : TrapEvent) (hart : ℕ) (file : RegisterFile) (k : ℕ) → k < 20
-    → word_at (trap_frame event hart file) k ≡ slice_index (trap_words event hart file) k
-word_in event hart file k low = let many = size_of event hart file in word_back (trap_words event hart file) k (omega (arith, low, many))
+  pub frame_size : length frame ≡ 96
+  frame_size =
+      let all = length_words words in
+      let many = size_of in
+      omega (arith, all, many)
 
-x_in : (event : TrapEvent) (hart : ℕ) (file : RegisterFile) (n : ℕ) → 10 ≤ n → n < 18 → x_of file n ≡ word_at (trap_frame event hart file) (n - 8)
-x_in event hart file n low high =
-    let m = n - 10 in
-    let place : n - 8 ≡ suc (suc m) = omega (arith, low) in
-    let number : 10 + m ≡ n = omega (arith, low) in
-    sym (ap (word_at (trap_frame event hart file)) place ∙ word_in event hart file (suc (suc m)) (omega (arith, low, high))
-    ∙ x_at file 10 8 m last_words (omega (arith, low, high)) ∙ ap (x_of file) number)
+  word_in : (k : ℕ) → k < 12 → word_at frame k ≡ slice_index words k
+  word_in k low = let many = size_of in word_back words k (omega (arith, low, many))
 
-pub frame_is : (event : TrapEvent) (hart harts : ℕ) (file : RegisterFile) → hart < harts
-    → IsTrapFrame (trap_frame event hart file) harts (trap_on event hart file)
-frame_is event hart harts file known = record {
-  tag = tag_is event (word_at (trap_frame event hart file) 0) (word_in event hart file 0 (omega arith));
-  hart = word_in event hart file 1 (omega arith);
-  known = known;
-  call = x_in event hart file;
-  control_follows = word_in event hart file 10 (omega arith);
-  control = record {
-    status = sym (word_in event hart file 11 (omega arith));
-    satp = sym (word_in event hart file 12 (omega arith));
-    mie = sym (word_in event hart file 13 (omega arith));
-    scounteren = sym (word_in event hart file 14 (omega arith));
-    senvcfg = sym (word_in event hart file 15 (omega arith));
-    hstatus = sym (word_in event hart file 16 (omega arith));
-    medeleg = sym (word_in event hart file 17 (omega arith));
-    mideleg = sym (word_in event hart file 18 (omega arith));
-    mode = sym (word_in event hart file 19 (omega arith));
-  };
-  below = refl;
-}
+  x_in : (n : ℕ) → 10 ≤ n → n < 18 → x_of file n ≡ word_at frame (n - 8)
+  x_in n low high =
+      let m = n - 10 in
+      let place : n - 8 ≡ suc (suc m) = omega (arith, low) in
+      let number : 10 + m ≡ n = omega (arith, low) in
+      sym (ap (word_at frame) place ∙ word_in (suc (suc m)) (omega (arith, low, high))
+      ∙ x_at file 10 8 m (last_words host) (omega (arith, low, high)) ∙ ap (x_of file) number)
+
+  pub frame_is : (harts : ℕ) → hart < harts → IsTrapFrame frame harts (trap_on event hart file host)
+  frame_is harts known = record {
+    tag = tag_is event (word_at frame 0) (word_in 0 (omega arith));
+    hart = word_in 1 (omega arith);
+    known = known;
+    call = x_in;
+    mie = sym (word_in 10 (omega arith));
+    scounteren = sym (word_in 11 (omega arith));
+  }

@@ -22,11 +22,10 @@ use Rattle.hart_sim.specs.Memory.{measured_in, zeroed}
 use Rattle.trap_server.specs.declared.trap.TrapEvent.{TrapEvent}
 use Rattle.trap_server.specs.declared.trap.TrapEvent.TheVariants.{Call, Stop}
 use Rattle.trap_server.specs.declared.trap.Trap.{Trap}
-use Rattle.trap_server.specs.declared.words.ControlWords.{ControlWords}
 use Rattle.monitor_core.specs.declared.set_changes.SetChanges.{SetChanges}
 use Rattle.trap_server.specs.Answers.{pages_of}
 use Rattle.trap_server.specs.Firmware.{AreDestroyed, KeepsTrap}
-use Rattle.trap_server.specs.Service.{AsksFor, ServesAs}
+use Rattle.trap_server.specs.Service.{AsksFor, ServesAs, given_at}
 use Rattle.trap_server.specs.Words.{word_at}
 use Rattle.board.proofs.Here.{call_there, served_here}
 use Rattle.board.specs.Board.{Board, DoesTrap, ReadsMemory, saved}
@@ -91,11 +90,11 @@ only_parts None answer parts one m n = absurd m
 only_parts (Some asked) answer parts one m n = n.0 ∙ sym m.0
 
 new_digest :
-    (event : TrapEvent) (s : MonitorState) (trap : Trap) (given : ControlWords) (changes : SetChanges) (read question answered : List ℕ)
+    (event : TrapEvent) (s : MonitorState) (trap : Trap) (changes : SetChanges) (read question answered : List ℕ)
     (new : MonitorState) (memory : ℕ → ℕ) (id : ℕ)
     (e : Enclave) → IsTable s.table → call_of (running_registers s trap.hart) ≡ call_of trap.registers → ReadsMemory memory read → Absent s.table id
-    → Live new.table id e → ServesAs event s trap given changes read question answered new → e.digest ≡ measured_in memory e.parts
-new_digest Call s trap given changes read question answered new memory id e right there reads none live x =
+    → Live new.table id e → ServesAs event s trap changes read question answered new → e.digest ≡ measured_in memory e.parts
+new_digest Call s trap changes read question answered new memory id e right there reads none live x =
     let hart = trap.hart in
     let file = past_call (running_registers s hart) in
     let t = with_running s hart file in
@@ -105,7 +104,7 @@ new_digest Call s trap given changes read question answered new memory id e righ
     let asked = asked_in (call_of trap.registers) in
     let parts = subst (λ c. IsMade (asked_in c) x.answer e.parts) there made.0 in
     made.1 ∙ digest_is asked x.answer question read x.digest memory e.parts x.asks reads parts (λ one m. only_parts asked x.answer e.parts one parts m)
-new_digest Stop s trap given changes read question answered new memory id e right there reads none live x =
+new_digest Stop s trap changes read question answered new memory id e right there reads none live x =
     let hart = trap.hart in
     let t = s in
     let now : Live x.mid.table id e = subst (λ (y : MonitorState). Live y.table id e) x.woken live in
@@ -114,10 +113,10 @@ new_digest Stop s trap given changes read question answered new memory id e righ
 pub trap_kept :
     (old : Board) (trap : Trap) (frame read question answered : List ℕ) (new : Board) → IsTable old.monitor.table
     → (x : DoesTrap old trap frame read question answered new)
-    → KeepsTrap (saved old trap) old.hosts trap x.changes read question answered new.monitor new.hosts → KeepsMemory old new
+    → KeepsTrap (saved old trap) trap x.changes read question answered new.monitor → KeepsMemory old new
 trap_kept old trap frame read question answered new right x k =
     let inside : IfSome k.cleared (λ range. range.first + range.count ≤ 2 ^ 44) = in_space k.cleared k.zeroes in
-    let words = named new.monitor k.given trap.hart k.answer k.cleared k.woken k.lists x.changes answered k.says inside in
+    let words = named new.monitor (given_at (saved old trap) new.monitor trap) trap.hart k.answer k.cleared k.woken k.lists x.changes answered k.says inside in
     let memory : (byte : ℕ) → new.memory byte ≡ cleared_by k.cleared old.memory byte = λ byte.
     x.cleared byte ∙ ap (λ first. zeroed old.memory first (word_at answered 7) byte) words.0
     ∙ ap (λ count. zeroed old.memory (pages_of k.cleared).first count byte) words.1 in
@@ -128,8 +127,8 @@ trap_kept old trap frame read question answered new right x k =
       stays = λ none byte. memory byte ∙ all_stay k.cleared old.monitor new.monitor old.memory byte k.zeroes none;
       digest = λ id e none live.
           let one = served_here old trap frame read question answered new x in
-          new_digest trap.event (saved old trap) trap one.given x.changes read question answered new.monitor old.memory id e right (call_there old trap) x.pages
-          none live one.step;
+          new_digest trap.event (saved old trap) trap x.changes read question answered new.monitor old.memory id e right (call_there old trap) x.pages
+          none live one;
     }
   where
     in_space : (cleared : Option PageRange) → IfSome cleared (AreDestroyed old.monitor new.monitor)

@@ -6,7 +6,7 @@ use Rattle.pmp_encoding.specs.declared.region.Entry.{Entry}
 use Rattle.pmp_match.specs.Meaning.{Needs}
 use Rattle.platforms.specs.Platform.{PlatformLayout}
 use Rattle.sbi_decode.specs.Registers.{RegisterFile}
-use Rattle.sbi_decode.specs.Runners.{Runner}
+use Rattle.sbi_decode.specs.Runners.{Runner, runner_of}
 use Rattle.enclave_table.specs.Views.{current_view}
 use Rattle.monitor_core.specs.Changes.{with_running}
 use Rattle.monitor_core.specs.SetChanges.{changed}
@@ -20,23 +20,30 @@ use Rattle.hart_sim.specs.Memory.{in_range, zeroed}
 use Rattle.hart_sim.specs.States.{MachineState}
 use Rattle.trap_server.specs.declared.answer.NewLists.{NewLists}
 use Rattle.trap_server.specs.Answered.{AreLists, IsAnswer, head_of, marks_of, status_word, unmarked}
-use Rattle.trap_server.specs.Answers.{answer_bytes, pages_of}
+use Rattle.trap_server.specs.Answers.{front_bytes, lists_bytes, pages_of}
 use Rattle.trap_server.specs.Firmware.{list_after, loaded_after}
-use Rattle.trap_server.specs.Given.{keeping, words_in}
-use Rattle.trap_server.specs.Service.{ServesAs}
+use Rattle.trap_server.specs.Given.{said_words}
+use Rattle.trap_server.specs.Service.{ServesAs, given_at}
 use Rattle.trap_server.specs.Words.{word_at}
 use Rattle.trap_server.specs.declared.trap.TrapEvent.{TrapEvent}
+use Rattle.trap_server.specs.declared.trap.Trap.{Trap}
 use Rattle.trap_server.specs.declared.words.ControlWords.{ControlWords}
-use Rattle.board.specs.Board.{BoardEvent, ReadsMemory, happened, trapped}
-use Rattle.board.proofs.Named.{Says, named, says}
+use Rattle.board.specs.Board.{BoardEvent, ReadsMemory, framed, happened, runner_by, trapped}
+use Rattle.board.proofs.Control.{control_after, control_changes, hosts_after}
+use Rattle.board.proofs.Named.{Says, named, says, whole}
 use Rattle.board.proofs.TrapFrames.{frame_is, frame_size, trap_frame, trap_on}
 use Rattle.board.proofs.Trapped.{none_in}
-use Rattle.board.proofs.OnBoards.{OnBoard, Waits, monitor_of}
+use Rattle.board.proofs.OnBoards.{OnBoard, Waits, board_of, monitor_of}
 
 -- the register sets that a trap finds on a board that is as a state
 abbrev pub found : (layout : PlatformLayout) (opened : List ℕ) (seen : List BoardEvent) (old : MachineState) (hart : ℕ) (file : RegisterFile)
     → OnBoard layout opened seen old → Runner → RegisterFile
 found layout opened seen old hart file on = (with_running (monitor_of old on.registers on.marked) hart file).registers
+
+-- the trap, with the control words that the hart has
+abbrev pub trap_at : (layout : PlatformLayout) (opened : List ℕ) (seen : List BoardEvent) (kind : TrapEvent) (old : MachineState) (hart : ℕ)
+    (file : RegisterFile) → OnBoard layout opened seen old → Trap
+trap_at layout opened seen kind old hart file on = trap_on kind hart file (framed (on.control hart))
 
 -- what a trap on a hart leaves of the monitor, and what it does on the state of a board, whatever the register sets are
 pub record TrapLeaves (layout : PlatformLayout) (opened : List ℕ) (seen : List BoardEvent) (kind : TrapEvent) (old new : MachineState) (hart : ℕ)
@@ -58,20 +65,24 @@ pub record TrapLeaves (layout : PlatformLayout) (opened : List ℕ) (seen : List
   pub needs : Needs (current_view new.table (new.worlds hart)) used
   pub lists : AreLists new.table answer.value which are
   pub reads : ReadsMemory old.bytes read
-  pub serves : (given : ControlWords) (answered : List ℕ) (that : MonitorState)
+  pub serves : (answered : List ℕ) (that : MonitorState)
       → ((sets : Runner → RegisterFile) → with_sets that sets ≡ unmarked 4 (with_sets mid sets))
-      → IsAnswer that given hart answer cleared (marks_of mid) which changes answered
-      → (sets : Runner → RegisterFile) → AreThere (monitor_of old on.registers on.marked) (trap_on kind hart file) sets
-      → ServesAs kind (with_sets (monitor_of old on.registers on.marked) sets) (trap_on kind hart file) given changes read question answered
-      (with_sets that (changed hart changes sets))
+      → IsAnswer that (given_at (monitor_of old on.registers on.marked) that (trap_at layout opened seen kind old hart file on)) hart answer cleared
+      (marks_of mid) which changes answered
+      → (sets : Runner → RegisterFile)
+      → AreThere (monitor_of old on.registers on.marked) (trap_at layout opened seen kind old hart file on) sets
+      → ServesAs kind (with_sets (monitor_of old on.registers on.marked) sets) (trap_at layout opened seen kind old hart file on) changes read question
+      answered (with_sets that (changed hart changes sets))
 
 pub trap_seen :
     (layout : PlatformLayout) (opened : List ℕ) (seen : List BoardEvent) (kind : TrapEvent) (old new : MachineState) (hart : ℕ) (file : RegisterFile)
     (on : OnBoard layout opened seen old) → hart < old.table.layout.harts → (x : TrapLeaves layout opened seen kind old new hart file on)
-    → (answered : List ℕ) × OnBoard layout opened (seen ++ trapped (trap_on kind hart file) (trap_frame kind hart file) x.read x.question answered ∷ []) new
+    → (answered : List ℕ) × OnBoard layout opened (seen ++ trapped (trap_at layout opened seen kind old hart file on)
+    (trap_frame kind hart file (framed (on.control hart))) x.read x.question answered ∷ []) new
     × Says answered (world_number (new.worlds hart)) (status_word x.answer.status) x.answer.value x.used
 trap_seen layout opened seen kind old new hart file on known x =
-    let trap = trap_on kind hart file in
+    let host = framed (on.control hart) in
+    let trap = trap_on kind hart file host in
     let sets = changed hart x.changes (found layout opened seen old hart file on) in
     let that = monitor_of new sets (unmarked 4 x.mid).marked in
     let same : (all : Runner → RegisterFile) → with_sets that all ≡ unmarked 4 (with_sets x.mid all) = λ all. equal (record {
@@ -80,34 +91,38 @@ trap_seen layout opened seen kind old new hart file on known x =
       registers = λ who. refl;
       marked = λ h. refl;
     }) in
-    let kept = keeping (old.worlds hart) on.hosts hart trap.control in
-    let given = words_in (new.worlds hart) (kept hart) in
-    let head = head_of that hart x.answer x.used x.cleared (marks_of x.mid) x.which in
-    let answered = answer_bytes head x.changes given x.are in
+    let before = monitor_of old on.registers on.marked in
+    let given = given_at before that trap in
+    let head = head_of that hart x.answer x.used x.cleared (marks_of x.mid) x.which given in
+    let answered = whole head x.changes x.are given in
     let is_answer : IsAnswer that given hart x.answer x.cleared (marks_of x.mid) x.which x.changes answered = record {
       used = x.used;
       needs = x.needs;
+      front = front_bytes head x.changes ++ lists_bytes x.are;
       puts = record { are = x.are; lists = x.lists; put = refl };
+      ends = refl;
     } in
     let words = named that given hart x.answer x.cleared (marks_of x.mid) x.which x.changes answered is_answer x.inside in
     let lists : ℕ → List ℕ = list_after answered on.lists in
-    let loaded : ℕ → List ℕ = λ h. loaded_after answered lists (on.loaded h) h in (
+    let loaded : ℕ → List ℕ = λ h. loaded_after answered lists (on.loaded h) h in
+    let who = runner_of hart (old.worlds hart) in
+    let next = runner_by hart (word_at answered 2) in
+    let control : ℕ → ControlWords = control_after hart who next (said_words answered) on.control on.hosts in
+    let hosts : ℕ → ControlWords = hosts_after hart (said_words answered) on.control on.hosts in (
       answered,
       record {
         registers = sets;
         marked = (unmarked 4 x.mid).marked;
-        hosts = kept;
         lists = lists;
         loaded = loaded;
-        runs = happened on.runs (trapped trap (trap_frame kind hart file) x.read x.question answered) (record {
-          size = frame_size kind hart file;
-          is_trap = frame_is kind hart old.table.layout.harts file known;
+        control = control;
+        hosts = hosts;
+        runs = happened on.runs (trapped trap (trap_frame kind hart file host) x.read x.question answered) (record {
+          size = frame_size kind hart file host;
+          is_trap = frame_is kind hart file host old.table.layout.harts known;
+          host = refl;
           changes = x.changes;
-          served = λ all there. record {
-            given = given;
-            words = record { keeps = refl; gives = refl };
-            step = x.serves given answered that same is_answer all there;
-          };
+          served = λ all there. x.serves answered that same is_answer all there;
           sets = refl;
           pages = x.reads;
           cleared = λ byte.
@@ -123,10 +138,13 @@ trap_seen layout opened seen kind old new hart file on known x =
             harts = λ other differ. refl;
             others = λ other differ none. refl;
           };
+          control = control_changes (board_of old on.registers on.marked on.lists on.loaded on.control on.hosts)
+              (board_of new sets (unmarked 4 x.mid).marked lists loaded control hosts) hart who next (said_words answered)
+              (refl {a = control}) (refl {a = hosts});
         });
         waits = x.waits;
       },
-      says head x.changes given x.are,
+      says head x.changes x.are given,
     )
 
 -- memory as the model clears it

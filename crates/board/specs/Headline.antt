@@ -5,8 +5,8 @@ use Rattle.pmp_match.specs.declared.access.Access.{Access}
 use Rattle.pmp_match.specs.Accesses.{Reaches}
 use Rattle.pmp_match.specs.declared.access.Kind.TheVariants.{Store}
 use Rattle.pmp_match.specs.declared.cause.Cause.{Cause}
-use Rattle.sbi_decode.specs.declared.world.World.TheVariants.{Enclave as InEnclave}
-use Rattle.sbi_decode.specs.Runners.{Runner, EnclaveOf, runner_of}
+use Rattle.sbi_decode.specs.declared.world.World.TheVariants.{Host, Enclave as InEnclave}
+use Rattle.sbi_decode.specs.Runners.{Runner, HostOf, EnclaveOf, runner_of}
 use Rattle.sbi_decode.specs.declared.world.World.{World}
 use Rattle.measurement.specs.Requests.{is_private}
 use Rattle.platforms.specs.Platform.{PlatformLayout}
@@ -16,7 +16,7 @@ use Rattle.enclave_table.specs.Tables.{IsTable}
 use Rattle.enclave_table.specs.Views.{current_view}
 use Rattle.enclave_table.specs.declared.enclave.Enclave.{Enclave}
 use Rattle.enclave_table.specs.declared.enclave.Stage.TheVariants.{Fresh}
-use Rattle.monitor_core.specs.Changes.{is_same}
+use Rattle.monitor_core.specs.Changes.{is_host, is_same}
 use Rattle.monitor_core.specs.States.{opening_monitor}
 use Rattle.monitor_core.specs.Switches.{HasExited, IsGone, KeepsRegisters, runner_on}
 use Rattle.monitor_core.specs.Worlds.{ArePlaced}
@@ -25,9 +25,11 @@ use Rattle.hart_sim.specs.Steps.{verdict}
 use Rattle.trap_server.specs.declared.trap.Trap.{Trap}
 use Rattle.trap_server.specs.Answered.{AreAwake}
 use Rattle.trap_server.specs.Firmware.{AreThose, HasFewest, list_last, loaded_last}
-use Rattle.trap_server.specs.Runs.{ServesTraps, first_words}
-use Rattle.board.specs.Board.{Board, BoardEvent, BoardRun, access, computed, trapped, booted}
-use Rattle.board.specs.Board.{Floats, happened, no_floats, saved}
+use Rattle.trap_server.specs.Runs.{ServesTraps}
+use Rattle.trap_server.specs.Tables.{enclave_words}
+use Rattle.trap_server.specs.declared.words.ControlWords.{ControlWords}
+use Rattle.board.specs.Board.{Board, BoardEvent, BoardRun, access, computed, trapped, wrote}
+use Rattle.board.specs.Board.{Floats, booted, framed, happened, no_floats, saved}
 
 -- what a host or an enclave has in registers of floating point, by what is in each hart's and what
 -- is kept: of the harts below n that of the one on which it runs, and what is kept for it where it
@@ -41,6 +43,12 @@ floats_below (suc n) worlds floats kept who = if is_same who (runner_of n (world
 abbrev pub floats_of : Board → Runner → Floats
 floats_of board who = floats_below board.monitor.table.layout.harts board.monitor.worlds
     board.floats board.kept who
+
+-- the control words of the host of a hart: those that the hart has while the host runs there, and
+-- those that it keeps while an enclave does
+abbrev pub host_control : Board → ℕ → ControlWords
+host_control board hart = if is_host (board.monitor.worlds hart) then board.control hart
+    else board.hosts hart
 
 -- a byte of a page that is private to an enclave
 abbrev pub IsPrivateByte : Board → ℕ → Enclave → ℕ → Type 0
@@ -62,7 +70,8 @@ pub record IsOwnStore (board : Board) (hart : ℕ) (a : Access) (said : Result (
 -- what holds of each access: the entries of its hart say what the view of its world says. An access
 -- that reaches a page which is private to an enclave, by any other world, is a fault, and so is any
 -- that reaches a page of the monitor. A byte of such a private page stays, but for the enclave's
--- own stores, and a byte of the monitor's pages stays. Nobody's registers of floating point change
+-- own stores, and a byte of the monitor's pages stays. Nobody's registers of floating point change,
+-- and no host's control words
 pub record KeepsAccess (old : Board) (hart : ℕ) (a : Access) (said : Result (Unit {0}) Cause)
     (new : Board) : Type 0 where
   pub by_view : said ≡ verdict (current_view old.monitor.table (old.monitor.worlds hart)) a
@@ -74,13 +83,24 @@ pub record KeepsAccess (old : Board) (hart : ℕ) (a : Access) (said : Result (U
       → (new.memory byte ≡ old.memory byte) ⊎ IsOwnStore old hart a said id byte
   pub monitor : (byte : ℕ) → IsMonitorByte old byte → new.memory byte ≡ old.memory byte
   pub floats : (who : Runner) → floats_of new who ≡ floats_of old who
+  pub control : (other : ℕ) → host_control new other ≡ host_control old other
 
 -- what holds of each computation: it changes registers of floating point of the one who runs there,
--- and of nobody else
+-- and of nobody else, and no host's control words
 pub record KeepsOtherFloats (old : Board) (hart : ℕ) (floats : Floats) (new : Board) : Type 0 where
   pub own : floats_of new (runner_on old.monitor hart) ≡ floats
   pub others : (who : Runner) → who ≢ runner_on old.monitor hart
       → floats_of new who ≡ floats_of old who
+  pub control : (other : ℕ) → host_control new other ≡ host_control old other
+
+-- what holds of each write of control words: a host that runs there has these, and no other host's
+-- change, nor anyone's registers of floating point
+pub record KeepsOtherControl (old : Board) (hart : ℕ) (words : ControlWords) (new : Board) :
+    Type 0 where
+  pub own : old.monitor.worlds hart ≡ Host → host_control new hart ≡ words
+  pub others : (other : ℕ) → HostOf other ≢ runner_on old.monitor hart
+      → host_control new other ≡ host_control old other
+  pub floats : (who : Runner) → floats_of new who ≡ floats_of old who
 
 -- an enclave that was not there before, and is now
 abbrev pub IsNew : Board → Board → Runner → Type 0
@@ -120,34 +140,48 @@ pub record KeepsSets (old : Board) (trap : Trap) (new : Board) : Type 0 where
       → HasExited old.monitor new.monitor id → ⊥)
       → AreThose trap.event trap.registers (new.monitor.registers (runner_on old.monitor trap.hart))
 
+-- what holds of control words over each trap. Each host has those that it had: one that goes on,
+-- one that waits, and one that comes back after an enclave. An enclave that its host enters has its
+-- own, by two of the host's. And on each hart that stays in its world they stay
+pub record KeepsControl (old : Board) (trap : Trap) (new : Board) : Type 0 where
+  pub hosts : (hart : ℕ) → host_control new hart ≡ host_control old hart
+  pub enters : (id : ℕ) → old.monitor.worlds trap.hart ≡ Host
+      → new.monitor.worlds trap.hart ≡ InEnclave id
+      → new.control trap.hart ≡ enclave_words (framed (old.control trap.hart))
+  pub stays : (hart : ℕ) → new.monitor.worlds hart ≡ old.monitor.worlds hart
+      → new.control hart ≡ old.control hart
+
 -- what holds of an event
 abbrev pub Keeps : BoardEvent → Board → Board → Type 0
 Keeps (access hart a value said) old new = KeepsAccess old hart a said new
 Keeps (computed hart floats) old new = KeepsOtherFloats old hart floats new
+Keeps (wrote hart words) old new = KeepsOtherControl old hart words new
 Keeps (trapped trap frame read question answered) old new = KeepsMemory old new
-    × KeepsFloats old new × KeepsSets old trap new
+    × KeepsFloats old new × KeepsSets old trap new × KeepsControl old trap new
 
 -- so it is for each event of a run
 abbrev pub EachKeeps : {layout : PlatformLayout} {opened : List ℕ} {events : List BoardEvent}
     {board : Board} → BoardRun layout opened events board → Type 0
-EachKeeps (booted memory floats kept) = ⊤
+EachKeeps (booted memory floats kept control hosts) = ⊤
 EachKeeps (happened {old = old} {new = new} run event happens) = EachKeeps run × Keeps event old new
 
 -- what was read in the traps of a run: their frames, and their pages
 abbrev pub read_on : {layout : PlatformLayout} {opened : List ℕ} {events : List BoardEvent}
     {board : Board} → BoardRun layout opened events board → List ℕ
-read_on (booted memory floats kept) = []
+read_on (booted memory floats kept control hosts) = []
 read_on (happened run (access hart a value said) does) = read_on run
 read_on (happened run (computed hart floats) does) = read_on run
+read_on (happened run (wrote hart words) does) = read_on run
 read_on (happened run (trapped trap frame read question answered) does) =
     read_on run ++ (frame ++ read)
 
 -- what was written in them: the answers, and the questions for pages
 abbrev pub written_on : {layout : PlatformLayout} {opened : List ℕ} {events : List BoardEvent}
     {board : Board} → BoardRun layout opened events board → List ℕ
-written_on (booted memory floats kept) = []
+written_on (booted memory floats kept control hosts) = []
 written_on (happened run (access hart a value said) does) = written_on run
 written_on (happened run (computed hart floats) does) = written_on run
+written_on (happened run (wrote hart words) does) = written_on run
 written_on (happened run (trapped trap frame read question answered) does) =
     written_on run ++ (answered ++ question)
 
@@ -155,8 +189,7 @@ written_on (happened run (trapped trap frame read question answered) does) =
 -- and loaded on each hart, as its answers say
 pub record IsServed (layout : PlatformLayout) (opened read written : List ℕ) (board : Board) :
     Type 0 where
-  pub served : ServesTraps (opening_monitor layout) first_words read written board.monitor
-      board.hosts
+  pub served : ServesTraps (opening_monitor layout) read written board.monitor
   pub keeps : (world : ℕ) → board.lists world ≡ list_last opened served world
   pub loads : (hart : ℕ) → board.loaded hart ≡ loaded_last opened served hart
 
@@ -166,12 +199,22 @@ abbrev pub AreMeasured : Board → Type 0
 AreMeasured board = (id : ℕ) (e : Enclave) → Live board.monitor.table id e → e.state ≡ Fresh
     → e.digest ≡ measured_in board.memory e.parts
 
+-- a hart on which an enclave runs has an enclave's control words, by two of those that it keeps for
+-- its host, but for status: the enclave runs in user mode
+abbrev pub HaveOwnControl : Board → Type 0
+HaveOwnControl board = (hart id : ℕ) → board.monitor.worlds hart ≡ InEnclave id
+    → (board.control hart ≡ record (enclave_words (framed (board.hosts hart))) {
+      status = (board.control hart).status;
+    })
+    × ((board.control hart).mode ≡ 0)
+
 -- after any events: the traps among them are a run of the loop, by what was read and written. The
 -- table is sound, and the platform is the one that was booted. Each hart is in the host's world or
 -- in that of an enclave that is Running, and each of these runs on just one; none is to be woken.
 -- The entries that each hart has loaded mean the view of its world, by the fewest that do, and in
--- its registers of floating point it has what its world has. What was measured of an enclave is
--- what it will first run. And what each event kept
+-- its registers of floating point it has what its world has. Where an enclave runs it has an
+-- enclave's control words. What was measured of an enclave is what it will first run. And what each
+-- event kept
 pub record BoardHeadline (layout : PlatformLayout) (opened : List ℕ) (events : List BoardEvent)
     (board : Board) (run : BoardRun layout opened events board) : Type 0 where
   pub served : IsServed layout opened (read_on run) (written_on run) board
@@ -184,5 +227,6 @@ pub record BoardHeadline (layout : PlatformLayout) (opened : List ℕ) (events :
       (current_view board.monitor.table (board.monitor.worlds hart))
   pub floats : (hart : ℕ) → hart < layout.harts
       → board.floats hart ≡ floats_of board (runner_on board.monitor hart)
+  pub control : HaveOwnControl board
   pub measured : AreMeasured board
   pub each : EachKeeps run

@@ -8,17 +8,18 @@ use Rattle.enclave_table.specs.declared.enclave.Stage.TheVariants.{Fresh}
 use Rattle.trap_server.specs.Boot.{IsFirstAnswer}
 use Rattle.trap_server.specs.declared.trap.Trap.{Trap}
 use Rattle.board.specs.Board.{Board, BoardEvent, BoardRun, DoesTrap, HappensOn}
-use Rattle.board.specs.Board.{access, computed, trapped}
+use Rattle.board.specs.Board.{access, computed, trapped, wrote}
 use Rattle.board.specs.Headline.{IsPrivateByte}
 
--- an access or a computation
+-- an access, a computation or a write of control words
 abbrev pub IsNoTrap : BoardEvent → Type 0
 IsNoTrap (access hart a value said) = ⊤
 IsNoTrap (computed hart floats) = ⊤
+IsNoTrap (wrote hart words) = ⊤
 IsNoTrap (trapped trap frame read question answered) = ⊥
 
--- the worlds of a board run on, with no trap: accesses and computations, one after another, on
--- any harts
+-- the worlds of a board run on, with no trap: accesses, computations and writes of control words,
+-- one after another, on any harts
 pub data RunsOn (old : Board) : Board → Type 0 where
   begins : RunsOn old old
   goes_on : {mid new : Board} → RunsOn old mid → (event : BoardEvent) → IsNoTrap event

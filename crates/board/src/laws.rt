@@ -20,7 +20,9 @@ use trap_server::firmware_law;
 /// each enclave finds in registers of floating point what it left there, on whichever hart it goes on, and an enclave that
 /// was created finds zeros. Over each trap the set of integer registers of who waits stays, the world that trapped is left
 /// with those that it had, past its call and with its answer, and who goes on has its own: the host but for a0 and a1, and
-/// an enclave at first zeros but its number and where it begins.
+/// an enclave at first zeros but its number and where it begins. Each host finds the control words that it left,
+/// whatever ran on its hart meanwhile, and an enclave runs in user mode with words of its own, which two of its host's
+/// decide.
 pub fn board_law()
     ensures { (layout : PlatformLayout) (opened : List ℕ) (events : List BoardEvent)
         (board : Board) (run : BoardRun layout opened events board)

@@ -6,21 +6,19 @@ use Rattle.enclave_table.specs.Views.{current_view}
 use Rattle.monitor_core.specs.States.{MonitorState, opening_monitor}
 use Rattle.trap_server.specs.Boot.{IsFirstAnswer}
 use Rattle.trap_server.specs.Firmware.{FirmwareHeadline, HasFewest, loaded_last}
-use Rattle.trap_server.specs.Runs.{Ran, ServesTraps, first_words}
+use Rattle.trap_server.specs.Runs.{Ran, ServesTraps}
 use Rattle.trap_server.specs.declared.fault.ServeFault.{ServeFault}
-use Rattle.trap_server.specs.declared.words.ControlWords.{ControlWords}
 use Rattle.machine_tests.specs.Served.{IsKnown}
 
 -- what the firmware's theorem says
 abbrev FirmwareHolds : Type 0
 FirmwareHolds =
-    (layout : PlatformLayout) (opened read written : List ℕ) (s : MonitorState) (kept : ℕ → ControlWords)
-    (served : ServesTraps (opening_monitor layout) first_words read written s kept)
-    → IsLayout layout → IsFirstAnswer layout opened → FirmwareHeadline layout opened read written s kept served
+    (layout : PlatformLayout) (opened read written : List ℕ) (s : MonitorState) (served : ServesTraps (opening_monitor layout) read written s)
+    → IsLayout layout → IsFirstAnswer layout opened → FirmwareHeadline layout opened read written s served
 
 known_run : (law : FirmwareHolds) {before after held holds : Option (List ℕ)} (run : Ran before after held holds [] []) → IsKnown run
 known_run law run =
-    let f = law run.layout run.opened run.read run.written run.state run.hosts run.served run.rules run.begins in (
+    let f = law run.layout run.opened run.read run.written run.state run.served run.rules run.begins in (
       f,
       λ hart low host. subst (λ (w : World). HasFewest (loaded_last run.opened run.served hart) run.layout.limit (current_view run.state.table w)) host
           (f.banks hart low),

@@ -19,7 +19,7 @@ use Rattle.board.specs.Board.{Board, BoardEvent, BoardRun, DoesAccess, DoesTrap}
 abbrev pub IsKnown : {before after held holds : Option (List ℕ)}
     → Ran before after held holds [] [] → Type 0
 IsKnown run =
-    FirmwareHeadline run.layout run.opened run.read run.written run.state run.hosts run.served
+    FirmwareHeadline run.layout run.opened run.read run.written run.state run.served
     × ((hart : ℕ) → hart < run.layout.harts → run.state.worlds hart ≡ Host
     → HasFewest (loaded_last run.opened run.served hart) run.layout.limit
     (host_view run.state.table))

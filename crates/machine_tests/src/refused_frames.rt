@@ -5,7 +5,8 @@ use std::alloc::Global;
 use std::process::Abort;
 use trap_server::{EndReason, ServeFault, serve_traps};
 
-/// The bytes of an answer before its lists, of which byte 72 says how many there are, and those of a list.
+/// The bytes of an answer before its lists, of which byte 72 says how many there are, and those of a list. No answer
+/// here gives control words.
 const FRONT: usize = 184;
 
 const LIST: usize = 584;

@@ -32,6 +32,15 @@ const PAGE_TAG: u64 = 0x6567_6170;
 
 const ANSWER_TAG: u64 = 0x7265_7773_6e61;
 
+/// The interrupts that each host has enabled (`mie`), and the counters that it lets user mode read (`scounteren`).
+const INTERRUPTS: u64 = 0xfff5;
+
+const COUNTERS: u64 = 7;
+
+/// The control words of an enclave under such a host: floating point is open, of the host's interrupts two are enabled
+/// beside the monitor's, and user mode reads the time.
+const ENCLAVE_WORDS: [u64; 9] = [0x2_0000_2000, 0, 0x2a8, 2, 0, 0, 0, 0, 0];
+
 /// Words at the end of bytes, the lowest byte of each first.
 fn put_words(rt: &impl Abort, bytes: &mut Vec<u8>, words: &[u64]) {
     for word in words {
@@ -76,6 +85,8 @@ fn put_trap(
     words[4] = arguments[2];
     words[8] = function;
     words[9] = EXTENSION;
+    words[10] = INTERRUPTS;
+    words[11] = COUNTERS;
     put_words(rt, frames, &words);
 }
 
@@ -103,20 +114,29 @@ fn after<'a>(rt: &impl Abort, alloc: Global, written: &'a [u8], words: &[u64]) -
 }
 
 /// Takes an answer: its hart, its world, the status and the value, how many entries there are, the pages to make zero, the
-/// harts that are woken, how many lists of entries are new, at most two, and how many control words it has, at most nine.
-fn after_answer<'a>(rt: &impl Abort, alloc: Global, written: &'a [u8], head: [u64; 10]) -> &'a [u8] {
+/// harts that are woken, how many lists of entries are new, at most two, and how many control words are given, which are
+/// an enclave's.
+fn after_answer<'a>(
+    rt: &impl Abort,
+    alloc: Global,
+    written: &'a [u8],
+    head: [u64; 10],
+) -> &'a [u8] {
     let rest = after(rt, alloc, written, &[ANSWER_TAG]);
     let rest = after(rt, alloc, rest, &head);
     assert!(rt; head[8] <= 2);
-    assert!(rt; head[9] <= 9);
-    let bytes = (8 * (FRONT - 11 + LIST * head[8] + head[9])) as usize;
+    let bytes = (8 * (FRONT - 11 + LIST * head[8])) as usize;
     assert!(rt; rest.len() >= bytes);
-    &rest[bytes..]
+    let rest = &rest[bytes..];
+    if head[9] == 0 {
+        return rest;
+    }
+    after(rt, alloc, rest, &ENCLAVE_WORDS)
 }
 
 /// The answers in turn. The host's list is new at boot, after the creation, with the enclave's, and after the destruction. The
-/// pages of the creation are asked for once, after its answer, and those of the destruction named once. Control words come where the
-/// enclave is entered, on each hart.
+/// pages of the creation are asked for once, after its answer, and those of the destruction named once. Control words
+/// are given where a host enters the enclave, and nowhere else.
 fn answers_a_life(rt: &impl Abort, alloc: Global, written: &[u8]) {
     let rest = after_answer(rt, alloc, written, [0, 0, 0, 0, 3, 0, 0, 2, 1, 0]);
     let rest = after_answer(rt, alloc, rest, [0, 0, 0, 1, 4, 0, 0, 2, 2, 0]);

@@ -12,7 +12,7 @@ mod Past
 mod Read
 mod Traps
 mod LoadedBytes
-mod Said
+pub mod Said
 mod RegistersCame
 mod WorldsStay
 pub mod ListsKept
