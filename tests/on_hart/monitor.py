@@ -10,6 +10,7 @@ import tempfile
 from concurrent.futures import ProcessPoolExecutor, ThreadPoolExecutor
 from pathlib import Path
 
+from costs import costs
 from interleavings import all_interleavings
 from lives import Life
 from resets import resets, symbol
@@ -199,9 +200,13 @@ def most_taken(on_hart, folder, told):
     told(f"a boot on the largest platform: {notes.replace(chr(10), ', ')}", most and most["stack"] < 24576 and most["heap"] < 135168)
 
 
-def booted(image, payload, harts, *more, seconds=240):
+def board_of(image, payload, harts, *more):
     board = [on_hart_module().QEMU, "-machine", "virt", "-smp", str(harts), "-m", "128", "-display", "none", "-monitor", "none", "-serial", "stdio"]
-    board += ["-bios", str(image), "-device", f"loader,file={payload}", *more]
+    return board + ["-bios", str(image), "-device", f"loader,file={payload}", *more]
+
+
+def booted(image, payload, harts, *more, seconds=240):
+    board = board_of(image, payload, harts, *more)
     try:
         return subprocess.run(board, stdin=subprocess.DEVNULL, capture_output=True, text=True, timeout=seconds).stdout.replace("\r", "")
     except subprocess.TimeoutExpired:
@@ -453,8 +458,13 @@ def races(folder, told):
     taken = {name: int(n) for name, n in re.findall(r"(\w+) (\d+)\n", said)}
     right = taken.pop("error", 1) == 0 and taken.keys() == most.keys() and all(taken[it] < most[it] for it in most)
     told("instructions of a creation of 16 pages, its destruction, calls for SBI's base and a digest, and a resume and stop", right, said.replace("\n", " "))
+    image = FIRMWARE / "out/pmpmon-virt.elf"
+    taken = costs(board_of(image, host(folder / "costs.elf", "harts.S", "costs_enclave.S", "costs.c"), 1), image)
+    told(f"instructions from a trap to the world after it: {', '.join(f'{it} {n}' for it, n in taken.items())}", taken.keys() == MOST.keys() and all(taken[it] <= MOST[it] for it in MOST))
 
 
+# The most instructions that a trap takes with its world entered after it (firmware/README.md, "What it takes").
+MOST = {"run": 1100, "stop": 900, "resume": 1000, "measure": 700, "base": 200, "set timer": 210, "timer": 800, "exit": 900}
 # The calls of a host by what they are answered, of which those that are done stop another hart; and the turn of a hart in instructions,
 # 100 ms of QEMU's time, where it counts them for all harts.
 ASIDE = {"no call": 0, "create": 0, "create once more": -106, "create without text": -102, "create off a page": -103, "create of a device": -105}

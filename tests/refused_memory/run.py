@@ -35,7 +35,7 @@ HERE = Path(__file__).resolve().parent
 REPLAY = HERE.parents[1] / "crates/trap_replay"
 # The frame `end` of refused memory (docs/FORMATS.md), and how many bytes an `answer` has.
 END = b"end\0\0\0\0\0" + bytes([4, 0, 0, 0, 0, 0, 0, 0]) + bytes(8)
-ANSWER = 123 * 8
+ANSWER = 96 * 8
 # More refusals than any command meets.
 MOST = 100_000
 

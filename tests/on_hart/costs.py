@@ -1,0 +1,47 @@
+"""Counts the instructions of the monitor at each trap of a host (costs.c), from the trap to the `mret` after it, as QEMU executes them."""
+import os
+import re
+import subprocess
+import tempfile
+from pathlib import Path
+
+GCC = "riscv64-unknown-elf-gcc"
+# The traps of costs.c and its enclave in their order. Those without a name are counted elsewhere (pause.c).
+TRAPS = ["", "run", "stop", "resume", "stop", "measure", "base", "set timer", "resume", "timer", "", "resume", "exit", ""]
+
+
+def addresses_of(image):
+    """Where the monitor comes at a trap, and the `mret` by which it leaves."""
+    text = subprocess.run([GCC.replace("gcc", "objdump"), "-d", "--no-show-raw-insn", image], capture_output=True, text=True, check=True).stdout
+    return int(re.search(r"(?m)^([0-9a-f]+) <trap>:", text)[1], 16), int(re.search(r"(?m)^ *([0-9a-f]+):\tmret", text)[1], 16)
+
+
+def counts_of(log, trap, left):
+    """The counts of a log with a line for each instruction, which has its address after the first slash."""
+    counts, count = [], None
+    for line in log:
+        place = line.find(b"/") + 1
+        address = int(line[place : place + 16], 16) if place else 0
+        if address == trap:
+            count = 0
+        if count is not None:
+            count += 1
+            if address == left:
+                counts.append(count)
+                count = None
+    return counts
+
+
+def costs(board, image):
+    """The most that a trap of each name takes, or nothing where the traps are others. A tick of the time is 100 instructions."""
+    with tempfile.TemporaryDirectory() as place:
+        log = Path(place) / "log"
+        os.mkfifo(log)
+        words = [*board, "-icount", "shift=0", "-singlestep", "-d", "exec,nochain", "-D", log]
+        with subprocess.Popen(words, stdin=subprocess.DEVNULL, stdout=subprocess.DEVNULL) as running:
+            with open(log, "rb") as lines:
+                counts = counts_of(lines, *addresses_of(image))
+            running.wait(60)
+    if len(counts) != len(TRAPS):
+        return {}
+    return {name: max(n for it, n in zip(TRAPS, counts) if it == name) for name in dict.fromkeys(TRAPS) if name}
