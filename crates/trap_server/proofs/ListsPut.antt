@@ -13,6 +13,13 @@ use Rattle.trap_server.specs.Answers.{list_bytes}
 use Rattle.trap_server.specs.declared.answer.NewLists.{NewLists}
 use Rattle.trap_server.specs.declared.answer.NewLists.TheVariants as lists
 
+pub none_put : (table : EnclaveTable) (id : ℕ) (new : NewLists) (front : List ℕ) → new ≡ lists.Nothing → PutsLists table id new front front
+none_put table id new front is = subst (λ n. PutsLists table id n front front) (sym is) (record {
+  are = [];
+  lists = refl;
+  put = sym (append-nil front);
+})
+
 pub host_put :
     (kept table : EnclaveTable) (id : ℕ) (new : NewLists) (front bytes : List ℕ) (host : List Entry) → kept ≡ table → new ≡ lists.Host
     → IsListOf kept.layout.limit (host_view kept) host → bytes ≡ front ++ list_bytes host → PutsLists table id new front bytes

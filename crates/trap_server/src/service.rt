@@ -1,6 +1,6 @@
 //! How a trap is served, and its answer written.
 
-ghost use Rattle.std.specs.Prelude.{◌≡◌, ◌<◌, ◌≤◌, ◌+◌, ◌*◌, ℕ, List, Option, IfNone, IfSome, is_some, take};
+ghost use Rattle.std.specs.Prelude.{◌≡◌, ◌<◌, ◌≤◌, ◌++◌, ℕ, List, Option, IfNone, IfSome, is_some, take};
 ghost use Rattle.sbi_decode.specs.Calls.{call_of};
 ghost use Rattle.measurement.specs.declared.request.Create.{Create as CreateParts};
 ghost use Rattle.enclave_table.specs.Enclaves.{Live};
@@ -10,6 +10,7 @@ ghost use Rattle.monitor_core.specs.SetChanges.{AreOfSets};
 ghost use Rattle.monitor_core.specs.Changes.{without_mark};
 ghost use Rattle.trap_server.specs.declared.answer.NewLists.{NewLists};
 ghost use Rattle.trap_server.specs.declared.answer.NewLists.TheVariants as NewLists;
+ghost use Rattle.trap_server.specs.Answers.{given_bytes};
 ghost use Rattle.trap_server.specs.Answered.{AreAwake, AreControl, AreWords, IsAnswer, PutsLists, marks_of, new_lists, status_word, unmarked};
 ghost use Rattle.trap_server.specs.Ends.{CountsReads, CountsWrites};
 ghost use Rattle.trap_server.specs.PageDigest.{HasParts};
@@ -67,20 +68,29 @@ fn status_word(answer: &Answer) -> u64
 }
 
 /// Puts the lists of entries that are new behind the front of an answer, which made an enclave of this id where its list is
-/// new, and says at which word they end.
+/// new, and behind them the control words that are given. It says at which byte they end. The place of the words is a number in
+/// each arm, so they are written by the word.
 #[inline(always)]
-fn put_lists(frame: &mut AnswerBytes, core: &Core, lists: NewLists, id: u64) -> usize
+fn put_rest(
+    frame: &mut AnswerBytes,
+    core: &Core,
+    lists: NewLists,
+    id: u64,
+    given: &Option<ControlWords>,
+) -> usize
     requires made { lists ≡ NewLists.HostAndMade
         → (e : Enclave) × Live (bare core.now).table id e }
-    ensures inside { result + 9 ≤ 178 }
-    ensures lists { PutsLists (bare core.now).table id lists (take 184 frame.old)
-        (take (8 * result) frame.new) }
+    ensures inside { result ≤ 1424 }
+    ensures rest { (front : List ℕ)
+        × PutsLists (bare core.now).table id lists (take 184 frame.old) front
+        × (take result frame.new ≡ front ++ given_bytes given.now) }
+    ensures fits { IfSome given.now AreControl }
 {
     match lists {
-        NewLists::Nothing => 23,
+        NewLists::Nothing => put_given(frame, 23, given),
         NewLists::Host => {
             put_list(frame, 23, core.table().host_entries());
-            96
+            put_given(frame, 96, given)
         }
         NewLists::HostAndMade => {
             put_list(frame, 23, core.table().host_entries());
@@ -88,7 +98,7 @@ fn put_lists(frame: &mut AnswerBytes, core: &Core, lists: NewLists, id: u64) -> 
                 unreachable!();
             };
             put_list(frame, 96, entries);
-            169
+            put_given(frame, 169, given)
         }
     }
 }
@@ -129,8 +139,7 @@ fn put_frame(
         given,
     };
     put_front(frame, &head, changes);
-    let end = put_lists(frame, core, lists, answer.value);
-    put_given(frame, end, &head.given)
+    put_rest(frame, core, lists, answer.value, &head.given)
 }
 
 /// Writes with what a hart goes on, in a frame that is lent, and whose bytes before decide nothing.
@@ -232,12 +241,13 @@ fn measure_made<R: Source, W: Sink>(
     }
 }
 
-/// Serves the call in the registers of a trap. An enclave that it made is measured after the answer, and has a digest of zeros
-/// until then: so others may run their worlds meanwhile, to which its pages are closed by then.
+/// Serves the call in the registers of a trap. An enclave that it made is measured after the answer, and has a digest that is
+/// lent until then: so others may run their worlds meanwhile, to which its pages are closed by then.
 #[inline(always)]
 fn serve_call<R: Source, W: Sink>(
     core: &mut Core,
     trap: &Trap,
+    digest: &TakenDigest,
     changes: &mut SetChanges,
     frame: &mut AnswerBytes,
     source: &mut R,
@@ -257,8 +267,7 @@ fn serve_call<R: Source, W: Sink>(
     let _most = core.harts();
     let before = core.world(trap.hart);
     let is_creation = is_creation(&trap.registers);
-    let digest = TakenDigest { bytes: [0; 32] };
-    let served = core.serve(trap.hart, &trap.registers, &digest, changes);
+    let served = core.serve(trap.hart, &trap.registers, digest, changes);
     core.cite_invariant();
     let woken = wake_all(core);
     let lists = new_lists(is_creation, &served);
@@ -331,6 +340,7 @@ fn serve_stop<W: Sink>(
 pub(crate) fn serve_trap<R: Source, W: Sink>(
     core: &mut Core,
     trap: &Trap,
+    digest: &TakenDigest,
     changes: &mut SetChanges,
     frame: &mut AnswerBytes,
     source: &mut R,
@@ -346,7 +356,7 @@ pub(crate) fn serve_trap<R: Source, W: Sink>(
         (W.stalls sink.old) (W.stalls sink.new) }
 {
     match trap.event {
-        TrapEvent::Call => serve_call(core, trap, changes, frame, source, sink),
+        TrapEvent::Call => serve_call(core, trap, digest, changes, frame, source, sink),
         TrapEvent::Stop => serve_stop(core, trap, changes, frame, sink),
     }
 }

@@ -14,7 +14,7 @@ use crate::fault::{ServeFault, end, refuse};
 use crate::service::{NOTHING, serve_trap, write_answer};
 use crate::{EndReason, NewLists, Trap, read_platform, read_trap};
 use byte_streams::{Sink, Source};
-use monitor_core::{Core, SetChanges};
+use monitor_core::{Core, SetChanges, TakenDigest};
 use platforms::{BootFault, Platform};
 use std::alloc::Global;
 
@@ -129,6 +129,7 @@ fn serve_booted<R: Source, W: Sink>(
         Ok(()) => {}
         Err(fault) => return Err(fault),
     }
+    let digest = TakenDigest { bytes: [0; 32] };
     let mut trap_frame = [0; 96];
     let mut trap = Trap::new();
     for _count in 0..u64::MAX {
@@ -139,7 +140,7 @@ fn serve_booted<R: Source, W: Sink>(
         if !is_there {
             return Ok(());
         }
-        match serve_trap(core, &trap, &mut changes, &mut frame, source, sink) {
+        match serve_trap(core, &trap, &digest, &mut changes, &mut frame, source, sink) {
             Ok(()) => {}
             Err(fault) => return Err(fault),
         }

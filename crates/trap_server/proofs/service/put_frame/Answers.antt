@@ -1,4 +1,4 @@
-use Rattle.std.proofs.Common.{◌∙◌, ◌*◌, ap, subst, take}
+use Rattle.std.proofs.Common.{◌∙◌, ap, subst}
 use Rattle.sbi_decode.specs.declared.world.World.{World}
 use Rattle.trap_server.specs.declared.answer.Head.{Head}
 use Rattle.trap_server.specs.Answers.{front_bytes}
@@ -15,7 +15,7 @@ returns-clause-words c = record {
 }
 
 pub returns-clause-control : goal.returns-clause-control
-returns-clause-control c = c.put_given.ensures.fits
+returns-clause-control c = c.put_rest.ensures.fits
 
 pub returns-clause-answer : goal.returns-clause-answer
 returns-clause-answer c =
@@ -39,8 +39,7 @@ returns-clause-answer c =
     record {
       used = c.used.result;
       needs = c.used.ensures;
-      front = take (8 * c.put_lists-end.result) c.put_lists-end.new.frame;
-      puts = subst (λ bytes. PutsLists s.table answer.value c.args.lists bytes (take (8 * c.put_lists-end.result) c.put_lists-end.new.frame)) front
-          c.put_lists-end.ensures.lists;
-      ends = c.put_given.ensures.bytes;
+      front = c.put_rest.ensures.rest.0;
+      puts = subst (λ bytes. PutsLists s.table answer.value c.args.lists bytes c.put_rest.ensures.rest.0) front c.put_rest.ensures.rest.1;
+      ends = c.put_rest.ensures.rest.2;
     }
