@@ -72,6 +72,9 @@ void check_entries(void);
 /* serve.c: the list of the host. */
 extern struct bank host_bank;
 int differ(const uint64_t *a, const uint64_t *b, unsigned count);
+/* The frame of a trap of a world is put. This, what control.c adds to it and what registers.c does with an answer come last: each tells
+   how many bytes were read or written, so that none of them comes back for that. */
+int64_t put_trap(const struct world *world, uint64_t tag, struct trap_frame *frame);
 /* Makes pages of memory that are not the monitor's zero. */
 void make_zero(uint64_t first, uint64_t count);
 
@@ -88,8 +91,8 @@ _Noreturn void end_board(uint64_t status);
 _Noreturn void end_because(const char *why, int64_t number);
 _Noreturn void begin_anew(void);
 
-/* traps.c: runs the hart's world until the monitor has to know of a trap, of this hart or the next that comes: its action says which. */
-struct world *next_trap(void);
+/* traps.c: runs the hart's world until the monitor has to know of a trap, of this hart or the next that comes, and puts its frame. */
+int64_t next_trap(struct trap_frame *frame);
 /* Whether the trap of this hart's world is served, without the monitor: trap.S calls it on the hart's own stack. */
 int serve_alone(struct world *world);
 /* What is done with an answer that has lists, and with the end, beside loading it. */
@@ -111,12 +114,12 @@ static inline struct registers *registers_of(uint64_t hart, uint64_t world)
 /* A set as a world begins: all zero but the pc and a0. */
 void registers_begin(struct registers *set, uint64_t pc, uint64_t a0);
 /* What an answer says of them is done. */
-void registers_change(const struct answer_frame *answer);
+int64_t registers_change(uint64_t written, const struct answer_frame *answer);
 
 /* control.c: the registers of machine and supervisor mode that decide what a world can do, read for a frame and written from
    one on the hart that calls. */
 void control_at_start(void);
-void control_told(const struct world *self, struct trap_frame *frame);
+int64_t control_told(struct trap_frame *frame);
 void control_enter(struct world *self, const struct control_words *words, uint64_t status);
 void control_leave(const struct world *self);
 void control_to_handler(struct world *world);

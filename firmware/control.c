@@ -113,10 +113,11 @@ void control_leave(const struct world *self)
 }
 
 /* Of the words of the world that trapped those on which an enclave's depend. */
-void control_told(const struct world *self, struct trap_frame *frame)
+int64_t control_told(struct trap_frame *frame)
 {
     frame->mie = READ(mie) & INTERRUPTS;
-    frame->scounteren = self->lacks >> NUMBER_scounteren & 1 ? 0 : READ(scounteren);
+    frame->scounteren = READ(scounteren);
+    return sizeof *frame;
 }
 
 /*

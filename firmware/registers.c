@@ -28,11 +28,12 @@ static inline void change(struct registers *set, const struct set_change *change
     }
 }
 
-void registers_change(const struct answer_frame *answer)
+int64_t registers_change(uint64_t written, const struct answer_frame *answer)
 {
     struct registers *host = registers_of(answer->hart, 0);
 #pragma GCC unroll 3
     for (const struct set_change *it = answer->changes; it < answer->changes + 3; it++)
         if (it->kind && it->kind != LEAVE_REGISTERS)
             change(it->whose ? registers_of(0, it->whose) : host, it);
+    return (int64_t)written;
 }

@@ -12,8 +12,8 @@ static uint64_t enclave_banks[MOST_ENCLAVES + 1][9 + ENTRIES];
 #define AT_START(hart) {.registers = &register_sets[hart], .is_stale = 1, .bank = &host_bank, .last_number = (hart) ? ~0u : 0}
 struct world worlds[MOST_HARTS] = {AT_START(0), AT_START(1), AT_START(2), AT_START(3)};
 
-static enum { PLATFORM, TRAP, PAGES } next = PLATFORM;
-static uint64_t next_page, pages_left;
+/* Of the pages that are asked for the next that is read. */
+static uint64_t next_page;
 
 static int is_ram(uint64_t page)
 {
@@ -29,21 +29,12 @@ static int is_worlds(uint64_t page)
     return is_ram(page) && page - platform->monitor_base / PAGE >= platform->monitor_size / PAGE;
 }
 
-static __attribute__((noinline)) int64_t read_platform(struct platform_frame *frame)
+int64_t put_trap(const struct world *world, uint64_t tag, struct trap_frame *frame)
 {
-    *frame = *platform;
-    next = TRAP;
-    return sizeof *frame;
-}
-
-static __attribute__((noinline)) int64_t read_trap(struct trap_frame *frame)
-{
-    const struct world *world = next_trap();
-    frame->tag = world->action.kind < ENCLAVE_STOP ? TAG_CALL : TAG_STOP;
+    frame->tag = tag;
     frame->hart = this_hart();
     copy_words(frame->call, world->registers->x + 10, 8);
-    control_told(world, frame);
-    return sizeof *frame;
+    return control_told(frame);
 }
 
 static __attribute__((noinline)) int64_t read_page(struct page_frame *frame)
@@ -53,8 +44,6 @@ static __attribute__((noinline)) int64_t read_page(struct page_frame *frame)
     frame->tag = TAG_PAGE;
     frame->page = next_page++;
     memcpy(frame->bytes, (const void *)(frame->page * PAGE), PAGE);
-    if (--pages_left == 0)
-        next = TRAP;
     return sizeof *frame;
 }
 
@@ -64,18 +53,20 @@ static int is_aligned(const void *at)
     return (uintptr_t)at % sizeof(uint64_t) == 0;
 }
 
-/* Arguments that C has as int come in registers of 64 bits whose upper half says nothing. A read is for one whole frame. */
+/* The loop reads whole frames, and nothing else is read: which one it waits for its length says. */
 int64_t read(uint64_t descriptor, void *to, uint64_t n)
 {
-    if ((int)descriptor != 0 || !is_aligned(to))
+    (void)descriptor;
+    if (!is_aligned(to))
         return -1;
-    if (next == TRAP && n == sizeof(struct trap_frame))
-        return read_trap(to);
-    if (next == PAGES && n == sizeof(struct page_frame))
+    if (n == sizeof(struct trap_frame))
+        return next_trap(to);
+    if (n == sizeof(struct page_frame))
         return read_page(to);
-    if (next == PLATFORM && n == sizeof(struct platform_frame))
-        return read_platform(to);
-    return -1;
+    if (n != sizeof(struct platform_frame))
+        return -1;
+    memcpy(to, platform, n);
+    return (int64_t)n;
 }
 
 int differ(const uint64_t *a, const uint64_t *b, unsigned count)
@@ -127,8 +118,9 @@ static inline void change_world(struct world *self, const struct answer_frame *a
     }
 }
 
-/* No world reaches pages that are made zero: they were an enclave's, and are closed to the host until its entries change. */
-static __attribute__((noinline)) int64_t written_answer(struct world *self, const struct answer_frame *answer, uint64_t n)
+/* An answer with which more changes than registers. No world reaches pages that are made zero: they were an enclave's, and are closed
+   to the host until its entries change. */
+static __attribute__((noinline)) int64_t written_change(struct world *self, const struct answer_frame *answer, uint64_t n)
 {
     if (answer->list_count > 2 || n != sizeof *answer + answer->list_count * sizeof answer->lists[0] + 8 * answer->word_count)
         return -1;
@@ -140,31 +132,32 @@ static __attribute__((noinline)) int64_t written_answer(struct world *self, cons
         change_lists(answer);
     if (self->number != answer->world)
         change_world(self, answer);
-    registers_change(answer);
-    return (int64_t)n;
+    return registers_change(n, answer);
 }
 
 /* An answer has made an enclave, whose number its hart finds in a1. Its pages are asked for while other harts run. */
 static __attribute__((noinline)) int64_t written_measure(const struct measure_frame *asked)
 {
-    next = PAGES;
     next_page = asked->first;
-    pages_left = asked->count;
     floats_begin(registers_of(0, worlds[this_hart()].registers->x[11]));
     private_begin(asked->first, asked->count);
     return sizeof *asked;
 }
 
+/* Most answers have the front alone, and leave the hart in its world. */
 int64_t write(uint64_t descriptor, const void *from, uint64_t n)
 {
-    const uint64_t *words = from;
-    if ((int)descriptor != 1 || !is_aligned(from))
+    const struct answer_frame *answer = from;
+    (void)descriptor;
+    if (!is_aligned(from))
         return -1;
-    if (n >= sizeof(struct answer_frame) && *words == TAG_ANSWER)
-        return written_answer(&worlds[words[1]], from, n);
-    if (n == sizeof(struct measure_frame) && *words == TAG_MEASURE)
+    if (n == sizeof *answer && answer->world == worlds[answer->hart].number)
+        return registers_change(n, answer);
+    if (n >= sizeof *answer)
+        return written_change(&worlds[answer->hart], answer, n);
+    if (n == sizeof(struct measure_frame) && answer->tag == TAG_MEASURE)
         return written_measure(from);
-    if (n == sizeof(struct end_frame) && *words == TAG_END)
+    if (n == sizeof(struct end_frame))
         ended(from);
     return -1;
 }

@@ -155,18 +155,18 @@ static __attribute__((noinline)) struct world *serve_with_lock(struct world *wor
 }
 
 /* What a trap was decided to be holds with the lock too where it is the monitor's: that asks for no states of harts. */
-struct world *next_trap(void)
+int64_t next_trap(struct trap_frame *frame)
 {
     struct world *world;
     check_stack();
     world = run(&worlds[this_hart()]);
     while (world->action.kind < MONITOR)
         world = serve_with_lock(world);
-    if (world->action.kind != MONITOR) {
-        world->caller.stop_cause = world->cause;
-        world->caller.stop_value = world->value;
-    }
-    return world;
+    if (world->action.kind == MONITOR)
+        return put_trap(world, TAG_CALL, frame);
+    world->caller.stop_cause = world->cause;
+    world->caller.stop_value = world->value;
+    return put_trap(world, world->action.kind == ENCLAVE_CALL ? TAG_CALL : TAG_STOP, frame);
 }
 
 void answered(const struct answer_frame *answer)

@@ -98,14 +98,13 @@ static void put_notes(void)
     note("other", most_other);
 }
 
-static struct world *trapped_as(struct world *world, uint64_t kind)
+static int64_t trapped_as(uint64_t tag, struct trap_frame *frame)
 {
-    world->action.kind = kind;
     since = instructions();
-    return world;
+    return put_trap(&worlds[this_hart()], tag, frame);
 }
 
-struct world *next_trap(void)
+int64_t next_trap(struct trap_frame *frame)
 {
     while (number < trace->count) {
         now = &trace->events[number++];
@@ -118,7 +117,7 @@ struct world *next_trap(void)
         if (now->kind == IRQ) {
             do_interrupt();
             asked[0] = ~0ul;
-            return trapped_as(world, ENCLAVE_STOP);
+            return trapped_as(TAG_STOP, frame);
         }
         set_words(world);
         const uint64_t *x = world->registers->x;
@@ -126,7 +125,7 @@ struct world *next_trap(void)
         asked[1] = x[10];
         asked[2] = x[11] + x[12];
         do_ecall();
-        return trapped_as(world, MONITOR);
+        return trapped_as(TAG_CALL, frame);
     }
     if (trace->has_notes)
         put_notes();
