@@ -19,13 +19,15 @@ pub placed_bare : (s : MonitorState) (sets : Runner → RegisterFile) → ArePla
 placed_bare s sets w = record { current = w.current; alone = w.alone; held = w.held; marked = w.marked }
 
 pub answer_with :
-    (s : MonitorState) (sets : Runner → RegisterFile) (given : Option ControlWords) (hart : ℕ) (answer : Answer) (cleared : Option PageRange) (woken : List Bool)
-    (new : NewLists) (changes : SetChanges) (bytes : List ℕ) → IsAnswer s given hart answer cleared woken new changes bytes
+    (s : MonitorState) (sets : Runner → RegisterFile) (given : Option ControlWords) (hart : ℕ) (answer : Answer) (cleared : Option PageRange)
+    (woken : List Bool) (new : NewLists) (changes : SetChanges) (bytes : List ℕ) → IsAnswer s given hart answer cleared woken new changes bytes
     → IsAnswer (with_sets s sets) given hart answer cleared woken new changes bytes
-answer_with s sets given hart answer cleared woken new changes bytes a = record { used = a.used; needs = a.needs; front = a.front; puts = a.puts; ends = a.ends }
+answer_with s sets given hart answer cleared woken new changes bytes a =
+    record { used = a.used; needs = a.needs; front = a.front; puts = a.puts; ends = a.ends }
 
 pub answer_bare :
-    (s : MonitorState) (sets : Runner → RegisterFile) (given : Option ControlWords) (hart : ℕ) (answer : Answer) (cleared : Option PageRange) (woken : List Bool)
-    (new : NewLists) (changes : SetChanges) (bytes : List ℕ) → IsAnswer (with_sets s sets) given hart answer cleared woken new changes bytes
+    (s : MonitorState) (sets : Runner → RegisterFile) (given : Option ControlWords) (hart : ℕ) (answer : Answer) (cleared : Option PageRange)
+    (woken : List Bool) (new : NewLists) (changes : SetChanges) (bytes : List ℕ) → IsAnswer (with_sets s sets) given hart answer cleared woken new changes bytes
     → IsAnswer s given hart answer cleared woken new changes bytes
-answer_bare s sets given hart answer cleared woken new changes bytes a = record { used = a.used; needs = a.needs; front = a.front; puts = a.puts; ends = a.ends }
+answer_bare s sets given hart answer cleared woken new changes bytes a =
+    record { used = a.used; needs = a.needs; front = a.front; puts = a.puts; ends = a.ends }

@@ -217,7 +217,8 @@ module _ (entries : List Entry) (rest : List ℕ) where
 abbrev head_words : Head → List ℕ
 head_words head =
     answer_tag ∷ (head.hart ∷ (world_number head.world ∷ (head.status ∷ (head.value ∷
-    (head.used ∷ ((pages_of head.zero).first ∷ ((pages_of head.zero).count ∷ (wake_word head.woken ∷ (list_count head.lists ∷ (control_count head.given ∷ []))))))))))
+    (head.used ∷ ((pages_of head.zero).first ∷ ((pages_of head.zero).count ∷ (wake_word head.woken ∷
+    (list_count head.lists ∷ (control_count head.given ∷ []))))))))))
 
 -- a kind by its number
 kind_back : (kind : ChangeKind) → kind_by (kind_number kind) ≡ kind

@@ -12,7 +12,8 @@ returns-in-Err-clause-early g c = λ begun held booted.
     let w = c.in-Err.ensures.bytes in
     let known = with_none (bare c.args.core.now) None c.others.result c.none-changes.result w.1
     c.none-changes.ensures.first c.none-changes.ensures.second c.none-changes.ensures.third w.2 in
-    inl (answer_stops c.in-Err.fault (bare c.args.core.now) booted.0 booted.1 w.1 w.3.0 c.harts-harts.result c.others.result begun (g.R.Source.remaining c.args.source.now) held
+    inl (answer_stops c.in-Err.fault (bare c.args.core.now) booted.0 booted.1 w.1 w.3.0 c.harts-harts.result c.others.result
+    begun (g.R.Source.remaining c.args.source.now) held
     (g.W.Sink.contents c.args.sink.now) (g.W.Sink.contents c.write_answer.new.sink) booted.2 booted.3 booted.4 booted.5 booted.6
     c.harts-harts.ensures.value
     c.others.ensures w.0 known w.3.1 w.3.2)
