@@ -93,13 +93,14 @@ static void go_on(unsigned hart, unsigned it)
     wrong[hart] += pmpmon_destroy(enclaves[it].id).error != 0;
 }
 
+/* It waits for an enclave that the other hart has, and goes to the other enclave after it: so both go from hart to hart. */
 static void one_turn(unsigned hart)
 {
     unsigned it = (unsigned)(turns[hart] + hart) % ENCLAVES;
-    if (!__atomic_exchange_n(&enclaves[it].lock, 1, __ATOMIC_ACQUIRE)) {
-        go_on(hart, it);
-        __atomic_store_n(&enclaves[it].lock, 0, __ATOMIC_RELEASE);
-    }
+    while (__atomic_exchange_n(&enclaves[it].lock, 1, __ATOMIC_ACQUIRE))
+        ;
+    go_on(hart, it);
+    __atomic_store_n(&enclaves[it].lock, 0, __ATOMIC_RELEASE);
     series_round();
     turns[hart]++;
 }
