@@ -17,18 +17,20 @@ def addresses_of(image):
 
 
 def counts_of(log, trap, left):
-    """The counts of a log with a line for each instruction, which has its address after the first slash."""
-    counts, count = [], None
+    """The counts of a log with a line for each instruction, which has its address after the first slash. Where QEMU stops before one it
+    has a line more, and the same one again."""
+    counts, count, last = [], None, 0
     for line in log:
         place = line.find(b"/") + 1
-        address = int(line[place : place + 16], 16) if place else 0
-        if address == trap:
+        address = int(line[place : place + 16], 16) if place and line.startswith(b"Trace") else last
+        if address == trap and address != last:
             count = 0
-        if count is not None:
+        if count is not None and address != last:
             count += 1
             if address == left:
                 counts.append(count)
                 count = None
+        last = address
     return counts
 
 

@@ -191,7 +191,7 @@ def most_taken(on_hart, folder, told):
         for it in notes.splitlines():
             most[it.split()[1]] = max(most.get(it.split()[1], 0), int(it.split()[2]))
     numbers = f"stack {most['stack']}, heap {most['heap']} bytes; instructions {most['other']} of a switch, {most['owning']} until a creation is answered"
-    told(f"the monitor's most: {numbers}", most["stack"] < 24576 and most["heap"] < 36864 and most["other"] < 840)
+    told(f"the monitor's most: {numbers}", most["stack"] < 24576 and most["heap"] < 36864 and most["other"] < 700)
     # (a hart of QEMU has sixteen entries, and loads the first sixteen of what a boot on 64 answers)
     trace.write_text("")
     on_hart.platform_of = lambda path: ({"harts": 4}, 128)
@@ -454,7 +454,7 @@ def races(folder, told):
     right = len(counts) == 4 and "odd" not in said and min(counts.values()) > counts[255] // 4
     told("an enclave that calls for ever takes no other hart's time", right, " ".join(f"{it}: {n}" for it, n in counts.items()) if right else said)
     said = booted(FIRMWARE / "out/pmpmon-virt.elf", host(folder / "pause.elf", "harts.S", "two_hosts.S", "pause.c"), 1, *kind(16), "-icount", "shift=0")
-    most = {"create": 16 * 265000, "destroy": 63000, "base": 205, "measure": 950, "resume": 2120}
+    most = {"create": 16 * 265000, "destroy": 63000, "base": 205, "measure": 620, "resume": 1720}
     taken = {name: int(n) for name, n in re.findall(r"(\w+) (\d+)\n", said)}
     right = taken.pop("error", 1) == 0 and taken.keys() == most.keys() and all(taken[it] < most[it] for it in most)
     told("instructions of a creation of 16 pages, its destruction, calls for SBI's base and a digest, and a resume and stop", right, said.replace("\n", " "))
@@ -464,7 +464,7 @@ def races(folder, told):
 
 
 # The most instructions that a trap takes with its world entered after it (firmware/README.md, "What it takes").
-MOST = {"run": 1100, "stop": 900, "resume": 1000, "measure": 700, "base": 200, "set timer": 210, "timer": 800, "exit": 900}
+MOST = {"run": 956, "stop": 792, "resume": 867, "measure": 595, "base": 185, "set timer": 196, "timer": 698, "exit": 822}
 # The calls of a host by what they are answered, of which those that are done stop another hart; and the turn of a hart in instructions,
 # 100 ms of QEMU's time, where it counts them for all harts.
 ASIDE = {"no call": 0, "create": 0, "create once more": -106, "create without text": -102, "create off a page": -103, "create of a device": -105}
