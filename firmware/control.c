@@ -63,12 +63,15 @@ enum {
     CONTROL_REGISTERS(NUMBER)
 #undef NUMBER
 };
-/* Which of the registers a hart lacks, by their numbers. Their words are zero, and not looked at. */
+/* Which of the registers a hart lacks, by their numbers. Their words are zero, and not looked at. Where there is supervisor mode there
+   is scounteren, which control_told reads. */
 static void find_registers(struct world *self)
 {
 #define FIND(word, csr, bits) self->lacks |= (uint32_t)!IS_THERE(csr) << NUMBER_##word;
     CONTROL_REGISTERS(FIND)
 #undef FIND
+    if (self->lacks >> NUMBER_scounteren & 1)
+        end_because("a hart has no scounteren: hart ", this_hart());
 }
 
 static inline uint64_t mixed(uint64_t old, uint64_t word, uint64_t bits)

@@ -464,7 +464,7 @@ def races(folder, told):
 
 
 # The most instructions that a trap takes with its world entered after it (firmware/README.md, "What it takes").
-MOST = {"run": 956, "stop": 792, "resume": 867, "measure": 595, "base": 185, "set timer": 196, "timer": 698, "exit": 822}
+MOST = {"run": 1000, "stop": 850, "resume": 900, "measure": 600, "base": 200, "set timer": 210, "timer": 750, "exit": 900}
 # The calls of a host by what they are answered, of which those that are done stop another hart; and the turn of a hart in instructions,
 # 100 ms of QEMU's time, where it counts them for all harts.
 ASIDE = {"no call": 0, "create": 0, "create once more": -106, "create without text": -102, "create off a page": -103, "create of a device": -105}
