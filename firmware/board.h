@@ -113,7 +113,7 @@ static inline struct registers *registers_of(uint64_t hart, uint64_t world)
 }
 /* A set as a world begins: all zero but the pc and a0. */
 void registers_begin(struct registers *set, uint64_t pc, uint64_t a0);
-/* What an answer says of them is done. */
+/* What an answer says of them is done, last of all: how many bytes were written is told. */
 int64_t registers_change(uint64_t written, const struct answer_frame *answer);
 
 /* control.c: the registers of machine and supervisor mode that decide what a world can do, read for a frame and written from
