@@ -103,75 +103,74 @@ fn put_rest(
     }
 }
 
-/// Puts together the frame with which a hart goes on, the harts that load the host's list with it, and the control words that
-/// are given. It says where the frame ends.
+/// What is answered, beside the world that goes on and what becomes of register sets.
+#[derive(Clone, Copy)]
+pub(crate) struct Onward {
+    /// The hart that goes on.
+    pub(crate) hart: u8,
+    /// The answer to its call.
+    pub(crate) answer: Answer,
+    /// The pages that are made zero before any hart goes on.
+    pub(crate) zero: Option<PageRange>,
+    /// The harts that load the host's list with it.
+    pub(crate) woken: [bool; 4],
+    /// Which lists of entries are new.
+    pub(crate) lists: NewLists,
+    /// The control words of an enclave that is entered.
+    pub(crate) given: Option<ControlWords>,
+}
+
+/// Puts together the frame with which a hart goes on. It says where the frame ends.
 #[inline(always)]
-fn put_frame(
-    frame: &mut AnswerBytes,
-    core: &Core,
-    hart: u8,
-    given: Option<ControlWords>,
-    answer: &Answer,
-    zero: Option<PageRange>,
-    woken: [bool; 4],
-    lists: NewLists,
-    changes: &SetChanges,
-) -> usize
-    requires hart { hart < 4 }
+fn put_frame(frame: &mut AnswerBytes, core: &Core, onward: &Onward, changes: &SetChanges) -> usize
+    requires hart { onward.now.hart < 4 }
     requires sets { AreOfSets changes.now }
-    requires made { lists ≡ NewLists.HostAndMade
-        → (e : Enclave) × Live (bare core.now).table answer.now.value e }
+    requires made { onward.now.lists ≡ NewLists.HostAndMade
+        → (e : Enclave) × Live (bare core.now).table onward.now.answer.value e }
     ensures inside { result ≤ 1424 }
     ensures words { AreWords changes.now }
-    ensures control { IfSome given AreControl }
-    ensures answer { IsAnswer (bare core.now) given hart answer.now zero woken lists
-        changes.now (take result frame.new) }
+    ensures control { IfSome onward.now.given AreControl }
+    ensures answer { let o = onward.now in IsAnswer (bare core.now) o.given o.hart o.answer
+        o.zero o.woken o.lists changes.now (take result frame.new) }
 {
     let head = Head {
-        hart,
-        world: core.world(hart),
-        status: status_word(answer),
-        value: answer.value,
-        used: core.used(hart),
-        zero,
-        woken,
-        lists,
-        given,
+        hart: onward.hart,
+        world: core.world(onward.hart),
+        status: status_word(&onward.answer),
+        value: onward.answer.value,
+        used: core.used(onward.hart),
+        zero: onward.zero,
+        woken: onward.woken,
+        lists: onward.lists,
+        given: onward.given,
     };
     put_front(frame, &head, changes);
-    put_rest(frame, core, lists, answer.value, &head.given)
+    put_rest(frame, core, onward.lists, onward.answer.value, &head.given)
 }
 
 /// Writes with what a hart goes on, in a frame that is lent, and whose bytes before decide nothing.
 #[inline(always)]
 pub(crate) fn write_answer<W: Sink>(
     core: &Core,
-    hart: u8,
-    given: Option<ControlWords>,
-    answer: Answer,
-    zero: Option<PageRange>,
-    woken: [bool; 4],
-    lists: NewLists,
+    onward: &Onward,
     changes: &SetChanges,
     frame: &mut AnswerBytes,
     sink: &mut W,
 ) -> Result<(), ServeFault>
-    requires hart { hart < 4 }
+    requires hart { onward.now.hart < 4 }
     requires sets { AreOfSets changes.now }
-    requires made { lists ≡ NewLists.HostAndMade
-        → (e : Enclave) × Live (bare core.now).table answer.value e }
-    ensures bytes { Writes result
-        (IsAnswer (bare core.now) given hart answer zero woken lists changes.now)
+    requires made { onward.now.lists ≡ NewLists.HostAndMade
+        → (e : Enclave) × Live (bare core.now).table onward.now.answer.value e }
+    ensures bytes { let o = onward.now in Writes result
+        (IsAnswer (bare core.now) o.given o.hart o.answer o.zero o.woken o.lists changes.now)
         (W.contents sink.old) (W.contents sink.new) }
     ensures words { AreWords changes.now }
-    ensures control { IfSome given AreControl }
+    ensures control { IfSome onward.now.given AreControl }
     ensures reads { (n : ℕ) → CountsReads result n n }
     ensures writes { CountsWrites result (W.failures sink.old) (W.failures sink.new)
         (W.stalls sink.old) (W.stalls sink.new) }
 {
-    let end = put_frame(
-        frame, core, hart, given, &answer, zero, woken, lists, changes,
-    );
+    let end = put_frame(frame, core, onward, changes);
     match write_whole(sink, &frame[..end]) {
         Ok(()) => Ok(()),
         Err(_) => Err(ServeFault::Write),
@@ -272,18 +271,15 @@ fn serve_call<R: Source, W: Sink>(
     let woken = wake_all(core);
     let lists = new_lists(is_creation, &served);
     let given = trap.host.words_given(before, core.world(trap.hart));
-    match write_answer(
-        core,
-        trap.hart,
-        given,
-        served.answer,
-        served.zero,
+    let onward = Onward {
+        hart: trap.hart,
+        answer: served.answer,
+        zero: served.zero,
         woken,
         lists,
-        changes,
-        frame,
-        sink,
-    ) {
+        given,
+    };
+    match write_answer(core, &onward, changes, frame, sink) {
         Ok(()) => {}
         Err(fault) => return Err(fault),
     }
@@ -321,18 +317,15 @@ fn serve_stop<W: Sink>(
     let _load = core.interrupt(trap.hart, changes);
     let woken = wake_all(core);
     let given = trap.host.words_given(before, core.world(trap.hart));
-    write_answer(
-        core,
-        trap.hart,
-        given,
-        NOTHING,
-        None,
+    let onward = Onward {
+        hart: trap.hart,
+        answer: NOTHING,
+        zero: None,
         woken,
-        NewLists::Nothing,
-        changes,
-        frame,
-        sink,
-    )
+        lists: NewLists::Nothing,
+        given,
+    };
+    write_answer(core, &onward, changes, frame, sink)
 }
 
 /// Serves a trap.

@@ -11,7 +11,7 @@ ghost use Rattle.trap_server.specs.Runs.{EndsEarly, Ran};
 ghost use Rattle.trap_server.specs.Sets.{bare};
 
 use crate::fault::{ServeFault, end, refuse};
-use crate::service::{NOTHING, serve_trap, write_answer};
+use crate::service::{NOTHING, Onward, serve_trap, write_answer};
 use crate::{EndReason, NewLists, Trap, read_platform, read_trap};
 use byte_streams::{Sink, Source};
 use monitor_core::{Core, SetChanges, TakenDigest};
@@ -114,18 +114,15 @@ fn serve_booted<R: Source, W: Sink>(
     let harts = core.harts();
     let mut changes = SetChanges::none();
     let mut frame = [0; 1424];
-    match write_answer(
-        core,
-        0,
-        None,
-        NOTHING,
-        None,
-        others(harts),
-        NewLists::Host,
-        &changes,
-        &mut frame,
-        sink,
-    ) {
+    let opening = Onward {
+        hart: 0,
+        answer: NOTHING,
+        zero: None,
+        woken: others(harts),
+        lists: NewLists::Host,
+        given: None,
+    };
+    match write_answer(core, &opening, &changes, &mut frame, sink) {
         Ok(()) => {}
         Err(fault) => return Err(fault),
     }

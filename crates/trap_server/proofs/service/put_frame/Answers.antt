@@ -20,26 +20,25 @@ returns-clause-control c = c.put_rest.ensures.fits
 pub returns-clause-answer : goal.returns-clause-answer
 returns-clause-answer c =
     let s = bare c.args.core.now in
-    let hart = c.args.hart in
-    let answer = c.args.answer.now in
+    let o = c.args.onward.now in
     let changes = c.args.changes.now in
     let head : World → Head = λ world. record {
-      hart = hart;
+      hart = o.hart;
       world = world;
       status = c.status_word.result;
-      value = answer.value;
+      value = o.answer.value;
       used = c.used.result;
-      zero = c.args.zero;
-      woken = c.args.woken;
-      lists = c.args.lists;
-      given = c.args.given;
+      zero = o.zero;
+      woken = o.woken;
+      lists = o.lists;
+      given = o.given;
     } in
     let front = c.put_front.ensures.bytes ∙ ap (λ (w : World). front_bytes (head w) changes) c.world.ensures.value
-    ∙ ap (λ n. front_bytes (record (head (s.worlds hart)) { status = n }) changes) c.status_word.ensures in
+    ∙ ap (λ n. front_bytes (record (head (s.worlds o.hart)) { status = n }) changes) c.status_word.ensures in
     record {
       used = c.used.result;
       needs = c.used.ensures;
       front = c.put_rest.ensures.rest.0;
-      puts = subst (λ bytes. PutsLists s.table answer.value c.args.lists bytes c.put_rest.ensures.rest.0) front c.put_rest.ensures.rest.1;
+      puts = subst (λ bytes. PutsLists s.table o.answer.value o.lists bytes c.put_rest.ensures.rest.0) front c.put_rest.ensures.rest.1;
       ends = c.put_rest.ensures.rest.2;
     }

@@ -1,4 +1,4 @@
-use Rattle.std.proofs.Common.{◌≡◌, ◌∙◌, ◌++◌, [], ap, refl, sym, take}
+use Rattle.std.proofs.Common.{ap, take}
 use Rattle.enclave_table.specs.Tables.{Kept}
 use Rattle.trap_server.specs.Sets.{bare}
 use Rattle.trap_server.proofs.ListsPut.{both_put, host_put, none_put}
