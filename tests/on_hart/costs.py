@@ -34,12 +34,19 @@ def counts_of(log, trap, left):
     return counts
 
 
+def one_each(qemu):
+    """The words by which QEMU translates each instruction alone: they are others from 8.1 on."""
+    told = subprocess.run([qemu, "--version"], capture_output=True, text=True, check=True).stdout
+    is_old = tuple(map(int, re.search(r"version (\d+)\.(\d+)", told).groups())) < (8, 1)
+    return ["-singlestep"] if is_old else ["-accel", "tcg,one-insn-per-tb=on"]
+
+
 def costs(board, image):
     """The most that a trap of each name takes, or nothing where the traps are others. A tick of the time is 100 instructions."""
     with tempfile.TemporaryDirectory() as place:
         log = Path(place) / "log"
         os.mkfifo(log)
-        words = [*board, "-icount", "shift=0", "-singlestep", "-d", "exec,nochain", "-D", log]
+        words = [*board, "-icount", "shift=0", *one_each(board[0]), "-d", "exec,nochain", "-D", log]
         with subprocess.Popen(words, stdin=subprocess.DEVNULL, stdout=subprocess.DEVNULL) as running:
             with open(log, "rb") as lines:
                 counts = counts_of(lines, *addresses_of(image))
