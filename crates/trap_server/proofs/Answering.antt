@@ -28,7 +28,7 @@ use Rattle.trap_server.proofs.Bare.{answer_with}
 use Rattle.trap_server.specs.Answered.{AreAwake, AreControl, AreWords, IsAnswer, marks_of, new_lists, no_answer, unmarked}
 use Rattle.trap_server.specs.PageDigest.{HasParts, question_of}
 use Rattle.trap_server.specs.Service.{AnswersCall, ServesAs, ServesStop, given_at}
-use Rattle.trap_server.specs.Steps.{AnswersAs, AnswersTrap, MeasuresMade, Says, Serves, Writes}
+use Rattle.trap_server.specs.Steps.{AnswersAs, AnswersTrap, CallAnswered, MeasuresMade, Says, Serves, Writes}
 use Rattle.trap_server.specs.declared.fault.ServeFault.{ServeFault}
 use Rattle.trap_server.specs.declared.trap.Trap.{Trap}
 use Rattle.trap_server.specs.declared.trap.TrapEvent.{TrapEvent}
@@ -85,18 +85,6 @@ stop_served (Err fault) Are trap old new changes before held holds is served sai
     }) wrote
 
 -- ---- a call
-
--- it was answered, with the state that is then
-pub record CallAnswered (old now : MonitorState) (trap : Trap) (answer : Answer) (answered : List ℕ) : Type 0 where
-  pub changes : SetChanges
-  pub digest : List ℕ
-  pub is_call : trap.event ≡ Call
-  pub answers : (sets : Runner → RegisterFile) → AreThere old trap sets
-      → AnswersCall (with_sets old sets) trap changes digest answer answered (with_sets now (changed trap.hart changes sets))
-  pub said : Says answered changes (given_at old now trap)
-  pub table : IsTable now.table
-  pub awake : AreAwake now
-  pub layout : now.table.layout ≡ old.table.layout
 
 -- the call was served, and each hart woken that was marked
 pub call_answered :

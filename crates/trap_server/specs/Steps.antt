@@ -4,6 +4,7 @@ use Rattle.std.specs.Prelude.{Result, Ok, Err}
 use Rattle.std.specs.Io.KnownBytes.{Appends, Consumes}
 use Rattle.byte_streams.specs.Writings.{TakesPart}
 use Rattle.enclave_table.specs.Enclaves.{Live}
+use Rattle.enclave_table.specs.Tables.{IsTable}
 use Rattle.enclave_table.specs.declared.enclave.Enclave.{Enclave}
 use Rattle.measurement.specs.Digests.{layout_of}
 use Rattle.measurement.specs.Measured.{digest_of}
@@ -102,6 +103,29 @@ Serves (Ok done) trap old new before after held holds =
 Serves (Err fault) trap old new before after held holds =
     (read rest : List ℕ) × StopsTrap fault old trap read rest after
     × Consumes before after read × Appends held holds rest
+
+-- a call was answered, with the state that is then, in which an enclave that it made has some
+-- digest
+pub record CallAnswered (old now : MonitorState) (trap : Trap) (answer : Answer)
+    (answered : List ℕ) : Type 0 where
+  pub changes : SetChanges
+  pub digest : List ℕ
+  pub is_call : trap.event ≡ Call
+  pub answers : (sets : Runner → RegisterFile) → AreThere old trap sets
+      → AnswersCall (with_sets old sets) trap changes digest answer answered
+      (with_sets now (changed trap.hart changes sets))
+  pub said : Says answered changes (given_at old now trap)
+  pub table : IsTable now.table
+  pub awake : AreAwake now
+  pub layout : now.table.layout ≡ old.table.layout
+
+-- so it was, and the answer was written; or the loop ends
+abbrev pub AnswersFirst : Result Answer ServeFault → Trap → MonitorState → MonitorState
+    → Option (List ℕ) → Option (List ℕ) → Type 0
+AnswersFirst (Ok answer) trap old now held holds = (answered : List ℕ)
+    × CallAnswered old now trap answer answered × Appends held holds answered
+AnswersFirst (Err fault) trap old now held holds = (before : Option (List ℕ))
+    → Serves (Err fault) trap old now before before held holds
 
 -- the pages of an enclave that was made were asked for and read, and it has their digest; or the
 -- loop ends

@@ -15,7 +15,7 @@ ghost use Rattle.trap_server.specs.Answered.{AreAwake, AreControl, AreWords, IsA
 ghost use Rattle.trap_server.specs.Ends.{CountsReads, CountsWrites};
 ghost use Rattle.trap_server.specs.PageDigest.{HasParts};
 ghost use Rattle.trap_server.specs.Sets.{bare};
-ghost use Rattle.trap_server.specs.Steps.{MeasuresMade, Serves, Writes};
+ghost use Rattle.trap_server.specs.Steps.{AnswersFirst, MeasuresMade, Serves, Writes};
 
 use crate::fault::{ServeFault, end};
 use crate::{
@@ -240,8 +240,51 @@ fn measure_made<R: Source, W: Sink>(
     }
 }
 
-/// Serves the call in the registers of a trap. An enclave that it made is measured after the answer, and has a digest that is
-/// lent until then: so others may run their worlds meanwhile, to which its pages are closed by then.
+/// Answers the call in the registers of a trap. An enclave that it makes has a digest that is lent, until its pages are measured.
+#[inline(always)]
+fn answer_call<W: Sink>(
+    core: &mut Core,
+    trap: &Trap,
+    is_creation: bool,
+    digest: &TakenDigest,
+    changes: &mut SetChanges,
+    frame: &mut AnswerBytes,
+    sink: &mut W,
+) -> Result<Answer, ServeFault>
+    requires hart { trap.now.hart < (bare core.old).table.layout.harts }
+    requires awake { AreAwake (bare core.old) }
+    requires call { trap.now.event ≡ TrapEvent.Call }
+    requires creation { is_creation ≡ is_some (asked_in (call_of trap.now.registers)) }
+    ensures answered { AnswersFirst result trap.now (bare core.old) (bare core.new)
+        (W.contents sink.old) (W.contents sink.new) }
+    ensures reads { (n : ℕ) → CountsReads result n n }
+    ensures writes { CountsWrites result (W.failures sink.old) (W.failures sink.new)
+        (W.stalls sink.old) (W.stalls sink.new) }
+{
+    // (there are at most four: a fact for the proof)
+    let _most = core.harts();
+    let before = core.world(trap.hart);
+    let served = core.serve(trap.hart, &trap.registers, digest, changes);
+    core.cite_invariant();
+    let woken = wake_all(core);
+    let lists = new_lists(is_creation, &served);
+    let given = trap.host.words_given(before, core.world(trap.hart));
+    let onward = Onward {
+        hart: trap.hart,
+        answer: served.answer,
+        zero: served.zero,
+        woken,
+        lists,
+        given,
+    };
+    match write_answer(core, &onward, changes, frame, sink) {
+        Ok(()) => Ok(served.answer),
+        Err(fault) => Err(fault),
+    }
+}
+
+/// Serves the call in the registers of a trap. An enclave that it made is measured after the answer: so others may run their
+/// worlds meanwhile, to which its pages are closed by then.
 #[inline(always)]
 fn serve_call<R: Source, W: Sink>(
     core: &mut Core,
@@ -262,34 +305,18 @@ fn serve_call<R: Source, W: Sink>(
     ensures writes { CountsWrites result (W.failures sink.old) (W.failures sink.new)
         (W.stalls sink.old) (W.stalls sink.new) }
 {
-    // (there are at most four: a fact for the proof)
-    let _most = core.harts();
-    let before = core.world(trap.hart);
     let is_creation = is_creation(&trap.registers);
-    let served = core.serve(trap.hart, &trap.registers, digest, changes);
-    core.cite_invariant();
-    let woken = wake_all(core);
-    let lists = new_lists(is_creation, &served);
-    let given = trap.host.words_given(before, core.world(trap.hart));
-    let onward = Onward {
-        hart: trap.hart,
-        answer: served.answer,
-        zero: served.zero,
-        woken,
-        lists,
-        given,
-    };
-    match write_answer(core, &onward, changes, frame, sink) {
-        Ok(()) => {}
+    let answer = match answer_call(core, trap, is_creation, digest, changes, frame, sink) {
+        Ok(answer) => answer,
         Err(fault) => return Err(fault),
-    }
+    };
     if !is_creation {
         return Ok(());
     }
-    let Some(parts) = made_by(&served.answer, trap) else {
+    let Some(parts) = made_by(&answer, trap) else {
         return Ok(());
     };
-    measure_made(core, served.answer.value, &parts, source, sink)
+    measure_made(core, answer.value, &parts, source, sink)
 }
 
 /// Serves an interrupt: an enclave stops.

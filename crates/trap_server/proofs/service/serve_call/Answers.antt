@@ -1,128 +1,40 @@
-use Rattle.std.proofs.Common.{◌∙◌, ap, refl, sym, subst}
-use Rattle.sbi_decode.specs.Calls.{call_of}
-use Rattle.sbi_decode.specs.Registers.{RegisterFile}
-use Rattle.sbi_decode.specs.Runners.{Runner}
-use Rattle.sbi_decode.specs.declared.world.World.{World}
-use Rattle.enclave_table.specs.Enclaves.{Live}
-use Rattle.monitor_core.specs.Changes.{past_call, with_running}
-use Rattle.monitor_core.specs.Measured.{asked_in}
-use Rattle.monitor_core.specs.SetChanges.{changed}
-use Rattle.monitor_core.specs.States.{MonitorState}
-use Rattle.trap_server.specs.Answered.{IsAnswer}
-use Rattle.trap_server.specs.Given.{words_given}
-use Rattle.trap_server.specs.Sets.{bare, with_sets}
-use Rattle.trap_server.proofs.Answering.{call_answered, call_unanswered, made_measured, made_to_measure, none_asked, nothing_made}
-use Rattle.trap_server.proofs.ListsKept.{made_by_lists}
-use Rattle.trap_server.proofs.Remeasured.{call_remeasured}
+use Rattle.std.proofs.Common.{◌∙◌, sym}
+use Rattle.trap_server.specs.Sets.{bare}
+use Rattle.trap_server.proofs.Answering.{made_measured, made_to_measure, none_asked, nothing_made}
 use Rattle.trap_server.proofs.Served.{writes_then}
 use Rattle.trap_server.proofs.service.serve_call.Goals as goal
 
-pub serve-served-requires-clause-awake : goal.serve-served-requires-clause-awake
-serve-served-requires-clause-awake g c = c.requires.awake c.args.trap.now.hart c.requires.hart
-
-pub write_answer-requires-clause-made : goal.write_answer-requires-clause-made
-write_answer-requires-clause-made g c = λ is.
-    let s = bare c.args.core.now in
-    let mid = bare c.serve-served.new.self in
-    let trap = c.args.trap.now in
-    let said = c.serve-served.result in
-    let sets : Runner → RegisterFile = λ who. trap.registers in
-    let file = past_call trap.registers in
-    let step = c.serve-served.ensures.step sets refl in
-    let asked = asked_in (call_of trap.registers) in
-    let m = made_by_lists asked said.answer said.zero (sym (c.new_lists-lists.ensures asked c.is_creation-is_creation.ensures) ∙ is) in
-    let r = call_remeasured (call_of file) _ (with_running (with_sets s sets) trap.hart file) trap.hart said.answer said.zero
-    (with_sets mid (changed trap.hart c.serve-served.new.changes sets)) m.0 c.cite_invariant.ensures.table step m.1 in
-    (r.0, subst (λ (y : MonitorState). Live y.table said.answer.value r.0) (sym c.wake_all-woken.ensures.state) r.1)
-
 pub returns-in-Err-clause-served : goal.returns-in-Err-clause-served
-returns-in-Err-clause-served g c =
-    let now = bare c.wake_all-woken.new.core in
-    let trap = c.args.trap.now in
-    let said = c.serve-served.result in
-    let changes = c.serve-served.new.changes in
-    let given = c.words_given-given.result in
-    let asked = asked_in (call_of trap.registers) in
-    call_unanswered c.in-Err.fault (IsAnswer now given trap.hart said.answer said.zero c.wake_all-woken.result c.new_lists-lists.result changes)
-    trap said.answer (bare c.args.core.now) now _ _ _
-    (λ bytes is. call_answered (bare c.args.core.now) (bare c.serve-served.new.self) now trap changes _ said.answer said.zero c.wake_all-woken.result
-    c.new_lists-lists.result given c.harts-most.result bytes c.requires.call c.serve-served.ensures.step c.serve-served.ensures.platform
-    c.cite_invariant.ensures.table c.harts-most.ensures.value c.harts-most.ensures.most c.wake_all-woken.ensures.state c.wake_all-woken.ensures.marks
-    (c.new_lists-lists.ensures asked c.is_creation-is_creation.ensures) c.in-Err.ensures.words
-    (c.words_given-given.ensures ∙ ap (λ (w : World). words_given w c.world.result trap.host) c.world-before.ensures.value
-    ∙ ap (λ (w : World). words_given ((bare c.args.core.now).worlds trap.hart) w trap.host) c.world.ensures.value)
-    c.in-Err.ensures.control is) c.in-Err.ensures.bytes
+returns-in-Err-clause-served g c = c.in-Err.ensures.answered _
 
 pub returns-then-not-is_creation-clause-served : goal.returns-then-not-is_creation-clause-served
 returns-then-not-is_creation-clause-served g c =
-    let wrote = c.in-Ok.ensures.bytes in
-    nothing_made (bare c.args.core.now) (bare c.wake_all-woken.new.core) c.args.trap.now c.serve-served.result.answer wrote.0 _ _ _
-    (call_answered (bare c.args.core.now) (bare c.serve-served.new.self) (bare c.wake_all-woken.new.core) c.args.trap.now
-    c.serve-served.new.changes _ c.serve-served.result.answer c.serve-served.result.zero c.wake_all-woken.result c.new_lists-lists.result
-    c.words_given-given.result c.harts-most.result wrote.0 c.requires.call c.serve-served.ensures.step c.serve-served.ensures.platform
-    c.cite_invariant.ensures.table c.harts-most.ensures.value c.harts-most.ensures.most c.wake_all-woken.ensures.state c.wake_all-woken.ensures.marks
-    (c.new_lists-lists.ensures (asked_in (call_of c.args.trap.now.registers)) c.is_creation-is_creation.ensures) c.in-Ok.ensures.words
-    (c.words_given-given.ensures ∙ ap (λ (w : World). words_given w c.world.result c.args.trap.now.host) c.world-before.ensures.value
-    ∙ ap (λ (w : World). words_given ((bare c.args.core.now).worlds c.args.trap.now.hart) w c.args.trap.now.host) c.world.ensures.value)
-    c.in-Ok.ensures.control wrote.1)
+    let wrote = c.in-Ok.ensures.answered in
+    nothing_made (bare c.args.core.now) (bare c.answer_call.new.core) c.args.trap.now c.in-Ok.answer wrote.0 _ _ _ wrote.1
     (none_asked _ _ (sym c.is_creation-is_creation.ensures ∙ c.if-not-is_creation.true)) wrote.2
 
 pub returns-in_default-clause-served : goal.returns-in_default-clause-served
 returns-in_default-clause-served g c =
-    let wrote = c.in-Ok.ensures.bytes in
-    nothing_made (bare c.args.core.now) (bare c.wake_all-woken.new.core) c.args.trap.now c.serve-served.result.answer wrote.0 _ _ _
-    (call_answered (bare c.args.core.now) (bare c.serve-served.new.self) (bare c.wake_all-woken.new.core) c.args.trap.now
-    c.serve-served.new.changes _ c.serve-served.result.answer c.serve-served.result.zero c.wake_all-woken.result c.new_lists-lists.result
-    c.words_given-given.result c.harts-most.result wrote.0 c.requires.call c.serve-served.ensures.step c.serve-served.ensures.platform
-    c.cite_invariant.ensures.table c.harts-most.ensures.value c.harts-most.ensures.most c.wake_all-woken.ensures.state c.wake_all-woken.ensures.marks
-    (c.new_lists-lists.ensures (asked_in (call_of c.args.trap.now.registers)) c.is_creation-is_creation.ensures) c.in-Ok.ensures.words
-    (c.words_given-given.ensures ∙ ap (λ (w : World). words_given w c.world.result c.args.trap.now.host) c.world-before.ensures.value
-    ∙ ap (λ (w : World). words_given ((bare c.args.core.now).worlds c.args.trap.now.hart) w c.args.trap.now.host) c.world.ensures.value)
-    c.in-Ok.ensures.control wrote.1)
-    c.in_default.ensures.none wrote.2
+    let wrote = c.in-Ok.ensures.answered in
+    nothing_made (bare c.args.core.now) (bare c.answer_call.new.core) c.args.trap.now c.in-Ok.answer wrote.0 _ _ _ wrote.1 c.in_default.ensures.none wrote.2
 
 pub measure_made-requires-clause-live : goal.measure_made-requires-clause-live
 measure_made-requires-clause-live g c =
-    let wrote = c.in-Ok.ensures.bytes in
-    (made_to_measure (bare c.args.core.now) (bare c.wake_all-woken.new.core) c.args.trap.now c.serve-served.result.answer wrote.0 c.in-Some.parts
-    (call_answered (bare c.args.core.now) (bare c.serve-served.new.self) (bare c.wake_all-woken.new.core) c.args.trap.now
-    c.serve-served.new.changes _ c.serve-served.result.answer c.serve-served.result.zero c.wake_all-woken.result c.new_lists-lists.result
-    c.words_given-given.result c.harts-most.result wrote.0 c.requires.call c.serve-served.ensures.step c.serve-served.ensures.platform
-    c.cite_invariant.ensures.table c.harts-most.ensures.value c.harts-most.ensures.most c.wake_all-woken.ensures.state c.wake_all-woken.ensures.marks
-    (c.new_lists-lists.ensures (asked_in (call_of c.args.trap.now.registers)) c.is_creation-is_creation.ensures) c.in-Ok.ensures.words
-    (c.words_given-given.ensures ∙ ap (λ (w : World). words_given w c.world.result c.args.trap.now.host) c.world-before.ensures.value
-    ∙ ap (λ (w : World). words_given ((bare c.args.core.now).worlds c.args.trap.now.hart) w c.args.trap.now.host) c.world.ensures.value)
-    c.in-Ok.ensures.control wrote.1)
+    let wrote = c.in-Ok.ensures.answered in
+    (made_to_measure (bare c.args.core.now) (bare c.answer_call.new.core) c.args.trap.now c.in-Ok.answer wrote.0 c.in-Some.parts wrote.1
     c.in-Some.ensures.some).0
 
 pub measure_made-requires-clause-parts : goal.measure_made-requires-clause-parts
 measure_made-requires-clause-parts g c =
-    let wrote = c.in-Ok.ensures.bytes in
-    (made_to_measure (bare c.args.core.now) (bare c.wake_all-woken.new.core) c.args.trap.now c.serve-served.result.answer wrote.0 c.in-Some.parts
-    (call_answered (bare c.args.core.now) (bare c.serve-served.new.self) (bare c.wake_all-woken.new.core) c.args.trap.now
-    c.serve-served.new.changes _ c.serve-served.result.answer c.serve-served.result.zero c.wake_all-woken.result c.new_lists-lists.result
-    c.words_given-given.result c.harts-most.result wrote.0 c.requires.call c.serve-served.ensures.step c.serve-served.ensures.platform
-    c.cite_invariant.ensures.table c.harts-most.ensures.value c.harts-most.ensures.most c.wake_all-woken.ensures.state c.wake_all-woken.ensures.marks
-    (c.new_lists-lists.ensures (asked_in (call_of c.args.trap.now.registers)) c.is_creation-is_creation.ensures) c.in-Ok.ensures.words
-    (c.words_given-given.ensures ∙ ap (λ (w : World). words_given w c.world.result c.args.trap.now.host) c.world-before.ensures.value
-    ∙ ap (λ (w : World). words_given ((bare c.args.core.now).worlds c.args.trap.now.hart) w c.args.trap.now.host) c.world.ensures.value)
-    c.in-Ok.ensures.control wrote.1)
+    let wrote = c.in-Ok.ensures.answered in
+    (made_to_measure (bare c.args.core.now) (bare c.answer_call.new.core) c.args.trap.now c.in-Ok.answer wrote.0 c.in-Some.parts wrote.1
     c.in-Some.ensures.some).1
 
 pub returns-clause-served : goal.returns-clause-served
 returns-clause-served g c =
-    let wrote = c.in-Ok.ensures.bytes in
-    made_measured c.measure_made.result (bare c.args.core.now) (bare c.wake_all-woken.new.core) (bare c.measure_made.new.core) c.args.trap.now
-    c.serve-served.result.answer wrote.0 c.in-Some.parts _ _ _ _ _
-    (call_answered (bare c.args.core.now) (bare c.serve-served.new.self) (bare c.wake_all-woken.new.core) c.args.trap.now
-    c.serve-served.new.changes _ c.serve-served.result.answer c.serve-served.result.zero c.wake_all-woken.result c.new_lists-lists.result
-    c.words_given-given.result c.harts-most.result wrote.0 c.requires.call c.serve-served.ensures.step c.serve-served.ensures.platform
-    c.cite_invariant.ensures.table c.harts-most.ensures.value c.harts-most.ensures.most c.wake_all-woken.ensures.state c.wake_all-woken.ensures.marks
-    (c.new_lists-lists.ensures (asked_in (call_of c.args.trap.now.registers)) c.is_creation-is_creation.ensures) c.in-Ok.ensures.words
-    (c.words_given-given.ensures ∙ ap (λ (w : World). words_given w c.world.result c.args.trap.now.host) c.world-before.ensures.value
-    ∙ ap (λ (w : World). words_given ((bare c.args.core.now).worlds c.args.trap.now.hart) w c.args.trap.now.host) c.world.ensures.value)
-    c.in-Ok.ensures.control wrote.1)
-    c.in-Some.ensures.some wrote.2 c.measure_made.ensures.measured
+    let wrote = c.in-Ok.ensures.answered in
+    made_measured c.measure_made.result (bare c.args.core.now) (bare c.answer_call.new.core) (bare c.measure_made.new.core) c.args.trap.now
+    c.in-Ok.answer wrote.0 c.in-Some.parts _ _ _ _ _ wrote.1 c.in-Some.ensures.some wrote.2 c.measure_made.ensures.measured
 
 pub returns-clause-writes : goal.returns-clause-writes
 returns-clause-writes g c = writes_then c.measure_made.result _ _ _ _ _ _ c.in-Ok.ensures.writes c.measure_made.ensures.writes
