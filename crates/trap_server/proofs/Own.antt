@@ -36,5 +36,6 @@ each_its_own = record {
   enclave_enters = λ id host. refl;
   user = λ host. refl;
   host_keeps = keeps;
+  enclave_goes_on = λ id next came. refl;
   enclave_sees_nothing = sees_nothing;
 }

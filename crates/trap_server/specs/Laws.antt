@@ -14,6 +14,9 @@ pub record GivesEachItsOwn : Type 0 where
   pub user : (host : HostWords) → (enclave_words host).mode ≡ 0
   -- a host is given none: it goes on with those that its hart kept for it
   pub host_keeps : (before : World) (came : HostWords) → words_given before Host came ≡ None
+  -- nor is an enclave that goes on: it has those with which it was entered, whatever came from it
+  pub enclave_goes_on : (id next : ℕ) (came : HostWords)
+      → words_given (InEnclave id) (InEnclave next) came ≡ None
   -- the table's words are the same under any two hosts that let in the same of their interrupts,
   -- and both let user mode read the time or do not
   pub enclave_sees_nothing : (host other : HostWords)
