@@ -1,19 +1,15 @@
 #!/usr/bin/env python3
-"""Compares docs/DEFINITIONS.md with the sources.
+"""Checks that every definition a reader has to trust is explained, and lists these definitions on demand.
 
-  tests/definitions/run.py          fails where the page lacks a definition that a reader has to trust, names one that
-                                 is not there or stands in another file, has no words for one, or where its list of the others
-                                 is not current
-  tests/definitions/run.py --write  names each definition behind the file that it is in now, adds the missing rows in the words of
-                                 the comments, and writes the list of the others
+  tests/definitions/run.py            fails if such a definition has no comment
+  tests/definitions/run.py --print    prints a page that lists them: each crate's definitions with their files and comments
 
-A reader has to trust what the clauses of public functions cite, what public types show of themselves (the facts
-beside their public fields, and what a model's value and view say), and what these definitions use in turn. A function
-is public if lib.rt hands it on, or the type or trait that it belongs to. All other definitions in specs/ are for
-proofs and private functions.
+A reader has to trust the definitions that clauses of public functions cite, those by which public types describe themselves (the
+facts beside their public fields, and the value and view of a model), and every definition that these use in turn. A function is
+public if lib.rt exports it, or the type or trait that it belongs to. All other definitions in specs/ serve proofs and private
+functions only.
 
-A row names definitions as `File.antt`: `name`, `name`; its section names the folder. The last line that is printed is
-'N passed, M failed'.
+The last line that is printed is 'N passed, M failed'.
 """
 import re
 import sys
@@ -22,11 +18,7 @@ from pathlib import Path
 
 TOP = Path(__file__).resolve().parents[2]
 CRATES = TOP / "crates"
-PAGE = TOP / "docs" / "DEFINITIONS.md"
-APART = "Used by proofs and private functions alone"
-UNSAID = "(no comment)"
 NAME = r"[^\s:(){}`,|]+"
-ROW = re.compile(r"`([\w/]+\.antt)`: ((?:`" + NAME + r"`(?:, )?)+)")
 WORD = re.compile(r"[A-Za-z_][\w'₀-₉]*(?:-[A-Za-z_][\w'₀-₉]*)*(?:\.[A-Za-z_][\w'₀-₉]*)*")
 
 
@@ -224,134 +216,33 @@ def trusted(specs):
     return found, roots
 
 
-def rows(page):
-    """What the page names: (crate, file, name) of its rows, and where each section ends."""
-    named, crate, sections = [], None, {}
-    body = page.split(f"## {APART}")[0]
-    for number, line in enumerate(body.split("\n")):
-        head = re.match(r"#+ .*`crates/(\w+)/specs`", line)
-        if head:
-            crate = head.group(1)
-        elif line.startswith("## "):
-            crate = None
-        if crate and line.startswith("|"):
-            sections[crate] = number
-            for file, names in ROW.findall(line):
-                named += [(crate, file, name) for name in re.findall("`(" + NAME + ")`", names)]
-    return named, sections
-
-
-def words_of(entry):
-    """What a row says of a definition, where it says it in the words of its comment."""
-    return entry["words"].replace("|", "\\|") or UNSAID
-
-
-def alone_in(line, crate, specs):
-    """The definition of a row that has its name and no other: such a row says what the definition's comment says, if it has one."""
-    cells = line.strip().strip("|").split(" | ")
-    names = re.findall("`(" + NAME + ")`", ROW.sub(r"\2", cells[1])) if len(cells) > 2 else []
-    if len(names) != 1 or cells[0].strip() != names[0]:
-        return None
-    file = ROW.search(cells[1]).group(1)
-    return next((it for i in specs.order if (it := specs.items[i])["crate"] == crate and it["file"] == file and it["name"] == names[0] and it["words"]), None)
-
-
-def with_words(line, crate, specs):
-    """A row that says what its definition's comment says now, where it has the name of one alone."""
-    entry = alone_in(line, crate, specs)
-    if entry is None:
-        return line
-    cells = line.split(" | ")
-    cells[2] = words_of(entry) + (" |" if len(cells) == 3 else "")
-    return " | ".join(cells)
-
-
-def stale(page, specs):
-    """The rows that have the name of one definition and say other than its comment."""
-    crate = None
-    for line in page.split(f"## {APART}")[0].split("\n"):
-        if line.startswith("#"):
-            crate = (re.match(r"#+ .*`crates/(\w+)/specs`", line) or [None, None])[1] or (None if line.startswith("## ") else crate)
-        if crate and line.startswith("|") and ROW.search(line) and with_words(line, crate, specs) != line:
-            yield line
-
-
-def mended(line, crate, specs, found):
-    """A row in which each name stands behind the file that it is in now, without the names that nobody has to trust; or None
-    where no name is left."""
-    cells = line.split(" | ")
-    groups = []
-    for file, names in ROW.findall(cells[1]):
-        for name in re.findall("`(" + NAME + ")`", names):
-            homes = [it["file"] for i in specs.order if i in found and (it := specs.items[i])["crate"] == crate and it["name"] == name]
-            home = file if file in homes else homes[0] if len(homes) == 1 else None
-            if home:
-                groups = groups if home in [g for g, _ in groups] else [*groups, (home, [])]
-                next(g for at, g in groups if at == home).append(f"`{name}`")
-    cells[1] = "; ".join(f"`{file}`: {', '.join(dict.fromkeys(names))}" for file, names in groups)
-    return with_words(" | ".join(cells), crate, specs) if groups else None
-
-
-def others(specs, found):
-    """The list of the definitions that no reader has to trust."""
-    by_file = defaultdict(list)
+def page(specs, found):
+    """The page of all definitions that a reader has to trust, a table for each crate."""
+    by_crate = defaultdict(list)
     for item in specs.order:
-        if item not in found:
-            entry = specs.items[item]
-            by_file[(entry["crate"], entry["file"])].append(f"`{entry['name']}`")
-    lines = []
-    for (crate, file), names in by_file.items():
-        lines.append(f"- `crates/{crate}/specs/{file}`: {', '.join(names)}")
+        if item in found:
+            by_crate[specs.items[item]["crate"]].append(specs.items[item])
+    lines = ["# Definitions", ""]
+    for crate, entries in by_crate.items():
+        lines += [f"## `crates/{crate}/specs`", "", "| Definition | File | Meaning |", "|---|---|---|"]
+        lines += [f"| `{it['name']}` | `{it['file']}` | {it['words'].replace('|', chr(92) + '|')} |" for it in entries] + [""]
     return "\n".join(lines)
-
-
-def write(specs, found, wanted, page):
-    """The page with each row behind the file that it is in now, and with those that were missing."""
-    lines, crate = [], None
-    for line in page.split(f"## {APART}")[0].rstrip("\n").split("\n"):
-        if line.startswith("## "):
-            crate = (re.match(r"#+ .*`crates/(\w+)/specs`", line) or [None, None])[1]
-        line = mended(line, crate, specs, found) if crate and line.startswith("|") and ROW.search(line) else line
-        lines += [] if line is None else [line]
-    named, sections = rows("\n".join(lines))
-    missing = [key for key in wanted if key not in set(named)]
-    for crate in sorted({c for c, _, _ in missing}, key=lambda c: -sections.get(c, -1)):
-        new = []
-        for _, file, name in [m for m in missing if m[0] == crate]:
-            new.append(f"| {name} | `{file}`: `{name}` | {words_of(specs.items[wanted[(crate, file, name)]])} |")
-        if crate in sections:
-            lines[sections[crate] + 1:sections[crate] + 1] = new
-        else:
-            lines += ["", f"## `crates/{crate}/specs`", "", "| Name | Definitions | Meaning |", "|---|---|---|", *new]
-    PAGE.write_text("\n".join(lines) + f"\n\n## {APART}\n\n{others(specs, found)}\n")
-    print(f"{len(missing)} rows written")
 
 
 def main():
     specs = Specs()
     found, _ = trusted(specs)
-    page = PAGE.read_text()
-    named, _ = rows(page)
-    wanted = {(specs.items[i]["crate"], specs.items[i]["file"], specs.items[i]["name"]): i for i in specs.order if i in found}
-    there = {(e["crate"], e["file"], e["name"]) for e in specs.items.values()}
-    if "--write" in sys.argv:
-        write(specs, found, wanted, page)
-        return
-    missing = [key for key in wanted if key not in set(named)]
-    failures = [f"{c}/specs/{f}: {n} is missing" for c, f, n in missing]
-    failures += [f"{c}/specs/{f}: {n} is not there" for c, f, n in named if (c, f, n) not in there]
-    failures += [f"{c}/specs/{f}: {n} is used by no public clause" for c, f, n in named if (c, f, n) in there and (c, f, n) not in wanted]
-    failures += [f"docs/DEFINITIONS.md: its definition has no comment: {line}" for line in page.split("\n") if UNSAID in line]
-    failures += [f"docs/DEFINITIONS.md: its comment says other than this row (tests/definitions/run.py --write): {line}" for line in stale(page, specs)]
-    current = page.split(f"## {APART}")[-1].strip() == others(specs, found)
-    failures += [] if current else ["the list of the others is not current (tests/definitions/run.py --write)"]
-    for text in failures:
-        print("FAILED:", text)
-    if not failures:
-        print(f"ok: {len(wanted)} definitions that a reader has to trust are named, and {len(there) - len(wanted)} others")
-    print(f"{0 if failures else 1} passed, {len(failures)} failed")
-    sys.exit(1 if failures else 0)
+    if "--print" in sys.argv:
+        print(page(specs, found))
+        return 0
+    silent = [it for it in specs.order if it in found and not specs.items[it]["words"]]
+    for item in silent:
+        print(f"FAILED: crates/{specs.items[item]['crate']}/specs/{specs.items[item]['file']}: {specs.items[item]['name']} has no comment")
+    if not silent:
+        print(f"ok: each of the {len(found)} definitions that a reader has to trust has a comment; {len(specs.order) - len(found)} others")
+    print(f"{0 if silent else 1} passed, {len(silent)} failed")
+    return 1 if silent else 0
 
 
 if __name__ == "__main__":
-    main()
+    sys.exit(main())

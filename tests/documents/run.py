@@ -1,28 +1,23 @@
 #!/usr/bin/env python3
-"""Compares documents with what they are about.
+"""Compares documents with what they describe.
 
-  tests/documents/run.py          fails where
-                                 - docs/ARCHITECTURE.md's tables and graph of crates are not those of crates.txt, or a row
-                                   is not the first sentence of its crate's doc,
-                                 - a crate stands in crates.txt above one that it stands on,
-                                 - docs/GUIDE.md's example in Rattle is not a piece of crates/library_example/src/main.rt,
-                                 - a word in code marks in docs/PROVED.md is no clause, function or crate of the crates that
-                                   its heading names,
-                                 - docs/PROVED.md's table of crates lacks one, or names a function that its crate has not,
-                                 - the groups of README.md and of docs/PROVED.md are not those of crates.txt,
-                                 - README.md has more than 120 lines or a line of more than 120 characters, or shows code that stands nowhere else,
-                                 - a room of docs/TOUR.md has not the function or the clauses that it names,
-                                 - a contract of docs/WORDS.md is not in the file that stands above it, or a type that it names is not in its file,
-                                 - the version that CHANGELOG.md begins with is not the program's,
+  tests/documents/run.py          fails if
+                                 - docs/ARCHITECTURE.md's tables and graph of crates differ from crates.txt, or a row differs
+                                   from the first sentence of its crate's doc,
+                                 - a crate precedes one that it depends on in crates.txt,
+                                 - docs/GUIDE.md's example in Rattle is not part of EXAMPLE, which the gate compiles,
+                                 - docs/PROVED.md lacks a crate or a group of crates.txt, or names a function that its crate does not have,
+                                 - README.md is too long, or shows code that occurs nowhere else,
+                                 - CHANGELOG.md begins with another version than the program's,
                                  - a source file or a file of definitions does not begin with a line that says what it is,
-                                 - a clause begins with a line of more than 100 bytes, or has one of more than 100 characters,
-                                 - a line of a crate's specs/ has more than 100 characters, or one of its proofs/ more than 160,
-                                 - a sentence of a document that people wrote has more than 35 words,
-                                 - a document names a file of this repository that is not there,
-                                 - firmware/README.md's table of lines is not what firmware_lines.py counts,
-                                 - a choice of docs/DECISIONS.md has the number of another,
-                                 - a wrong body of tests/documents/edits.txt has no edit of its name any more
-  tests/documents/run.py --write  writes the tables, the graph and the lines of the firmware anew
+                                 - a line of a clause or of definitions has more than 100 characters, or one of a proof more than 160,
+                                 - more than 7 % of the sentences of a document in SCREENED use a construction that english.py lists,
+                                 - all documents together have more words than WORDS allows,
+                                 - a document names a file of this repository that does not exist,
+                                 - firmware/README.md's table of lines differs from what firmware_lines.py counts,
+                                 - the numbers in docs/DECISIONS.md are not 1, 2, 3, ..,
+                                 - an edit of tests/documents/edits.txt is missing, or there are more edits than EDITS allows
+  tests/documents/run.py --write  writes the tables, the graph and the lines of the firmware
 
 The last line that is printed is 'N passed, M failed'.
 """
@@ -31,17 +26,23 @@ import sys
 from pathlib import Path
 
 sys.dont_write_bytecode = True
+from english import flagged  # noqa: E402
 from firmware_lines import table as firmware_lines  # noqa: E402
 
 TOP = Path(__file__).resolve().parents[2]
 PAGE = TOP / "docs" / "ARCHITECTURE.md"
 FIRMWARE = TOP / "firmware" / "README.md"
 EXAMPLE = TOP / "crates" / "library_example" / "src" / "main.rt"
-DOCUMENTS = ["README.md", "CHANGELOG.md", "CONTRIBUTING.md", "SECURITY.md", "examples/README.md", "bench/README.md", "bench/CHOICES.md", "bench/PROOFS.md", "bench/NOTES.md", "bench/DIARY.md", "tests/REFUSED.md", *sorted(f"docs/{it.name}" for it in TOP.glob("docs/*.md"))]
-# Those that no script writes. CHANGELOG.md is of its day.
-MADE = {"docs/DEFINITIONS.md", "docs/HEADLINE.md", "CHANGELOG.md"}
-WRITTEN = [it for it in DOCUMENTS if it not in MADE]
-# The group of crates that are no part of the product.
+DOCUMENTS = ["README.md", "CHANGELOG.md", "CONTRIBUTING.md", "SECURITY.md", "examples/README.md", "bench/README.md", "firmware/README.md", *sorted(f"docs/{it.name}" for it in TOP.glob("docs/*.md"))]
+# The documents whose English is checked. Each document joins them when it is rewritten.
+SCREENED = ["README.md", "CHANGELOG.md", "docs/DECISIONS.md", "docs/GLOSSARY.md", "docs/PROVED.md", "bench/README.md"]
+# The share of flagged sentences in a document, in per cent.
+FLAGGED = 7
+# The words of all documents together.
+WORDS = 72_000
+# The must-fail edits of all crates together.
+EDITS = 170
+# The group of crates that do not belong to the product.
 TESTS = "Tests and examples"
 # Lines of definitions and clauses have at most this many characters, and those of proofs this many.
 WIDTH = 100
@@ -133,75 +134,30 @@ def example_stands():
     return any(there[i : i + len(want)] == want for i in range(len(there)))
 
 
-def clauses_named():
-    """The words of the tables of docs/PROVED.md, and whether they stand in the sources of the crates in the heading."""
-    there = {it for name, needs in crates().items() for it in [name, *needs]} | {"plan", "judge", "check", "run", "n"}
-    for section in (TOP / "docs" / "PROVED.md").read_text().split("\n### ")[1:]:
-        names = re.findall(r"`(\w+)`", section.split("\n")[0])
-        text = "\n".join(it.read_text() for name in names for it in sorted((TOP / "crates" / name).glob("src/**/*.rt")))
-        known = set(re.findall(r"ensures (\w+) \{", text)) | set(re.findall(r"\b(?:fn|struct|enum|trait) (\w+)", text)) | there
-        for row in re.findall(r"(?m)^\|(.*)\|$", section):
-            for code in re.findall(r"`([^`]+)`", row):
-                for word in re.findall(r"\b[a-z_][a-z_0-9]*\b", code) if re.fullmatch(r"[\w:{}, ]+", code) else []:
-                    yield f"docs/PROVED.md, {', '.join(names)}: {word}", word in known
-
-
-def same_groups():
-    """Whether README.md and docs/PROVED.md have the groups of crates.txt, but for that of tests."""
-    wanted = [it for it in groups() if it != TESTS]
-    yield "README.md: its rows are not the groups of crates.txt", re.findall(r"(?m)^\| \[([^]]+)\]\(docs/PROVED\.md#", (TOP / "README.md").read_text()) == wanted
-    sections = re.findall(r"(?m)^## (.*)$", (TOP / "docs" / "PROVED.md").read_text())
-    yield "docs/PROVED.md: its parts are not the groups of crates.txt", [it for it in sections if it in wanted] == wanted
-
-
 def front_page():
-    """README.md: how long and how wide it is, and whether its code in C and in Rattle is a part of what the gate compiles."""
+    """Checks README.md: its length, and that its code in C and in Rattle is part of what the gate compiles."""
     text = (TOP / "README.md").read_text()
-    lines = text.rstrip("\n").split("\n")
-    yield "README.md has more than 120 lines", len(lines) <= 120
-    yield "README.md has a line of more than 120 characters", max(map(len, lines)) <= 120
+    yield "README.md has more than 105 lines", len(text.rstrip("\n").split("\n")) <= 105
     there = {"rust": EXAMPLE.read_text(), "c": (TOP / "docs" / "GUIDE.md").read_text().split("## From C\n")[1].split("\n## ")[0]}
     for kind, code in re.findall(r"(?ms)^```(rust|c)\n(.*?)^```$", text):
-        yield f"README.md: its code in {kind} stands nowhere else", code.strip() in there[kind]
+        yield f"README.md: its code in {kind} occurs nowhere else", code.strip() in there[kind]
 
 
 def promises():
-    """The table of crates in docs/PROVED.md: whether each crate of the product is in it, with functions that it has."""
-    rows = re.findall(r"(?m)^\| ((?:`\w+`(?:, )?)+) \| [^|]* \| ([^|]*) \|$", (TOP / "docs" / "PROVED.md").read_text().split("\n## What is only tested")[0])
+    """Checks docs/PROVED.md: that it has each group and each crate of the product, with functions that the crate has."""
+    text = (TOP / "docs" / "PROVED.md").read_text()
+    wanted = [it for it in groups() if it != TESTS]
+    yield "docs/PROVED.md: its sections are not the groups of crates.txt", [it for it in re.findall(r"(?m)^## (.*)$", text) if it in wanted] == wanted
     there = set()
-    for names, carried in rows:
+    for names, carried in re.findall(r"(?m)^\| ((?:`\w+`(?:, )?)+) \| .* \| ([^|]*) \|$", text.split("\n## What is only tested")[0]):
         crates_of = re.findall(r"`(\w+)`", names)
         there |= set(crates_of)
-        text = "\n".join(it.read_text() for name in crates_of for it in sorted((TOP / "crates" / name).glob("src/**/*.rt")))
+        sources = "\n".join(it.read_text() for name in crates_of for it in sorted((TOP / "crates" / name).glob("src/**/*.rt")))
         for name in re.findall(r"`(?:\w+::)?(\w+)`", carried):
-            yield f"docs/PROVED.md, {names}: {name}", bool(re.search(rf"\bfn {name}\b", text))
+            yield f"docs/PROVED.md, {names}: {name}", bool(re.search(rf"\bfn {name}\b", sources))
     for crate, group, _ in lines():
         if group != TESTS:
             yield f"docs/PROVED.md has no row for {crate}", crate in there
-
-
-def rooms():
-    """The rooms of the tour: whether each function stands in its file, and its clauses too."""
-    for line in re.findall(r"(?m)^\| `crates/.*", (TOP / "docs" / "TOUR.md").read_text()):
-        cells = [it.strip() for it in line.strip("|").split("|")]
-        path, names = cells[0].strip("`"), re.findall(r"`(?:\w+::)?(\w+)`", cells[1])
-        text = (TOP / path).read_text() if (TOP / path).is_file() else ""
-        yield f"docs/TOUR.md: a row names a function of {path}", bool(names)
-        heads = "".join(it for name in names for it in re.findall(rf"(?ms)\bfn {name}\b.*?(?:^ *\{{|;)$", text))
-        yield f"docs/TOUR.md: {path} has {', '.join(names)}", all(re.search(rf"\bfn {name}\b", text) for name in names)
-        for clause in re.findall(r"`(\w+)`", cells[2]):
-            yield f"docs/TOUR.md: {path}: {', '.join(names)} has a clause {clause}", f"ensures {clause} {{" in heads
-
-
-def words():
-    """The lines of the contracts in docs/WORDS.md, and its types: whether each is in the file that is named with it."""
-    text = (TOP / "docs" / "WORDS.md").read_text()
-    for file, block in re.findall(r"(?s)`(crates/[\w/.]+)`:\n\n```\n(.*?)\n```", text):
-        there = {it.strip() for it in (TOP / file).read_text().split("\n")}
-        for line in block.split("\n"):
-            yield f"docs/WORDS.md: {line.strip()} is in {file}", line.strip() in there
-    for name, file in re.findall(r"\(`(\w+)`, `(crates/[\w/.]+)`", text):
-        yield f"docs/WORDS.md: {name} is in {file}", bool(re.search(rf"\b(?:struct|enum) {name}\b", (TOP / file).read_text()))
 
 
 def version():
@@ -245,13 +201,18 @@ def proof_widths():
             yield f"{path.relative_to(TOP)}:{number}: the line is too wide", len(line) <= PROOF_WIDTH or line.startswith("use ")
 
 
-def sentences():
-    """Whether each sentence of the documents that people wrote is of at most 35 words; a cell of a table ends one."""
-    for document in WRITTEN:
-        text = re.sub(r"(?ms)^```.*?^```$", "", (TOP / document).read_text())
-        for part in re.split(r"\n|\|", text):
-            for sentence in re.split(r"(?<=[.!?:;])\s+", part):
-                yield f"{document}: a sentence is too long: {sentence[:60]}..", len(sentence.split()) <= 35
+def english():
+    """Checks the share of flagged sentences in each document of SCREENED."""
+    for document in SCREENED:
+        bad, all_of_them = flagged((TOP / document).read_text())
+        share = 100 * len(bad) / max(all_of_them, 1)
+        yield f"{document}: {share:.0f} % of its sentences are flagged, as: {bad[:1]}", share <= FLAGGED
+
+
+def length():
+    """Checks the words of all documents together."""
+    found = sum(len(path.read_text().split()) for path in TOP.glob("**/*.md") if "out" not in path.parts)
+    yield f"the documents have {found} words, more than {WORDS}", found <= WORDS
 
 
 def files_named():
@@ -271,18 +232,18 @@ def merged():
 
 
 def decisions():
-    """The numbers of the choices in docs/DECISIONS.md and bench/CHOICES.md, and whether each stands once."""
-    numbers = re.findall(r"(?m)^(\d+)\. ", "\n".join((TOP / it).read_text() for it in ("docs/DECISIONS.md", "bench/CHOICES.md")))
-    for number in dict.fromkeys(numbers):
-        yield f"choice {number} has a number of its own", numbers.count(number) == 1
+    """Checks that the choices of docs/DECISIONS.md are numbered in order."""
+    numbers = re.findall(r"(?m)^(\d+)\. ", (TOP / "docs/DECISIONS.md").read_text())
+    yield "docs/DECISIONS.md: its numbers are not 1, 2, 3, ..", numbers == [str(it) for it in range(1, len(numbers) + 1)]
 
 
-def wrong_bodies():
-    """The wrong bodies that stay, and whether some crate has an edit of that name."""
+def edits():
+    """Checks that the edits that must stay exist, and that there are not too many."""
     names = re.findall(r"(?m)^(\w+): ", (TOP / "tests" / "documents" / "edits.txt").read_text())
     for name in names:
         yield f"no crate has an edit {name}", any((TOP / "crates").glob(f"*/must-fail/{name}.edit"))
-    yield "tests/documents/edits.txt names wrong bodies", len(names) > 30 and len(set(names)) == len(names)
+    yield "tests/documents/edits.txt names the edits that must stay", len(names) > 30 and len(set(names)) == len(names)
+    yield f"there are more than {EDITS} edits", len(list((TOP / "crates").glob("*/must-fail/*.edit"))) <= EDITS
 
 
 def firmware_is_counted():
@@ -313,22 +274,19 @@ def checks_of(graph, parts):
             *((f"crates/{it}: its doc says what it is for", bool(purpose(it))) for it in graph),
             *is_lowest_first(graph),
         ],
-        "the guide's example": [("docs/GUIDE.md: its example stands in no crate", example_stands())],
-        "the clauses of docs/PROVED.md": list(clauses_named()),
-        "the table of crates in docs/PROVED.md": list(promises()),
-        "groups": list(same_groups()),
+        "the guide's example": [("docs/GUIDE.md: its example is in no crate", example_stands())],
+        "docs/PROVED.md": list(promises()),
         "the front page": list(front_page()),
-        "the rooms of the tour": list(rooms()),
-        "the words": list(words()),
         "the version": list(version()),
         "first lines": list(first_lines()),
         "widths of clauses": list(widths()),
         "widths of proofs": list(proof_widths()),
-        "sentences": list(sentences()),
+        "English": list(english()),
+        "words": list(length()),
         "the files that documents name": list(files_named()),
         "marks of merges": list(merged()),
         "the numbers of choices": list(decisions()),
-        "wrong bodies that stay": list(wrong_bodies()),
+        "edits": list(edits()),
         "the lines of the firmware": [("firmware/README.md: lines (tests/documents/run.py --write)", firmware_is_counted())],
     }
 

@@ -1,20 +1,23 @@
 #!/usr/bin/env python3
-"""Runs `rt ci` at the top of the repository, hands on what it prints, and writes what each crate took.
+"""Runs `rt ci` at the top of the repository, prints its output, and writes how long each crate took.
 
-  tests/gate/run.py TABLE       the table goes to the file TABLE, at the end or where the run is stopped
+  tests/gate/run.py TABLE          proves every crate and its tests, and runs tests and programs; the table goes to the file TABLE,
+                                   at the end or when the run is stopped
+  tests/gate/run.py TABLE edits    the same, and also tries each must-fail edit
 
-Once a second it looks which checks run below `rt`: a crate's own proof, that of its tests, that which its edits begin with, or
-that of one of its edits, and how much processor time each has had. What a check did in its last second is lost. Behind the
-table stand the edits that took most. Some kits try a crate's edits in turn and number none: there the first has the proof that
-the others begin with, and is told as that.
+Once a second it looks at the checks that run below `rt` and at their processor time: the proof of a crate, of its tests, the one that a
+crate's edits start from, or that of an edit. The last second of a check is lost. The slowest edits follow the table. Some kits try a
+crate's edits in turn without numbers; there the first check of a crate's edits counts as the one that they start from.
 
-Where memory allows, each check has one job, and as many run as there are processors (`RT_JOBS`). Else `rt` gives up to four
-jobs to a proof that no other proof stands beside, each of which reads all below it, and begins no edit while a proof waits for the
-memory that it reckons with.
+If memory allows, each check gets one job, and as many run as there are processors (`RT_JOBS`). Otherwise `rt` gives up to four jobs to a
+proof that runs alone, and each of them reads all libraries below it.
 
-Where all of it passed, the libraries that it proved and left in out/ are marked with the sum that `rt` knows a library by, so that
-the firmware and the library for C, which later parts of ./test build, need no second proof of the crates below them. A library
-whose sources changed meanwhile gets no mark.
+`rt ci` has no option to leave the edits out, so the shorter run loads `rt` and empties its list of edits. With a kit in which that list has
+another name, it tries the edits too.
+
+After a run without failures, the libraries left in out/ are marked with the sum by which `rt` knows a library. The firmware and the
+library for C, which later parts of ./test build, then need no second proof of the crates below them. A library whose sources changed
+meanwhile gets no mark.
 """
 import os
 import shutil
@@ -32,8 +35,18 @@ sys.path[:0] = [str(TOP / "tools"), str(KIT / "bin")]
 import rtlib  # noqa: E402
 
 
-# How many edits are named behind the table.
+# The number of slowest edits that are listed after the table.
 DEAREST = 20
+
+# Runs `rt ci` with no must-fail edits. The argument is the path of `rt`.
+WITHOUT_EDITS = """
+import importlib.machinery, importlib.util, sys
+loader = importlib.machinery.SourceFileLoader("rt", sys.argv[1])
+rt = importlib.util.module_from_spec(importlib.util.spec_from_loader("rt", loader))
+loader.exec_module(rt)
+rt.edits_of = lambda crate: ([], [])
+sys.exit(rt.main(["ci"]))
+"""
 
 # The memory for each check of one job. The one that took most had 3.6 GB, four at a time 7.7 (28 November 2026).
 ROOM = 4 << 30
@@ -153,28 +166,39 @@ def mark(before):
             (left / "stamp").write_text(found)
 
 
+def gate(with_edits):
+    """The command of the gate."""
+    rt = os.path.realpath(shutil.which("rt"))
+    if with_edits or "def edits_of(" not in Path(rt).read_text():
+        return [rt, "ci"]
+    return [sys.executable, "-c", WITHOUT_EDITS, rt]
+
+
 def main():
     os.chdir(TOP)
+    if len(sys.argv) not in (2, 3) or sys.argv[1].startswith("-") or sys.argv[2:] not in ([], ["edits"]):
+        print(__doc__.split("\n\n")[1], file=sys.stderr)
+        return 2
     before = sums()
     checks = {}
     # (in the order in which `rt` numbers them)
     edits = {it.name: sorted(edit.name for edit in it.glob("must-fail/*.edit")) for it in (TOP / "crates").iterdir()}
     started = time.monotonic()
-    gate = subprocess.Popen(["rt", "ci"], cwd=TOP, env=surroundings())
+    running = subprocess.Popen(gate(sys.argv[2:] == ["edits"]), cwd=TOP, env=surroundings())
     signal.signal(signal.SIGINT, signal.SIG_IGN)
-    while gate.poll() is None:
+    while running.poll() is None:
         time.sleep(1)
-        for which, crate, kind, number, took in checks_below(gate.pid):
+        for which, crate, kind, number, took in checks_below(running.pid):
             checks[which, crate, kind, number] = took
     checks = in_turn(checks, edits)
     seconds = defaultdict(lambda: defaultdict(float))
     for (_, crate, kind, _), took in checks.items():
         seconds[crate][kind] += took
-    lines = table(seconds, edits, time.monotonic() - started) + ["The dearest edits:"] + dearest(checks, edits)
+    lines = table(seconds, edits, time.monotonic() - started) + ["The slowest edits:"] + dearest(checks, edits)
     Path(sys.argv[1]).write_text("\n".join(lines) + "\n")
-    if gate.returncode == 0:
+    if running.returncode == 0:
         mark(before)
-    return gate.returncode
+    return running.returncode
 
 
 if __name__ == "__main__":

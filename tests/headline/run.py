@@ -46,51 +46,73 @@ SHOWN = {"hart_sim": {"state_of", "kept_of", "bank_on"}, "monitor_core": {"state
 LATER = {1: {"Run", "Happens", "IsBooted", "Promises", "IsLayout"}, 2: {"Step"}, 3: {"DoesCall", "Interrupts"}}
 # A type is shown on lines of at most so many characters.
 WIDTH = 120
-OPENING = """# The headline, and all that it rests on
+OPENING = """# The headline, and everything it rests on
 
-This page and those of its parts are made from the sources by `tests/headline/run.py --write`, and the gate compares them. Each contract is
-proved. To believe one, read the definitions that it cites, and no proof: each part has all that is not in a part before it.
-`docs/WORDS.md` says how to read them. Words that are not defined here are the kit's: numbers, lists, `Option`, equality, SHA-256.
+`tests/headline/run.py --write` makes this page and its parts from the sources, and the gate compares them. Every contract shown here is
+proved. To believe one, read the definitions that it cites, not its proof; each part shows the definitions that no earlier part has.
+Words that are not defined here belong to the kit: numbers, lists, `Option`, equality, SHA-256.
 
-There are three theorems, over one monitor (`monitor_core`), which the model and the firmware both call.
+## How to read a clause
 
-1. **The model** (`headline_law`, part 1). It is about the modelled machine of `hart_sim`: each machine that `Machine::boot` made and to
-   which `step` and `run` made events happen. `After` is a list of such events, each with `Happens`, and `Happens` is what the clauses of
-   `step` say of one event. The code owes it there: `boot` and `step` each have a clause `after` (part 3).
-2. **The firmware** (`firmware_law`, part 6). It is about every list of traps that `serve_traps` of `trap_server` read and answered:
-   which entries the list has that was answered last of each world, and the one that each hart loaded last, whose pages are asked for or
-   made zero, what becomes of whose registers, and which control words an enclave gets that is entered. Of registers it is said for all
-   sets that the harts may keep. The code owes it in the clauses `all` and `early` of `serve_traps`: the traps of `Ran` are such a list,
-   and the words of their answers say just these changes of sets and these control words (`said`).
-3. **A board** (`board_law`, part 7). It is about memory and harts around that loop, and so about what worlds do between traps. What the
-   code around the loop owes is a premise there, in one definition (`DoesTrap`): each world keeps the list of entries that an answer last
-   had for it, a hart judges by the list that it loaded last, the pages that an answer names are made zero, those that are read are
-   memory's, and no world runs meanwhile. The registers of the world that trapped are saved in its set, sets change as the answer says
-   and no other way, and registers of floating point change with the world of a hart. Where an answer has control words the hart keeps
-   its host's and goes on with these; where its host goes on again it has the kept ones. Between traps a host writes any control words,
-   and an enclave, in user mode, none but status (`MayWrite`). On a hart other worlds run while the pages of a new enclave are read,
-   after its creation was answered: until the next trap no world changes them (`pages_law`).
+The sources are Rattle: Rust in which a function has a contract, and the prover shows that its body meets it. A definition in `specs/` is
+what a reader has to trust; nothing in `proofs/` has to be trusted or read. The body of a definition is a relation or a record whose fields
+are facts that all hold.
 
-The first and the third are of the same thing: each run of the model is a run of a board (`model_law`, part 8). Each access of the one
-is an access of the other, with what was said of it. Each call or interrupt is a trap with the same registers, whose answer says what
-the model replies. At the end the table, the worlds, memory and the registers of the worlds that wait are the same. So what part 7 says
-of every board holds of the model.
+| Form | Meaning |
+|---|---|
+| `requires {{ .. }}` | what the caller must establish before the call |
+| `ensures NAME {{ .. }}` | a *clause*, which holds after every call; documents and edits cite it by NAME |
+| `x.old`, `x.new` | the value of a `&mut` argument before and after the call |
+| `x.now` | the value of a `&` argument |
+| `result` | the function's result |
+| `OnOk r P`, `OnErr r P` | if r is an `Ok` (an `Err`), then P |
+| `IfOk r (λ v. P)`, `IfErr`, `IfSome` | the same, where P speaks of the value v inside |
+| `MatchResult r (λ v. P) (λ e. Q)` | P for the value of an `Ok`, Q for the error of an `Err` |
+| `P × Q`, `P ⊎ Q` | P and Q, P or Q |
+| `P → Q`, `P ↔ Q` | if P then Q, P iff Q |
+| `(x : T) → P`, `(x : T) × P` | P for every x of T, P for some x of T |
+| `ℕ`, `List T` | numbers without a bound, lists of any length |
+| a method of an `impl` without clauses | it has those of its trait; the `ghost` lines of the `impl` define the trait's names |
+| `pub ghost f: {{ .. }}` | a fact that a struct carries; it does not exist at run time |
 
-`serve_traps` is written for any reader and writer, and its clauses speak of the bytes that these tell. The firmware lends it standard
-input and output, whose bytes are not known to the proof. What it does with them can't depend on that: the function is generic, and a
-reader that tells its bytes gets the same calls of `read` and `write` as one that doesn't. So the bytes that the firmware's C passes to
-the loop and gets from it are those of such a list.
+The bytes of readers and writers appear only in clauses: `remaining` are the bytes still to come, `contents` those that were written. Each is
+an `Option`; it is `None` if the bytes are unknown, as for a file, a terminal or a pipe. `Consumes old new bytes` and `Appends old new bytes`
+relate them before and after; they say nothing about a device whose bytes are unknown. `failures` and `stalls` count failed calls and
+writes that took no bytes, for every device. `run`, `perform` and `serve_traps` work for any reader and writer, so what is proved for bytes in
+memory is tested, not proved, for real files and streams.
 
-No theorem here is about these:
+## The theorems
 
-- the C and assembly around the loop (`firmware/`). They keep a set of registers as a trap saved it, put a0 to a7 of it into the frame,
-  do the three changes of an answer, and load the set of the world that goes on. They keep a host's control words while an enclave runs
-  on its hart. What else an answer says they keep, load and make zero.
-  No hart runs a world while its entries change, and pages are read before the next trap. Part 7 takes this as given.
-  `firmware/README.md` has these rules; they are tested on QEMU;
-- a build for RV64, which is a retargeted build of a proved module. It is tested on QEMU, and no verdict of a proof covers it;
-- a device whose bytes are not known, as standard input and output: part 5 speaks of streams that tell their bytes;
-- what a real hart does besides: caches, side channels, devices that reach memory by themselves, time.
+There are three, over one monitor (`monitor_core`), which the model and the firmware both call.
+
+1. **The model** (`headline_law`, part 1) is about the modelled machine of `hart_sim`: every machine that `Machine::boot` made and to which
+   `step` and `run` made events happen. `After` is a list of such events, each with `Happens`; `Happens` is what the clauses of `step` state for
+   one event. The code establishes it: `boot` and `step` each have a clause `after` (part 3).
+2. **The firmware** (`firmware_law`, part 6) is about every list of traps that `serve_traps` of `trap_server` read and answered. It states the
+   entries in the last list that was answered for each world and in the list that each hart loaded last; the pages that are read or
+   zeroed; how register sets change, for all sets that the harts may keep; and the control words of an enclave that is entered. The code
+   establishes it in the clauses `all` and `early` of `serve_traps`.
+3. **A board** (`board_law`, part 7) is about memory and harts around that loop, and so about what worlds do between traps. What the code
+   around the loop must do is a premise in one definition (`DoesTrap`): each world keeps the list that an answer last gave it; a hart judges
+   by the list that it loaded last; the pages that an answer names are zeroed; pages that are read come from memory; no world runs
+   meanwhile; and register sets, floating-point registers and control words change only as the answer says. Between traps a host may
+   write any control word, and an enclave, in user mode, only its status (`MayWrite`). Other harts keep running while the pages of a new
+   enclave are read: until the next trap no world can change them (`pages_law`).
+
+The first and the third agree: each run of the model is a run of a board (`model_law`, part 8), access by access and call by call, with the same
+table, worlds, memory and registers at the end. What part 7 says about every board therefore holds for the model.
+
+`serve_traps` is generic over its reader and writer, and its clauses speak of their known bytes. The firmware lends it standard input and
+output, whose bytes the proof does not know. A generic function cannot behave differently for them, so the bytes that the firmware's C passes
+to the loop and receives from it are such a list of traps.
+
+The theorems do not cover:
+
+- the C and assembly around the loop (`firmware/`), which save and restore registers, load entries and zero pages as the answers say. The
+  board theorem takes this as its premise; `firmware/README.md` states the rules, which are tested on QEMU;
+- the build for RV64, a retargeted build of a proved module, which is tested on QEMU;
+- devices whose bytes are unknown, as explained above;
+- anything else that a real hart does: caches, side channels, devices that access memory by themselves, time.
 
 ## The parts
 
@@ -100,7 +122,7 @@ No theorem here is about these:
 
 {aliases}
 
-## The theorems
+## The three contracts
 
 {theorems}
 """

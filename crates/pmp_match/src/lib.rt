@@ -42,6 +42,7 @@
 
 mod access;
 mod cause;
+mod deciders;
 mod extents;
 mod judgement;
 mod laws;
@@ -53,6 +54,7 @@ mod smepmp;
 
 pub use access::{Access, Kind, Mode};
 pub use cause::Cause;
+pub use deciders::{Decider, Deciders};
 pub use extents::{extent_of, extents_of};
 pub use judgement::{access_fault, holds, is_aligned, is_machine, judge, misaligned, touches};
 pub use laws::{byte_law, decision_law, judgement_law, least_law, needs_law, page_law};

@@ -1,6 +1,6 @@
 -- Which entry of registers decides an access.
 use Rattle.std.specs.Prelude.{ℕ, ◌<◌, Option, Some, None}
-use Rattle.trace_answers.specs.declared.deciders.Decider.{Decider}
+use Rattle.pmp_match.specs.declared.deciders.Decider.{Decider}
 use Rattle.pmp_match.specs.declared.access.Access.{Access}
 use Rattle.pmp_match.specs.declared.registers.Registers.{Registers}
 use Rattle.register_audit.specs.Decision.{IsDecidedAt, Misses}

@@ -2,8 +2,7 @@
 
 use crate::rules::Rules;
 use hart_trace::AccessJudge;
-use pmp_match::{Access, Cause};
-use trace_answers::{Decider, Deciders};
+use pmp_match::{Access, Cause, Decider, Deciders};
 
 impl AccessJudge for Rules {
     ghost use Rattle.register_audit.specs.Answers.{by_registers};

@@ -8,8 +8,7 @@ ghost use Rattle.register_audit.specs.Decision.{LetsThrough, RegistersAllow, def
 
 use crate::extents::{contains, meets};
 use pmp_encoding::Perm;
-use pmp_match::{Access, Extent, Mode, Registers, holds, machine_default, machine_perm};
-use trace_answers::Decider;
+use pmp_match::{Access, Decider, Extent, Mode, Registers, holds, machine_default, machine_perm};
 
 /// What the entry of a place, which matches these addresses, gives a mode.
 pub(crate) fn perm_in(registers: &Registers, mode: Mode, place: usize, extent: &Extent) -> Perm

@@ -10,10 +10,9 @@ ghost use Rattle.register_audit.specs.Judgement.{RegistersJudge};
 use crate::decision::{allow, first_met};
 use pmp_encoding::SPACE_SIZE;
 use pmp_match::{
-    Access, Cause, Extent, Registers, ReservedAt, access_fault, extents_of, is_aligned, misaligned,
+    Access, Cause, Decider, Extent, Registers, ReservedAt, access_fault, extents_of, is_aligned, misaligned,
 };
 use std::marker::Model;
-use trace_answers::Decider;
 
 /// Registers without a reserved value, and what each entry matches.
 #[derive(Drop)]

@@ -1,6 +1,5 @@
-pub mod FirstDifference
-pub mod FirstFound
-mod Addresses
-pub mod Judged
 mod Behind
-mod NotedLines
+mod ExplainedRuns
+pub mod FirstDifference
+pub mod Judged
+mod ListsMet

@@ -1,33 +1,23 @@
 -- What comes of an input whose answers are compared with those that its comments say.
 use Rattle.std.specs.Prelude.{◌≡◌, ℕ, ◌+◌, true, false, if◌then◌else◌, List, ◌∷◌, ◌++◌, length}
-use Rattle.std.specs.Prelude.{take, min, Option, Some, None, codes, decimal}
-use Rattle.std.specs.List.{prefix_len}
+use Rattle.std.specs.Prelude.{Option, Some, None}
 use Rattle.text_lines.specs.Lines.{without_return}
 use Rattle.text_lines.specs.LineLoop.{Meaning, Does, DoesAll}
-use Rattle.text_lines.specs.Words.{is_allowed}
-use Rattle.lint_texts.specs.Lines.{unended}
-use Rattle.trace_answers.specs.Comments.{agrees, answer_agrees, comment_of}
-use Rattle.trace_answers.specs.Mistaken.{mistaken_text}
-
--- the comment of a line as it is shown: up to its first byte that is not visible, and at most 128
--- bytes
-abbrev pub shown_comment : List ℕ → List ℕ
-shown_comment line = take (min (prefix_len is_allowed (comment_of line)) 128) (comment_of line)
-
--- what is said of an answer that differs, and of its line
-abbrev pub difference_text : ℕ → List ℕ → List ℕ → List ℕ
-difference_text n line answer =
-    codes "line " ++ (decimal n ++ (codes ": answered '"
-    ++ (unended answer ++ (codes "', expected " ++ (shown_comment line ++ codes "\n")))))
+use Rattle.trace_answers.specs.Comments.{agrees, answer_agrees}
+use Rattle.trace_answers.specs.declared.difference.Difference.{Difference}
 
 -- the same meaning, for lines alone whose comments agree with their answers
 abbrev pub agreeing : {S : Type 0} → Meaning S → Meaning S
 agreeing does = λ old n line said new. does old n line said new × (agrees line said ≡ true)
 
--- the first of some lines whose comment says another answer: those before it agree with theirs, and
--- its number and its answer are reported
+-- the number of a line, from 1, and its answer
+abbrev pub LineAnswer : Type 0
+LineAnswer = ℕ × List ℕ
+
+-- this line and its answer are the first of some lines whose comment says another answer: the lines
+-- before it agree with their answers
 pub record IsFirstDifference {S : Type 0} (does : Meaning S) (old : S) (lines : List (List ℕ))
-    (text : List ℕ) : Type 0 where
+    (found : LineAnswer) : Type 0 where
   pub before : List (List ℕ)
   pub line : List ℕ
   pub after : List (List ℕ)
@@ -39,23 +29,24 @@ pub record IsFirstDifference {S : Type 0} (does : Meaning S) (old : S) (lines : 
   pub next : S
   pub done : does now (length answers) (without_return line) (Some answer) next
   pub differs : answer_agrees (without_return line) answer ≡ false
-  pub told : text ≡ difference_text (length before + 1) (without_return line) answer
+  pub told : found ≡ (length before + 1, answer)
 
 -- all of the input was read, and each of its lines interpreted and answered: each comment agrees
--- with the answer, or the first that does not is reported. The note names the lines whose comments
--- look like an answer and are none
+-- with the answer, or the first line whose comment does not is found
 abbrev pub ComparesAll : {S : Type 0} → Meaning S → S → S → Option (List ℕ) → Option (List ℕ)
-    → Option (List ℕ) → Option (List ℕ) → Option (List ℕ) → List ℕ → Type 0
-ComparesAll does old new before after held holds None note =
-    (all : DoesAll (agreeing does) old new before after held holds)
-    × (note ≡ mistaken_text all.lines)
-ComparesAll does old new before after held holds (Some text) note =
-    (all : DoesAll does old new before after held holds) × IsFirstDifference does old all.lines text
-    × (note ≡ mistaken_text all.lines)
+    → Option (List ℕ) → Option (List ℕ) → Option LineAnswer → Type 0
+ComparesAll does old new before after held holds None =
+    DoesAll (agreeing does) old new before after held holds
+ComparesAll does old new before after held holds (Some found) =
+    (all : DoesAll does old new before after held holds)
+    × IsFirstDifference does old all.lines found
 
--- the first difference, with one more line, which has this number: it stays where there is one
-abbrev pub first_with : Option (List ℕ) → ℕ → List ℕ → Option (List ℕ) → Option (List ℕ)
-first_with (Some text) n line said = Some text
+-- the first difference after one more line, the one with this number: an earlier one stays
+abbrev pub first_with : Option LineAnswer → ℕ → List ℕ → Option (List ℕ) → Option LineAnswer
+first_with (Some found) n line said = Some found
 first_with None n line None = None
-first_with None n line (Some answer) = if answer_agrees line answer then None
-    else Some (difference_text n line answer)
+first_with None n line (Some answer) = if answer_agrees line answer then None else Some (n, answer)
+
+-- the line that a difference names, and its answer
+abbrev pub found_in : Difference → LineAnswer
+found_in difference = (difference.number, difference.answer.items)

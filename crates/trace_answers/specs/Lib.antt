@@ -1,7 +1,6 @@
+pub mod Asked
 pub mod Comments
 pub mod Comparisons
 pub mod Explained
-pub mod Deciders
+pub mod Outcomes
 pub mod Reasons
-pub mod Mistaken
-pub mod Notes

@@ -2,11 +2,11 @@
 
 ghost use Rattle.std.specs.Prelude.{◌≡◌, ℕ, ◌+◌, ◌-◌, ◌^◌, ◌<◌, Some, Err, IfOk, None, min, option_map};
 ghost use Rattle.text_lines.specs.LineLoop.{text_of, CountsReads, CountsWrites, StopsAt, StopsForMemory, StopsReading, StopsTooLong, StopsWriting};
-ghost use Rattle.trace_answers.specs.Comparisons.{first_with, ComparesAll};
+ghost use Rattle.trace_answers.specs.Comparisons.{ComparesAll, first_with, found_in};
 
 use crate::comments::agrees;
-use crate::difference::{Difference, difference, numbered};
-use crate::note::{CommentNote, Mistaken};
+use crate::difference::{Difference, numbered};
+use crate::mistaken::{CommentNote, Mistaken};
 use byte_streams::{Sink, Source};
 use text_lines::{Interpreter, Line, LineRefusal, RunFault, interpret_lines};
 
@@ -30,8 +30,8 @@ fn note(
     behind: &Line,
 )
     requires { count < 2 ^ 64 - 1 }
-    ensures { option_map (λ d. d.items) first.new
-        ≡ first_with (option_map (λ d. d.items) first.old) number line.now
+    ensures { option_map found_in first.new
+        ≡ first_with (option_map found_in first.old) number line.now
         (text_of answered count behind.now) }
 {
     if first.is_some() || !answered {
@@ -39,21 +39,18 @@ fn note(
     }
     let answer = numbered(count + 1, behind);
     if !agrees(line, answer.as_slice()) {
-        *first = Some(difference(number, line, answer.as_slice()));
+        *first = Some(Difference::new(number, line, answer));
     }
 }
 
 impl<I: Interpreter> Interpreter for Comparing<I> {
     ghost use Rattle.std.specs.Prelude.{◌≡◌, ◌+◌, ◌-◌, ◌^◌, min, option_map};
-    ghost use Rattle.trace_answers.specs.Comparisons.{first_with};
-    ghost use Rattle.trace_answers.specs.Notes.{count_with, numbers_with};
+    ghost use Rattle.trace_answers.specs.Comparisons.{first_with, found_in};
 
     ghost does = { λ old n line said new. I.does old.lines n line said new.lines
         × (new.number ≡ min (old.number + 1) (2 ^ 64 - 1))
-        × (option_map (λ d. d.items) new.first
-        ≡ first_with (option_map (λ d. d.items) old.first) new.number line said)
-        × (new.mistaken.numbers.items ≡ numbers_with old.mistaken.numbers.items new.number line)
-        × (new.mistaken.count ≡ count_with old.mistaken.count line) };
+        × (option_map found_in new.first
+        ≡ first_with (option_map found_in old.first) new.number line said) };
 
     ghost refuses = { λ now line. I.refuses now.lines line };
 
@@ -79,15 +76,12 @@ impl<I: Interpreter> Interpreter for Comparing<I> {
 }
 
 impl<I> Comparing<I> {
-    ghost use Rattle.std.specs.Prelude.{◌≡◌, ◌-◌};
-    ghost use Rattle.trace_answers.specs.Mistaken.{listed_text};
+    ghost use Rattle.std.specs.Prelude.{◌≡◌};
 
     /// What came of them, where they ended so.
     fn ended(self, end: Result<(), RunFault>) -> Compared<I>
         ensures lines { result.lines ≡ self.lines }
         ensures first { result.first ≡ self.first }
-        ensures note { result.note.items
-            ≡ listed_text self.mistaken.numbers.items (self.mistaken.count - 8) }
         ensures end { result.end ≡ end }
     {
         let note = self.mistaken.note();
@@ -125,7 +119,7 @@ pub fn compare_lines<I: Interpreter, R: Source, W: Sink>(
         → IfOk result.end (λ _.
         ComparesAll I.does lines result.lines (R.remaining source.old)
         (R.remaining source.new) (W.contents sink.old) (W.contents sink.new)
-        (option_map (λ d. d.items) result.first) result.note.items) }
+        (option_map found_in result.first)) }
     ensures line { I.keeps lines → (n : ℕ) → result.end ≡ Err (RunFault.Line n)
         → StopsAt n I.does I.refuses lines result.lines (R.remaining source.old)
         (R.remaining source.new) (W.contents sink.old) (W.contents sink.new) }

@@ -1,8 +1,6 @@
-//! The text of an answer that differs from the one that its line says.
+//! An answer that differs from the one that its line expects.
 
 ghost use Rattle.std.specs.Prelude.{◌≡◌, ◌≤◌, ◌++◌, decimal, length};
-ghost use Rattle.text_lines.specs.Words.{is_allowed};
-ghost use Rattle.trace_answers.specs.Comparisons.{difference_text, shown_comment};
 
 use crate::comments::comment_of;
 use arrayvec::ArrayVec;
@@ -10,48 +8,72 @@ use itoa::Buffer;
 use lint_texts::{allowed_len, append, unended};
 use text_lines::Line;
 
-/// How many bytes of a comment are shown.
-const SHOWN: usize = 128;
-
-/// How many bytes an answer has at most.
+/// The most bytes of an answer.
 const ROOM: usize = 160;
 
-/// What is said of an answer that differs.
-pub type Difference = ArrayVec<u8, 384>;
+/// The most bytes of a comment that are shown.
+const SHOWN: usize = 128;
 
-/// The comment of a line up to its first byte that is not visible, of a bounded length.
+/// The text of a message about a difference.
+pub type DifferenceText = ArrayVec<u8, 384>;
+
+/// An answer that differs from the one that the comment of its line expects.
+#[derive(Drop)]
+pub struct Difference {
+    /// The number of the line, from 1.
+    pub number: u64,
+    /// The whole answer, with its number and its LF.
+    pub answer: ArrayVec<u8, ROOM>,
+    comment: ArrayVec<u8, SHOWN>,
+}
+
+/// Puts an answer together from its number and what follows it.
+pub(crate) fn numbered(number: u64, rest: &Line) -> ArrayVec<u8, ROOM>
+    ensures { result.items ≡ decimal number ++ rest.now }
+{
+    let mut text = ArrayVec::new();
+    let mut buffer = Buffer::new();
+    append(&mut text, buffer.format(number).as_bytes());
+    append(&mut text, rest.as_slice());
+    text
+}
+
+/// Returns the comment of a line up to its first byte that is not visible, at most 128 bytes of it.
 fn shown_comment(line: &[u8]) -> &[u8]
-    ensures value { result.now ≡ shown_comment line.now }
-    ensures most { length result.now ≤ 128 }
+    ensures { length result.now ≤ 128 }
 {
     let comment = comment_of(line);
     &comment[..allowed_len(comment).min(SHOWN)]
 }
 
-/// A whole answer: its number, and what comes after that.
-pub(crate) fn numbered(number: u64, behind: &Line) -> ArrayVec<u8, ROOM>
-    ensures { result.items ≡ decimal number ++ behind.now }
-{
-    let mut text = ArrayVec::new();
-    let mut buffer = Buffer::new();
-    append(&mut text, buffer.format(number).as_bytes());
-    append(&mut text, behind.as_slice());
-    text
-}
+impl Difference {
+    ghost use Rattle.std.specs.Prelude.{◌≡◌};
 
-/// What is said of the answer to a line, which differs.
-pub(crate) fn difference(number: u64, line: &[u8], answer: &[u8]) -> Difference
-    requires { length answer.now ≤ 160 }
-    ensures { result.items ≡ difference_text number line.now answer.now }
-{
-    let mut text = ArrayVec::new();
-    let mut buffer = Buffer::new();
-    append(&mut text, b"line ");
-    append(&mut text, buffer.format(number).as_bytes());
-    append(&mut text, b": answered '");
-    append(&mut text, unended(answer));
-    append(&mut text, b"', expected ");
-    append(&mut text, shown_comment(line));
-    append(&mut text, b"\n");
-    text
+    /// Notes that the answer to this line differs.
+    pub(crate) fn new(number: u64, line: &[u8], answer: ArrayVec<u8, ROOM>) -> Difference
+        ensures number { result.number ≡ number }
+        ensures answer { result.answer ≡ answer }
+    {
+        let mut comment = ArrayVec::new();
+        append(&mut comment, shown_comment(line));
+        Difference {
+            number,
+            answer,
+            comment,
+        }
+    }
+
+    /// Returns the message: the line's number, its answer, and the comment that expects another one.
+    pub fn text(&self) -> DifferenceText {
+        let mut text = ArrayVec::new();
+        let mut buffer = Buffer::new();
+        append(&mut text, b"line ");
+        append(&mut text, buffer.format(self.number).as_bytes());
+        append(&mut text, b": answered '");
+        append(&mut text, unended(self.answer.as_slice()));
+        append(&mut text, b"', expected ");
+        append(&mut text, self.comment.as_slice());
+        append(&mut text, b"\n");
+        text
+    }
 }

@@ -3,18 +3,20 @@
 ghost use Rattle.std.specs.Prelude.{◌≡◌, ◌≤◌, ◌++◌, codes, decimal, length, take};
 ghost use Rattle.trace_answers.specs.Explained.{explained};
 
-use crate::comment::Comment;
-use arrayvec::ArrayVec;
+use arrayvec::{ArrayString, ArrayVec};
 use lint_texts::{append, unended};
 use text_lines::{Line, push_decimal, push_text};
 
-/// How many bytes of a line come before its LF at most.
+/// The words of a comment. A part that does not fit is left out.
+pub type Comment = ArrayString<256>;
+
+/// The most bytes of a line before its LF.
 const ROOM: usize = 127;
 
-/// An answer and its comment, as long as they are.
+/// An answer and its comment at full length.
 type Whole = ArrayVec<u8, 512>;
 
-/// As much of a text as there is room for.
+/// The beginning of a text, at most `room` bytes.
 fn fitting(text: &[u8], room: usize) -> &[u8]
     ensures value { result.now ≡ take room text.now }
     ensures most { length result.now ≤ room }
@@ -25,7 +27,7 @@ fn fitting(text: &[u8], room: usize) -> &[u8]
     &text[..room]
 }
 
-/// A line of as much of a text as there is room for.
+/// Makes a line of the beginning of a text.
 fn line_of(text: &[u8], room: usize) -> Line
     requires { room ≤ 127 }
     ensures { result ≡ take room text.now ++ codes "\n" }
@@ -36,8 +38,8 @@ fn line_of(text: &[u8], room: usize) -> Line
     line
 }
 
-/// How many digits a number has in decimal.
-fn digits_in(number: u64) -> usize
+/// Returns the number of decimal digits of a number.
+fn count_digits(number: u64) -> usize
     ensures digits { result ≡ length (decimal number) }
     ensures most { result ≤ 20 }
 {
@@ -46,15 +48,15 @@ fn digits_in(number: u64) -> usize
     digits.len()
 }
 
-/// Puts a comment after an answer, of which the line holds what follows its number. With the number a line has 128 bytes at
-/// most: what of the comment has no room there is left out.
+/// Appends a comment to an answer. The line holds what follows the answer's number; with the number it has at most 128 bytes,
+/// and the end of a comment that does not fit is left out.
 pub fn explain(answer: &mut Line, number: u64, comment: &Comment)
     ensures { decimal number ++ answer.new
-        ≡ explained (decimal number ++ answer.old) comment.now.items }
+        ≡ explained (decimal number ++ answer.old) comment.now.bytes }
 {
     let mut whole: Whole = ArrayVec::new();
     append(&mut whole, unended(answer.as_slice()));
     append(&mut whole, b" # ");
-    append(&mut whole, comment.as_slice());
-    *answer = line_of(whole.as_slice(), ROOM - digits_in(number));
+    append(&mut whole, comment.as_str().as_bytes());
+    *answer = line_of(whole.as_slice(), ROOM - count_digits(number));
 }

@@ -4,18 +4,14 @@ ghost use Rattle.std.specs.Prelude.{◌≡◌, ℕ, ◌-◌, ◌^◌, Err, IfOk,
 ghost use Rattle.std.specs.Result.{result_ok};
 ghost use Rattle.text_lines.specs.LineLoop.{CountsReads, CountsWrites, DoesAll, StopsAt, StopsReading, StopsTooLong, StopsWriting};
 ghost use Rattle.hart_trace.specs.Answers.{access_on, answered_by, is_no_access};
-ghost use Rattle.trace_answers.specs.declared.reasons.Reason.{Reason};
 ghost use Rattle.trace_answers.specs.Explained.{explaining};
-ghost use Rattle.trace_answers.specs.Reasons.{IsReason, reason_text, on_access};
 
-use crate::comment::Comment;
-use crate::deciders::Deciders;
-use crate::explained::explain;
-use crate::reasons::{push_reason, reason_of};
-use arrayvec::ArrayVec;
+use crate::explained::{Comment, explain};
+use crate::reasons::reason_of;
 use byte_streams::{Sink, Source};
 use hart_trace::{AccessJudge, Event, LineJudge, parse_line};
-use pmp_match::Access;
+use pmp_match::{Access, Deciders};
+use std::fmt::Write;
 use text_lines::{Interpreter, Line, LineRefusal, RunFault, interpret_lines};
 
 /// What answers the access of each line, and says what decided it.
@@ -25,26 +21,20 @@ struct ExplainingJudge<'a, J, D> {
     deciders: &'a D,
 }
 
-/// The access of a line, where it is one.
-fn access_in(line: &[u8]) -> Option<Access>
-    ensures { (access : Access) → access_on line.now ≡ Some (Some access)
-        → result ≡ Some access }
-{
+/// Returns the access on a line, if there is one.
+fn access_on(line: &[u8]) -> Option<Access> {
     match parse_line(line, 0) {
         Ok(Some((_, Event::Access(access, _)))) => Some(access),
         _ => None,
     }
 }
 
-/// The comment on the access of a line, where it is one.
-fn comment_on<D: Deciders>(deciders: &D, line: &[u8]) -> Comment
-    ensures { (access : Access) → access_on line.now ≡ Some (Some access)
-        → (reason : Reason) × IsReason (D.decides deciders.now) access reason
-        × (result.items ≡ reason_text reason) }
-{
-    let mut comment = ArrayVec::new();
-    if let Some(access) = access_in(line) {
-        push_reason(&mut comment, &reason_of(deciders, &access));
+/// Writes the comment on the access of a line, if there is one.
+fn comment_on<D: Deciders>(deciders: &D, line: &[u8]) -> Comment {
+    let mut comment = Comment::new();
+    if let Some(access) = access_on(line) {
+        let reason = reason_of(deciders, &access);
+        let _ = write!(comment, "{reason}");
     }
     comment
 }
@@ -53,11 +43,9 @@ impl<J: AccessJudge, D: Deciders> Interpreter for ExplainingJudge<'_, J, D> {
     ghost use Rattle.std.specs.Prelude.{◌≡◌};
     ghost use Rattle.hart_trace.specs.Answers.{answered_by, is_no_access};
     ghost use Rattle.trace_answers.specs.Explained.{explaining};
-    ghost use Rattle.trace_answers.specs.Reasons.{on_access};
 
     ghost does = { λ old n line said new.
-        explaining (answered_by (J.outcomes old.by.now))
-        (on_access (D.decides old.deciders.now)) tt n line said tt
+        explaining (answered_by (J.outcomes old.by.now)) tt n line said tt
         × (new ≡ old) };
 
     ghost refuses = { λ now line. is_no_access tt line };
@@ -93,27 +81,27 @@ pub fn explain_judged<J: AccessJudge, D: Deciders, R: Source, W: Sink>(
     sink: &mut W,
 ) -> Result<(), RunFault>
     ensures all { IfOk result (λ _.
-        DoesAll (explaining (answered_by (J.outcomes by.now)) (on_access (D.decides deciders.now)))
+        DoesAll (explaining (answered_by (J.outcomes by.now)))
         tt tt (R.remaining source.old) (R.remaining source.new) (W.contents sink.old)
         (W.contents sink.new)) }
     ensures line { (n : ℕ) → result ≡ Err (RunFault.Line n)
         → StopsAt n
-        (explaining (answered_by (J.outcomes by.now)) (on_access (D.decides deciders.now)))
+        (explaining (answered_by (J.outcomes by.now)))
         is_no_access tt tt (R.remaining source.old) (R.remaining source.new)
         (W.contents sink.old) (W.contents sink.new) }
     ensures too_long { result ≡ Err RunFault.TooLong
         → StopsTooLong
-        (explaining (answered_by (J.outcomes by.now)) (on_access (D.decides deciders.now))) tt
+        (explaining (answered_by (J.outcomes by.now))) tt
         tt (R.remaining source.old) (R.remaining source.new) (W.contents sink.old)
         (W.contents sink.new) }
     ensures read { result ≡ Err RunFault.Read
         → StopsReading
-        (explaining (answered_by (J.outcomes by.now)) (on_access (D.decides deciders.now))) tt
+        (explaining (answered_by (J.outcomes by.now))) tt
         tt (R.remaining source.old) (R.remaining source.new) (W.contents sink.old)
         (W.contents sink.new) }
     ensures write { result ≡ Err RunFault.Write
         → StopsWriting
-        (explaining (answered_by (J.outcomes by.now)) (on_access (D.decides deciders.now))) tt
+        (explaining (answered_by (J.outcomes by.now))) tt
         tt (R.remaining source.old) (R.remaining source.new) (W.contents sink.old)
         (W.contents sink.new) }
     ensures no_memory { result ≡ Err RunFault.Memory → ⊥ }

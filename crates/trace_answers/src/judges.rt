@@ -3,7 +3,7 @@
 ghost use Rattle.std.specs.Prelude.{◌≡◌, ℕ, ◌-◌, ◌^◌, Err, IfOk, option_map};
 ghost use Rattle.text_lines.specs.LineLoop.{CountsReads, CountsWrites, StopsAt, StopsReading, StopsTooLong, StopsWriting};
 ghost use Rattle.hart_trace.specs.Answers.{answered_by, is_no_access};
-ghost use Rattle.trace_answers.specs.Comparisons.{ComparesAll};
+ghost use Rattle.trace_answers.specs.Comparisons.{ComparesAll, found_in};
 
 use crate::comparison::{Compared, compare_lines};
 use byte_streams::{Sink, Source};
@@ -19,7 +19,7 @@ pub fn compare_judged<J: AccessJudge, R: Source, W: Sink>(
     ensures all { IfOk result.end (λ _.
         ComparesAll (answered_by (J.outcomes by.now)) tt tt (R.remaining source.old)
         (R.remaining source.new) (W.contents sink.old) (W.contents sink.new)
-        (option_map (λ d. d.items) result.first) result.note.items) }
+        (option_map found_in result.first)) }
     ensures line { (n : ℕ) → result.end ≡ Err (RunFault.Line n)
         → StopsAt n (answered_by (J.outcomes by.now)) is_no_access tt tt
         (R.remaining source.old) (R.remaining source.new) (W.contents sink.old)

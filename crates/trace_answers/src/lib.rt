@@ -1,38 +1,44 @@
 //! The answers to the lines of a trace, compared with those that its comments expect, or each with a comment that explains it.
 //!
-//! - `comparison`: [`compare_lines`] interprets the lines of an input as `interpret_lines` does and writes the same answers; what
-//!   it answers, [`Compared`], has the first [`Difference`] between an answer and the comment of its line. [`compare_judged`]
-//!   (`judges`) does so with the accesses of a trace, judged by what an `AccessJudge` says. The [`CommentNote`] (`note`) names
-//!   the lines whose comments look like an answer and are none (`mistaken`).
-//! - `explained`: [`explain`] puts a comment after an answer, and [`Comment`] is what a comment is written to, piece by piece.
-//! - `explaining_judges`: [`explain_judged`] judges the accesses of a trace as `judge_lines` does, and after each answer says why:
-//!   which entry decided it, as [`Deciders`] names it, and the [`Reason`].
+//! - [`compare_lines`] interprets the lines of an input as `interpret_lines` does and writes the same answers. It finds the first
+//!   [`Difference`] between an answer and the comment of its line; the [`CommentNote`] names comments that look like an answer and are
+//!   not one. [`compare_judged`] does so with the accesses of a trace, judged by an `AccessJudge`.
+//! - [`explain_judged`] judges the accesses of a trace as `judge_lines` does, and appends to each answer what decided it.
+//! - [`explain_run`] runs a trace on a machine as `hart_sim::run` does, and appends to each answer what happened: on which hart and in
+//!   which world, which entry decided an access, and why a call was refused. [`print_summary`] prints what the [`Tally`] counted.
 //!
-//! Nothing here takes memory, but what interprets the lines may.
+//! An explained answer is the answer and a comment: that the answers are those of the report is proved. The comments are words for people,
+//! made from values that have contracts ([`Reason`], [`Asked`], [`Outcome`]).
 //!
 //! ```text
 //! explain_judged(&Segments::of(&bank), &bank, &mut source, &mut sink)?;
 //! ```
 #![tactic(auto)]
 
-mod comment;
+mod asked;
 mod comments;
 mod comparison;
-mod deciders;
 mod difference;
+mod event_comment;
 mod explained;
+mod explained_run;
 mod explaining_judges;
 mod judges;
 mod mistaken;
-mod note;
+mod outcome;
 mod reasons;
+mod refusals;
+mod summary;
+mod tally;
 
-pub use comment::{Comment, push_address, push_number};
+pub use asked::{Asked, Deed, asked_of};
 pub use comparison::{Compared, compare_lines};
-pub use deciders::{Decider, Deciders};
-pub use difference::Difference;
-pub use explained::explain;
+pub use difference::{Difference, DifferenceText};
+pub use explained_run::{Ran, explain_run};
 pub use explaining_judges::explain_judged;
 pub use judges::compare_judged;
-pub use note::CommentNote;
-pub use reasons::{Reason, push_extent, push_reason, reason_of};
+pub use mistaken::CommentNote;
+pub use outcome::Outcome;
+pub use reasons::{Reason, reason_of};
+pub use summary::print_summary;
+pub use tally::Tally;

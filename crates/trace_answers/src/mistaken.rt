@@ -1,108 +1,127 @@
-//! Comments that look like an answer and are none.
-
-ghost use Rattle.std.specs.Prelude.{◌≡◌, ◌≤◌, ◌∷◌, length};
-ghost use Rattle.std.specs.List.{prefix_len};
-ghost use Rattle.text_lines.specs.Words.{content_of, split_words};
-ghost use Rattle.trace_answers.specs.Mistaken.{is_kind_written, is_mistaken, is_opening, is_some_word, is_written, looks_like_answer, resembles_answer, written, written_words};
+//! Comments that look like an answer but are not one.
+//!
+//! Such a comment is probably a typing error, so `--expect` points it out. Which ones look like an answer is a guess: it decides
+//! no verdict.
 
 use crate::comments::{is_numbered, is_spoken, remark_of, says_answer};
+use arrayvec::{ArrayString, ArrayVec};
 use lint_texts::len_before;
+use std::fmt::Write;
 use text_lines::{Words, is_name};
 
-/// Whether a byte may occur in a word that looks like one of an answer.
-fn is_written(byte: u8) -> bool
-    ensures { result ≡ is_written byte }
-{
-    is_spoken(byte) || (byte >= b'A' && byte <= b'Z')
+/// The number of lines that are named.
+const NAMED: usize = 8;
+
+/// A message that names the lines with such comments. It is empty if there are none.
+pub type CommentNote = ArrayString<384>;
+
+/// The lines with such comments: the numbers of the first ones, and the number of all.
+#[derive(Drop)]
+pub(crate) struct Mistaken {
+    numbers: ArrayVec<u64, NAMED>,
+    count: u64,
 }
 
-/// How many such bytes a word begins with.
-fn written_len(word: &[u8]) -> usize
-    ensures within { result ≤ length word.now }
-    ensures len { result ≡ prefix_len is_written word.now }
-{
-    for (i, byte) in word.iter().enumerate() {
-        if !is_written(*byte) {
-            return i;
+impl Mistaken {
+    /// No lines.
+    pub fn none() -> Mistaken {
+        Mistaken {
+            numbers: ArrayVec::new(),
+            count: 0,
         }
     }
-    word.len()
-}
 
-/// A word up to its first other byte.
-fn written(word: &[u8]) -> &[u8]
-    ensures { result.now ≡ written word.now }
-{
-    &word[..written_len(word)]
-}
+    /// Looks at one more line, the one with this number.
+    pub fn look_at(&mut self, number: u64, line: &[u8]) {
+        if is_mistaken(line) {
+            let _ = self.numbers.try_push(number);
+            self.count = self.count.saturating_add(1);
+        }
+    }
 
-/// Whether a word is the first of an answer, after its number, in upper or lower case.
-fn is_kind_written(word: &[u8]) -> bool
-    ensures { result ≡ is_kind_written word.now }
-{
-    (is_name(word, b"ok") || is_name(word, b"fault"))
-        || (is_name(word, b"call") || is_name(word, b"irq"))
-}
-
-/// Whether a word may come before an answer that is expected.
-fn is_opening(word: &[u8]) -> bool
-    ensures { result ≡ is_opening word.now }
-{
-    (is_name(word, b"expect") || is_name(word, b"expects"))
-        || (is_name(word, b"expected") || is_name(word, b"want"))
-}
-
-/// Whether a first word and those after it look like those of an answer.
-fn begins_like_answer(first: &[u8], mut rest: Words<'_>) -> bool
-    ensures { result ≡ looks_like_answer (first.now ∷ written_words rest.entry.rest.now) }
-{
-    let Some(second) = rest.next_word() else {
-        return is_kind_written(first);
-    };
-    is_kind_written(first) || (is_numbered(first) && is_kind_written(written(second)))
-}
-
-/// Whether words look like those of an answer.
-fn looks_like_answer(mut words: Words<'_>) -> bool
-    ensures { result ≡ looks_like_answer (written_words words.entry.rest.now) }
-{
-    match words.next_word() {
-        Some(first) => begins_like_answer(written(first), words),
-        None => false,
+    /// Names the lines.
+    pub fn note(&self) -> CommentNote {
+        let mut note = CommentNote::new();
+        let [first, rest @ ..] = self.numbers.as_slice() else {
+            return note;
+        };
+        let _ = write!(
+            note,
+            "# comments that look like answers and are none, by their lines: {first}"
+        );
+        for number in rest {
+            let _ = write!(note, ", {number}");
+        }
+        let more = self.count.saturating_sub(NAMED as u64);
+        if more != 0 {
+            let _ = write!(note, " and {more} more");
+        }
+        let _ = writeln!(note);
+        note
     }
 }
 
-/// Whether they do so, or after one that may come before an answer.
-fn resembles_answer(mut words: Words<'_>) -> bool
-    ensures { result ≡ resembles_answer (written_words words.entry.rest.now) }
-{
+/// Returns whether a byte may occur in a word that looks like one of an answer.
+fn is_written(byte: u8) -> bool {
+    is_spoken(byte) || byte.is_ascii_uppercase()
+}
+
+/// Returns a word up to its first byte that may not occur there.
+fn written(word: &[u8]) -> &[u8] {
+    match word.iter().position(|byte| !is_written(*byte)) {
+        Some(len) => &word[..len],
+        None => word,
+    }
+}
+
+/// Returns whether a word is the first of an answer after its number, in upper or lower case.
+fn is_kind(word: &[u8]) -> bool {
+    is_name(word, b"ok") || is_name(word, b"fault") || is_name(word, b"call") || is_name(word, b"irq")
+}
+
+/// Returns whether a word may introduce an expected answer.
+fn is_opening(word: &[u8]) -> bool {
+    is_name(word, b"expect")
+        || is_name(word, b"expects")
+        || is_name(word, b"expected")
+        || is_name(word, b"want")
+}
+
+/// Returns whether a first word and the words after it look like those of an answer.
+fn begins_like_answer(first: &[u8], mut rest: Words<'_>) -> bool {
+    let Some(second) = rest.next_word() else {
+        return is_kind(first);
+    };
+    is_kind(first) || (is_numbered(first) && is_kind(written(second)))
+}
+
+/// Returns whether words look like those of an answer, perhaps after a word that introduces it.
+fn resembles_answer(mut words: Words<'_>) -> bool {
     let Some(first) = words.next_word() else {
         return false;
     };
     let first = written(first);
-    if is_opening(first) {
-        looks_like_answer(words)
-    } else {
-        begins_like_answer(first, words)
+    if !is_opening(first) {
+        return begins_like_answer(first, words);
+    }
+    match words.next_word() {
+        Some(next) => begins_like_answer(written(next), words),
+        None => false,
     }
 }
 
-/// Whether a line has something before its comment.
-fn has_content(line: &[u8]) -> bool
-    ensures { result ≡ is_some_word (split_words (content_of line.now)) }
-{
+/// Returns whether a line has anything before its comment.
+fn has_content(line: &[u8]) -> bool {
     let mut words = Words {
         rest: &line[..len_before(b'#', line)],
     };
     words.next_word().is_some()
 }
 
-/// Whether a line has something before its comment, which looks like an answer and says none.
-pub(crate) fn is_mistaken(line: &[u8]) -> bool
-    ensures { result ≡ is_mistaken line.now }
-{
+/// Returns whether a line has something before its comment, and the comment looks like an answer but is not one.
+fn is_mistaken(line: &[u8]) -> bool {
     let remark = Words {
         rest: remark_of(line),
     };
-    (has_content(line) && resembles_answer(remark)) && !says_answer(remark)
+    has_content(line) && resembles_answer(remark) && !says_answer(remark)
 }

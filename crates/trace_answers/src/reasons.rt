@@ -1,26 +1,23 @@
-//! What decides an access, and its text.
+//! What decides an access.
 
-ghost use Rattle.std.specs.Prelude.{◌≡◌, ◌+◌, ◌^◌, ◌<◌, ◌≤◌, ◌++◌};
-ghost use Rattle.arrayvec.specs.ArrayVec.{array_vec_len};
-ghost use Rattle.trace_answers.specs.Reasons.{IsReason, extent_text, has_all, part_text, reason_text};
+ghost use Rattle.std.specs.Prelude.{◌≡◌, ◌^◌, ◌<◌};
+ghost use Rattle.trace_answers.specs.Reasons.{IsReason, has_all};
 
-use crate::comment::{Comment, push_address, push_number};
-use crate::deciders::Deciders;
-use lint_texts::append;
 use pmp_encoding::{Extent, SPACE_SIZE};
-use pmp_match::{Access, is_aligned};
+use pmp_match::{Access, Deciders, is_aligned};
 use printed_lines::letters;
+use std::fmt;
 
 /// What decides an access.
 #[derive(Clone, Copy)]
 pub enum Reason {
-    /// Its address is no multiple of its size, and no entry is asked.
+    /// Its address is not a multiple of its size; the entries are not consulted.
     Misaligned,
-    /// Its address is past the space of 2^56 bytes, and no entry is asked.
+    /// Its address is at or above 2^56; the entries are not consulted.
     Outside,
-    /// No entry meets it.
+    /// No entry matches any of its bytes.
     NoEntry,
-    /// The entry of that number, which has all of its bytes or only a part.
+    /// The first entry that matches some of its bytes, and whether it matches all of them.
     Entry {
         number: usize,
         extent: Extent,
@@ -28,7 +25,7 @@ pub enum Reason {
     },
 }
 
-/// Whether the extent has each byte of the access.
+/// Returns whether the extent contains every byte of the access.
 fn has_all(extent: Extent, access: &Access) -> bool
     requires { access.now.address < 2 ^ 56 }
     ensures { result ≡ has_all extent access.now }
@@ -36,7 +33,7 @@ fn has_all(extent: Extent, access: &Access) -> bool
     extent.base <= access.addr() && access.addr() + u64::from(access.size()) <= extent.end
 }
 
-/// What decides an access.
+/// Finds what decides an access.
 pub fn reason_of<D: Deciders>(deciders: &D, access: &Access) -> Reason
     ensures { IsReason (D.decides deciders.now) access.now result }
 {
@@ -56,50 +53,23 @@ pub fn reason_of<D: Deciders>(deciders: &D, access: &Access) -> Reason
     }
 }
 
-/// Appends `FIRST-LAST PERM`.
-pub fn push_extent(comment: &mut Comment, extent: &Extent)
-    requires { array_vec_len comment.old + 41 ≤ 256 }
-    ensures items { comment.new.items ≡ comment.old.items ++ extent_text extent.now }
-    ensures len { array_vec_len comment.new ≤ array_vec_len comment.old + 41 }
-{
-    push_address(comment, extent.base);
-    append(comment, b"-");
-    push_address(comment, extent.end.saturating_sub(1));
-    append(comment, b" ");
-    append(comment, letters(extent.perm).as_bytes());
-}
-
-/// Appends that an entry has only a part of an access, where that is so.
-fn push_part(comment: &mut Comment, is_whole: bool)
-    requires { array_vec_len comment.old + 25 ≤ 256 }
-    ensures items { comment.new.items ≡ comment.old.items ++ part_text is_whole }
-    ensures len { array_vec_len comment.new ≤ array_vec_len comment.old + 25 }
-{
-    if !is_whole {
-        append(comment, b", which holds only a part");
-    }
-}
-
-/// Appends what decides an access.
-pub fn push_reason(comment: &mut Comment, reason: &Reason)
-    requires { array_vec_len comment.old + 128 ≤ 256 }
-    ensures items { comment.new.items ≡ comment.old.items ++ reason_text reason.now }
-    ensures len { array_vec_len comment.new ≤ array_vec_len comment.old + 128 }
-{
-    match reason {
-        Reason::Misaligned => append(comment, b"misaligned, no entry is asked"),
-        Reason::Outside => append(comment, b"past 2^56, no entry is asked"),
-        Reason::NoEntry => append(comment, b"no entry meets it"),
-        Reason::Entry {
-            number,
-            extent,
-            is_whole,
-        } => {
-            append(comment, b"entry ");
-            push_number(comment, *number as u64);
-            append(comment, b": ");
-            push_extent(comment, extent);
-            push_part(comment, *is_whole);
+impl fmt::Display for Reason {
+    fn fmt<W: fmt::Write>(&self, f: &mut fmt::Formatter<W>) -> fmt::Result {
+        match self {
+            Reason::Misaligned => write!(f, "misaligned, no entry is asked"),
+            Reason::Outside => write!(f, "past 2^56, no entry is asked"),
+            Reason::NoEntry => write!(f, "no entry meets it"),
+            Reason::Entry {
+                number,
+                extent,
+                is_whole,
+            } => {
+                let base = extent.base;
+                let last = extent.end.saturating_sub(1);
+                let perm = letters(extent.perm);
+                let part = if *is_whole { "" } else { ", which holds only a part" };
+                write!(f, "entry {number}: {base:#x}-{last:#x} {perm}{part}")
+            }
         }
     }
 }

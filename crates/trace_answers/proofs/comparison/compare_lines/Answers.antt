@@ -14,8 +14,8 @@ if_ok (Err fault) f a = a
 pub returns-clause-all : goal.returns-clause-all
 returns-clause-all g c = λ k.
     let does = g.I.Interpreter.does in
-    rw (c.ended.ensures.lines, c.ended.ensures.first, c.ended.ensures.note, c.ended.ensures.end)
-    (if_ok c.interpret_lines-end.result (compared_all does _ _ _ _ _ _ refl refl c.none.ensures.numbers c.none.ensures.count)
+    rw (c.ended.ensures.lines, c.ended.ensures.first, c.ended.ensures.end)
+    (if_ok c.interpret_lines-end.result (compared_all does _ _ _ _ _ _ refl refl)
     (c.interpret_lines-end.ensures.all k))
 
 pub returns-clause-line : goal.returns-clause-line

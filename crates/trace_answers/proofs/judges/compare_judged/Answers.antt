@@ -13,7 +13,7 @@ returns-clause-all g c =
     let by = c.args.by.now in
     let begun : LineJudge _ = record { by = c.args.by } in
     if_ok c.compare_lines-first.result.end (mapped_compared (Keeps by) stateless (judges outcomes) (answered_by (outcomes by))
-    (follows outcomes by) begun _ _ _ _ _ _ _ refl) (c.compare_lines-first.ensures.all tt)
+    (follows outcomes by) begun _ _ _ _ _ _ refl) (c.compare_lines-first.ensures.all tt)
 
 pub returns-clause-line : goal.returns-clause-line
 returns-clause-line g c = λ n e.
