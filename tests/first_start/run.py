@@ -3,10 +3,12 @@
 
   tests/first_start/run.py
 
-What stands on standard output, on standard error and as the status at each kind of start: the first, one that the planner alone
-answers, one that is stopped, one whose proof fails, one that reads a pipe, the second. The last line that is printed is
-'N passed, M failed'.
+Compares standard output, standard error and the status of each kind of start: help and errors of the command line, the first start, one
+that the planner alone answers, one that is stopped, one whose proof fails, one that reads a pipe, the second. The last line that is
+printed is 'N passed, M failed'.
 """
+import importlib.machinery
+import importlib.util
 import os
 import re
 import shutil
@@ -114,7 +116,7 @@ stop_on_links = lambda folder: None
 """
 
 
-TOOLS = [f"tools/{it}" for it in ("build", "prove", "plan_alone.py", "unproved", "seconds.txt")]
+TOOLS = [f"tools/{it}" for it in ("at_once", "build", "help.txt", "prove", "plan_alone.py", "unproved", "seconds.txt")]
 
 
 class House:
@@ -219,8 +221,8 @@ def pipe(house):
 
 
 def no_answer(house):
-    ran = house.start("run", "long")
-    yield "an answer that a try can't give is left to the proof", b"no answer before the proof ends" in ran.stderr and ran.stdout == b"proved:run long\n"
+    ran = house.start("run", "long", "m.map")
+    yield "an answer that a try can't give is left to the proof", b"no answer before the proof ends" in ran.stderr and ran.stdout == b"proved:run long m.map\n"
 
 
 def failing_proof(house):
@@ -297,9 +299,36 @@ def failing_planner(house):
     yield "a planner whose proof fails: status 70, nothing on standard output", (ran.returncode, ran.stdout) == (70, b"")
 
 
+def load(path):
+    """A script as a module."""
+    loader = importlib.machinery.SourceFileLoader(path.stem, str(path))
+    made = importlib.util.module_from_spec(importlib.util.spec_from_loader(path.stem, loader))
+    sys.modules[path.stem] = made
+    loader.exec_module(made)
+    return made
+
+
+def at_once(house):
+    for words, status in ((["--help"], 0), (["plan", "--help"], 0), (["--version"], 0), (["draw"], 2), (["plan"], 2), (["plan", "m.map", "--entries", "17"], 2)):
+        ran = house.start(*words)
+        yield f"on an unbuilt clone: {' '.join(words)}", ran.returncode == status and bool(ran.stdout) == (status == 0) and bool(ran.stderr) == (status == 2)
+    yield "on an unbuilt clone: none of these starts a proof", house.calls() == []
+    answers, transcripts = load(TOP / "tools" / "at_once"), load(TOP / "tests" / "transcripts" / "run.py")
+    known, answered = answers.texts(), 0
+    for path in sorted((TOP / "tests" / "transcripts").glob("*.txt")):
+        for command in transcripts.commands_of(path):
+            words = [it.decode(errors="replace") if isinstance(it, bytes) else it for it in command.words]
+            status, text = answers.answer(words, known)
+            if status != answers.NOT_HERE:
+                answered += 1
+                if (status, text) != (command.status, (command.out if status == 0 else command.err).decode()):
+                    yield f"{command.place}: tools/at_once answers something else than the program", False
+    yield "each command of the transcripts that is answered at once has the program's answer", answered > 20
+
+
 def main():
     count = Count()
-    for kind in (first_start, saved_meanwhile, library, failing_library, pipe, no_answer, failing_proof, stopped, unproved, planner, no_plan, failing_planner):
+    for kind in (at_once, first_start, saved_meanwhile, library, failing_library, pipe, no_answer, failing_proof, stopped, unproved, planner, no_plan, failing_planner):
         with tempfile.TemporaryDirectory() as made:
             for what, good in kind(House(Path(made).resolve())):
                 count.note(good, what)

@@ -11,7 +11,7 @@ use Rattle.permission_map.specs.Runs.{view_of_runs}
 use Rattle.pmp_encoding.specs.declared.xlen.Xlen.{Xlen}
 use Rattle.pmp_encoding.specs.Widths.{AreReached}
 use Rattle.register_audit.specs.Audits.{IsAudit}
-use Rattle.register_text.specs.Listings.{IsFirstUnknown}
+use Rattle.register_audit.specs.RegisterListings.{IsFirstUnknown}
 use Rattle.command_inputs.specs.declared.trouble.Trouble.{Trouble}
 use Rattle.command_inputs.specs.declared.trouble.Trouble.TheVariants.{NotUnderstood, Output, Memory}
 use Rattle.command_inputs.specs.Inputs.{Reading, IsUnread, HasBytes, HasNoBytes, HasMap, HasNoMap}

@@ -20,7 +20,7 @@ use Rattle.pmp_encoding.specs.declared.xlen.Xlen.{Xlen}
 use Rattle.register_audit.specs.Answers.{by_registers}
 use Rattle.register_audit.specs.Deciders.{by_entry}
 use Rattle.register_audit.specs.Listings.{HasRules, IsRefused}
-use Rattle.register_text.specs.Listings.{IsFirstUnknown}
+use Rattle.register_audit.specs.RegisterListings.{IsFirstUnknown}
 use Rattle.program_tasks.specs.declared.options.Answers.{Answers}
 use Rattle.program_tasks.specs.declared.options.Answers.TheVariants as answers
 use Rattle.command_inputs.specs.declared.trouble.Trouble.{Trouble}

@@ -11,8 +11,8 @@ use Rattle.map_lint.specs.Findings.{IsLintText}
 use Rattle.map_lint.specs.Lints.{IsVerdictOfLines}
 use Rattle.pmp_encoding.specs.declared.xlen.Xlen.{Xlen}
 use Rattle.pmp_encoding.specs.declared.xlen.Xlen.TheVariants.{Rv32, Rv64}
-use Rattle.register_text.specs.declared.listing.Listing.{Listing}
-use Rattle.register_text.specs.Listings.{IsFirstUnknown, listed}
+use Rattle.register_audit.specs.declared.listing.Listing.{Listing}
+use Rattle.register_audit.specs.RegisterListings.{IsFirstUnknown, listed}
 use Rattle.command_inputs.specs.declared.trouble.Trouble.{Trouble}
 use Rattle.command_inputs.specs.declared.trouble.Trouble.TheVariants.{Output, Memory}
 use Rattle.command_inputs.specs.Inputs.{Reading, HasBytes, HasNoBytes}

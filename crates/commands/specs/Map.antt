@@ -7,8 +7,8 @@ use Rattle.pmp_encoding.specs.declared.xlen.Xlen.{Xlen}
 use Rattle.pmp_match.specs.declared.access.Mode.{Mode}
 use Rattle.pmp_match.specs.declared.access.Mode.TheVariants.{Machine}
 use Rattle.register_audit.specs.Maps.{AreTooFine, IsMapFile}
-use Rattle.register_text.specs.declared.listing.Listing.{Listing}
-use Rattle.register_text.specs.Listings.{IsFirstUnknown, listed}
+use Rattle.register_audit.specs.declared.listing.Listing.{Listing}
+use Rattle.register_audit.specs.RegisterListings.{IsFirstUnknown, listed}
 use Rattle.board_texts.specs.Boards.{IsMapOfTree, IsNoMap, is_tree}
 use Rattle.command_inputs.specs.declared.trouble.Trouble.{Trouble}
 use Rattle.command_inputs.specs.declared.trouble.Trouble.TheVariants.{NotUnderstood, TooManyRanges}

@@ -16,7 +16,7 @@ use Rattle.map_table.specs.Tables.{IsTable}
 use Rattle.map_table.specs.FormattedTables.{IsJsonTable, IsPicture}
 use Rattle.map_lint.specs.Costs.{IsCostText}
 use Rattle.register_audit.specs.Tables.{IsRegisterTable}
-use Rattle.register_text.specs.Listings.{IsFirstUnknown}
+use Rattle.register_audit.specs.RegisterListings.{IsFirstUnknown}
 use Rattle.program_tasks.specs.declared.options.TableFormat.{TableFormat}
 use Rattle.program_tasks.specs.declared.options.TableFormat.TheVariants as tables
 use Rattle.command_inputs.specs.declared.trouble.Trouble.{Trouble}

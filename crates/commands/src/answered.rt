@@ -6,7 +6,7 @@ ghost use Rattle.commands.specs.Answered.{noted, said};
 use arrayvec::ArrayVec;
 use command_inputs::Trouble;
 use lint_texts::append;
-use register_text::ListingNotes;
+use register_audit::ListingNotes;
 use trace_answers::CommentNote;
 
 /// What is said beside a status, on standard error: whole lines, each of which begins with `# `.

@@ -12,7 +12,7 @@ use command_inputs::{
 use file_lints::lint_platform;
 use map_lint::lint;
 use pmp_encoding::Xlen;
-use register_text::{is_listing, listing_of};
+use register_audit::{is_listing, listing_of};
 use std::alloc::Global;
 use text_lines::{Line, push_decimal, push_text};
 

@@ -12,11 +12,11 @@ use Rattle.map_table.specs.declared.stretch.Stretch.{Stretch}
 use Rattle.register_audit.specs.declared.verdict.Verdict.{Verdict}
 use Rattle.register_audit.specs.declared.verdict.Verdict.TheVariants as verdicts
 use Rattle.register_audit.specs.Findings.{IsFirstDifference}
-use Rattle.register_text.specs.declared.listing.Listing.{Listing}
+use Rattle.register_audit.specs.declared.listing.Listing.{Listing}
 use Rattle.register_audit.specs.Audits.{IsAnswer, judged, unmodelled}
 use Rattle.register_audit.specs.Modes.{AreGiven, MeanFor}
 use Rattle.register_audit.specs.Verdicts.{IsVerdict, is_difference, is_meant}
-use Rattle.register_text.specs.SecurityBits.{unknown_bit}
+use Rattle.register_audit.specs.SecurityBits.{unknown_bit}
 use Rattle.register_audit.proofs.Cut.{cut_not}
 use Rattle.register_audit.proofs.ByMode.{are_words, by_means}
 use Rattle.register_audit.proofs.NoMap.{one_or_none}

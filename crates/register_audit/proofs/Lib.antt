@@ -10,3 +10,6 @@ pub mod ByMode
 pub mod EachPage
 pub mod NoMap
 pub mod Meant
+pub mod Followed
+pub mod LowestBits
+pub mod Exponents

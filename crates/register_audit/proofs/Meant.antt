@@ -4,8 +4,8 @@ use Rattle.pmp_encoding.specs.declared.extent.Extent.{Extent}
 use Rattle.permission_map.specs.declared.runs.Run.{Run}
 use Rattle.permission_map.specs.Runs.{AreRuns, view_of_runs}
 use Rattle.pmp_match.specs.declared.access.Mode.{Mode}
-use Rattle.register_text.specs.declared.listing.Listing.{Listing}
-use Rattle.register_text.specs.SecurityBits.{unknown_bit}
+use Rattle.register_audit.specs.declared.listing.Listing.{Listing}
+use Rattle.register_audit.specs.SecurityBits.{unknown_bit}
 use Rattle.register_audit.specs.Maps.{IsMapOf, IsMapOfExtents, below, cut, mapped, refused, told}
 use Rattle.register_audit.specs.MapTexts.{map_text}
 use Rattle.register_audit.specs.Modes.{AreGiven, MeanFor}

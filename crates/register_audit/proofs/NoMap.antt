@@ -8,9 +8,9 @@ use Rattle.pmp_match.specs.RegisterDecision.{ExtentsMean, IsWords}
 use Rattle.pmp_match.proofs.RegistersEachByte.{each_byte}
 use Rattle.pmp_match.proofs.Matched.{all_defined}
 use Rattle.map_table.specs.declared.stretch.Stretch.{Stretch}
-use Rattle.register_text.specs.declared.listing.Listing.{Listing}
-use Rattle.register_text.specs.SecurityBits.{unknown_bit}
-use Rattle.register_text.specs.Texts.{IsRefusal, reserved, unmodelled}
+use Rattle.register_audit.specs.declared.listing.Listing.{Listing}
+use Rattle.register_audit.specs.SecurityBits.{unknown_bit}
+use Rattle.register_audit.specs.ListingTexts.{IsRefusal, reserved, unmodelled}
 use Rattle.register_audit.specs.Findings.{CutsAlone, IsCut, IsFirstDifference}
 use Rattle.register_audit.proofs.Cut.{cut_not}
 use Rattle.register_audit.proofs.ByMode.{are_words, by_means}

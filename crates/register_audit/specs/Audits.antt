@@ -4,14 +4,14 @@ use Rattle.pmp_encoding.specs.Views.{View}
 use Rattle.pmp_match.specs.declared.access.Mode.{Mode}
 use Rattle.pmp_match.specs.declared.registers.Registers.{Registers}
 use Rattle.pmp_encoding.specs.declared.xlen.Xlen.{Xlen}
-use Rattle.register_text.specs.declared.listing.Listing.{Listing}
-use Rattle.register_text.specs.Listings.{listed}
+use Rattle.register_audit.specs.declared.listing.Listing.{Listing}
+use Rattle.register_audit.specs.RegisterListings.{listed}
 use Rattle.register_audit.specs.declared.verdict.Verdict.{Verdict}
 use Rattle.register_audit.specs.Differences.{AreDifferences}
 use Rattle.register_audit.specs.Verdicts.{IsVerdict, is_difference, is_meant}
 use Rattle.register_audit.specs.Texts.{verdict_text}
-use Rattle.register_text.specs.SecurityBits.{unknown_bit}
-use Rattle.register_text.specs.Texts.{notes_text, unknown_bit_text}
+use Rattle.register_audit.specs.SecurityBits.{unknown_bit}
+use Rattle.register_audit.specs.ListingTexts.{notes_text, unknown_bit_text}
 
 -- what is said of a verdict: its line; but where it is a stretch that differs and all are asked
 -- for, a line for each

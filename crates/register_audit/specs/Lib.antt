@@ -14,3 +14,11 @@ pub mod Deciders
 pub mod Pages
 pub mod MapTexts
 pub mod Maps
+pub mod Lines
+pub mod RegisterListings
+pub mod SecurityBits
+pub mod ListingTexts
+pub mod Blocks
+pub mod Letters
+pub mod Names
+pub mod LogLines

@@ -4,10 +4,10 @@ use Rattle.pmp_encoding.specs.declared.extent.Extent.{Extent}
 use Rattle.pmp_match.specs.declared.registers.Registers.{Registers}
 use Rattle.pmp_match.specs.RegisterMatching.{AreExtents}
 use Rattle.pmp_encoding.specs.declared.xlen.Xlen.{Xlen}
-use Rattle.register_text.specs.declared.listing.Listing.{Listing}
-use Rattle.register_text.specs.Listings.{listed}
-use Rattle.register_text.specs.SecurityBits.{unknown_bit}
-use Rattle.register_text.specs.Texts.{IsRefusal, notes_text}
+use Rattle.register_audit.specs.declared.listing.Listing.{Listing}
+use Rattle.register_audit.specs.RegisterListings.{listed}
+use Rattle.register_audit.specs.SecurityBits.{unknown_bit}
+use Rattle.register_audit.specs.ListingTexts.{IsRefusal, notes_text}
 use Rattle.register_audit.specs.declared.listing_rules.Ruled.{Ruled}
 use Rattle.register_audit.specs.declared.listing_rules.Ruled.TheVariants as ruled
 

@@ -8,11 +8,11 @@ use Rattle.pmp_match.specs.RegisterDecision.{ExtentsMean}
 use Rattle.pmp_match.specs.declared.access.Mode.{Mode}
 use Rattle.map_table.specs.declared.stretch.Stretch.{Stretch}
 use Rattle.pmp_encoding.specs.declared.xlen.Xlen.{Xlen}
-use Rattle.register_text.specs.declared.listing.Listing.{Listing}
-use Rattle.register_text.specs.Listings.{listed}
+use Rattle.register_audit.specs.declared.listing.Listing.{Listing}
+use Rattle.register_audit.specs.RegisterListings.{listed}
 use Rattle.register_audit.specs.Findings.{CutsAlone, IsFirstDifference}
-use Rattle.register_text.specs.SecurityBits.{unknown_bit}
-use Rattle.register_text.specs.Texts.{IsRefusal, notes_text}
+use Rattle.register_audit.specs.SecurityBits.{unknown_bit}
+use Rattle.register_audit.specs.ListingTexts.{IsRefusal, notes_text}
 use Rattle.register_audit.specs.Pages.{HasFirstBytes, IsTooFine}
 use Rattle.register_audit.specs.MapTexts.{below_text, cut_text, map_text}
 use Rattle.register_audit.specs.Modes.{AreGiven}

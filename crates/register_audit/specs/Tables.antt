@@ -6,11 +6,11 @@ use Rattle.pmp_match.specs.RegisterMatching.{AreExtents}
 use Rattle.register_audit.specs.Decision.{default_perm}
 use Rattle.register_audit.specs.Modes.{entries_from}
 use Rattle.pmp_encoding.specs.declared.xlen.Xlen.{Xlen}
-use Rattle.register_text.specs.declared.listing.Listing.{Listing}
-use Rattle.register_text.specs.Listings.{listed}
+use Rattle.register_audit.specs.declared.listing.Listing.{Listing}
+use Rattle.register_audit.specs.RegisterListings.{listed}
 use Rattle.register_audit.specs.Registers.{count_on}
-use Rattle.register_text.specs.SecurityBits.{unknown_bit}
-use Rattle.register_text.specs.Texts.{IsRefusal, notes_text}
+use Rattle.register_audit.specs.SecurityBits.{unknown_bit}
+use Rattle.register_audit.specs.ListingTexts.{IsRefusal, notes_text}
 use Rattle.map_table.specs.Tables.{IsExtentTable}
 
 -- what is said of what a listing leaves, and whether the registers mean something: the table of

@@ -7,7 +7,7 @@ use Rattle.pmp_match.specs.declared.access.Mode.{Mode}
 use Rattle.pmp_match.specs.declared.access.Mode.TheVariants.{Machine}
 use Rattle.pmp_match.specs.declared.registers.Registers.{Registers}
 use Rattle.map_table.specs.declared.stretch.Stretch.{Stretch}
-use Rattle.register_text.specs.Texts.{reserved_text}
+use Rattle.register_audit.specs.ListingTexts.{reserved_text}
 use Rattle.register_audit.specs.declared.verdict.Verdict.{Verdict}
 use Rattle.register_audit.specs.declared.verdict.Verdict.TheVariants as verdicts
 

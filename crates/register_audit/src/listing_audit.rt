@@ -3,13 +3,13 @@
 ghost use Rattle.std.specs.Prelude.{◌≡◌, ◌≢◌, ◌⊎◌, ◌-◌, ◌^◌, ◌<◌, ◌++◌, ◌&&◌, ℕ, Bool, Err, Ok, Some, List, IfOk, length, true, false, None};
 ghost use Rattle.byte_streams.specs.Writings.{writing, Breaks, TakesAll};
 ghost use Rattle.permission_map.specs.Runs.{view_of_runs};
-ghost use Rattle.register_text.specs.declared.listing.Listing.{Listing};
-ghost use Rattle.register_text.specs.Listings.{IsFirstUnknown, listed};
+ghost use Rattle.register_audit.specs.declared.listing.Listing.{Listing};
+ghost use Rattle.register_audit.specs.RegisterListings.{IsFirstUnknown, listed};
 ghost use Rattle.register_audit.specs.declared.fault.ListingFault as ListingFault;
 ghost use Rattle.register_audit.specs.Audits.{IsAnswer, IsAudit, IsSaid};
 ghost use Rattle.register_audit.specs.Modes.{MeanFor};
-ghost use Rattle.register_text.specs.SecurityBits.{unknown_bit};
-ghost use Rattle.register_text.specs.Texts.{notes_text};
+ghost use Rattle.register_audit.specs.SecurityBits.{unknown_bit};
+ghost use Rattle.register_audit.specs.ListingTexts.{notes_text};
 ghost use Rattle.register_audit.specs.Verdicts.{IsVerdict, is_difference, is_meant};
 
 use crate::differences::differences_of;
@@ -20,7 +20,7 @@ use byte_streams::{Sink, write_whole};
 use permission_map::{Memory, PermissionMap};
 use pmp_encoding::Xlen;
 use pmp_match::{Mode, Registers};
-use register_text::{Listing, listing_of, push_notes, text_of_line, unknown_bit, unknown_bit_line};
+use crate::{Listing, listing_of, push_notes, text_of_line, unknown_bit, unknown_bit_line};
 use std::alloc::Global;
 
 /// What is said of a listing, and whether it is a yes.

@@ -1,14 +1,14 @@
 //! The rules of a listing.
 
 ghost use Rattle.std.specs.Prelude.{◌≡◌, ℕ, ◌-◌, ◌^◌, ◌<◌, IfErr, IfOk, List, Some, length};
-ghost use Rattle.register_text.specs.Listings.{IsFirstUnknown, listed};
-ghost use Rattle.register_text.specs.Texts.{notes_text};
+ghost use Rattle.register_audit.specs.RegisterListings.{IsFirstUnknown, listed};
+ghost use Rattle.register_audit.specs.ListingTexts.{notes_text};
 ghost use Rattle.pmp_encoding.specs.declared.xlen.Xlen.{Xlen};
 ghost use Rattle.register_audit.specs.Listings.{IsRuled};
 
 use crate::rules::Rules;
 use pmp_encoding::Xlen;
-use register_text::{Listing, ListingNotes, extents_in, listing_of, notes_of};
+use crate::{Listing, ListingNotes, extents_in, listing_of, notes_of};
 use text_lines::Line;
 
 /// What a listing has.

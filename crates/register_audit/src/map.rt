@@ -6,10 +6,10 @@ ghost use Rattle.pmp_encoding.specs.Views.{View};
 ghost use Rattle.permission_map.specs.declared.runs.Run.{Run};
 ghost use Rattle.permission_map.specs.Runs.{AreRuns, view_of_runs};
 ghost use Rattle.pmp_match.specs.RegisterDecision.{IsWords};
-ghost use Rattle.register_text.specs.declared.listing.Listing.{Listing};
-ghost use Rattle.register_text.specs.Listings.{IsFirstUnknown, listed};
-ghost use Rattle.register_text.specs.SecurityBits.{unknown_bit};
-ghost use Rattle.register_text.specs.Texts.{notes_text};
+ghost use Rattle.register_audit.specs.declared.listing.Listing.{Listing};
+ghost use Rattle.register_audit.specs.RegisterListings.{IsFirstUnknown, listed};
+ghost use Rattle.register_audit.specs.SecurityBits.{unknown_bit};
+ghost use Rattle.register_audit.specs.ListingTexts.{notes_text};
 ghost use Rattle.register_audit.specs.declared.fault.ListingFault as ListingFault;
 ghost use Rattle.register_audit.specs.declared.fault.MapOfFault as MapOfFault;
 ghost use Rattle.register_audit.specs.declared.fault.NoMapReason as NoMapReason;
@@ -27,7 +27,7 @@ use byte_streams::{Sink, write_whole};
 use permission_map::Memory;
 use pmp_encoding::Xlen;
 use pmp_match::{Extent, Mode};
-use register_text::{Listing, ListingNotes, extents_in, listing_of, notes_of, text_of_line};
+use crate::{Listing, ListingNotes, extents_in, listing_of, notes_of, text_of_line};
 use std::alloc::Global;
 
 /// What is said of registers, and whether it is a map.

@@ -2,8 +2,8 @@
 
 ghost use Rattle.std.specs.Prelude.{◌≡◌, ◌-◌, ◌^◌, ◌<◌, ◌++◌, ℕ, Bool, Err, IfOk, List, length};
 ghost use Rattle.byte_streams.specs.Writings.{writing, Breaks, TakesAll};
-ghost use Rattle.register_text.specs.Listings.{IsFirstUnknown};
-ghost use Rattle.register_text.specs.Texts.{notes_text};
+ghost use Rattle.register_audit.specs.RegisterListings.{IsFirstUnknown};
+ghost use Rattle.register_audit.specs.ListingTexts.{notes_text};
 ghost use Rattle.register_audit.specs.declared.fault.ListingFault as ListingFault;
 ghost use Rattle.register_audit.specs.Tables.{IsRegisterTable, IsShown};
 
@@ -16,7 +16,7 @@ use map_table::extent_table;
 use permission_map::Memory;
 use pmp_encoding::Xlen;
 use pmp_match::Mode;
-use register_text::{Listing, extents_in, listing_of, push_notes, text_of_line};
+use crate::{Listing, extents_in, listing_of, push_notes, text_of_line};
 use std::alloc::Global;
 
 /// What is said of registers, and whether they mean something.

@@ -11,7 +11,7 @@ use crate::verdict::Verdict;
 use map_table::Stretch;
 use pmp_match::{Mode, Registers};
 use printed_lines::letters;
-use register_text::reserved_line;
+use crate::reserved_line;
 use text_lines::{Line, push_decimal, push_hex, push_text};
 
 fn entries_named(n: u64) -> &'static str

@@ -1,7 +1,7 @@
 //! Listings of registers, with values that no command shows: of entries that are off or locked, and of registers set twice.
 
 use pmp_encoding::Xlen;
-use register_text::listing_of;
+use register_audit::listing_of;
 use std::process::Abort;
 
 /// A listing of that width; its bytes and its addresses from some places on; and the first line that it passes over.

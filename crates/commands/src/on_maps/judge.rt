@@ -20,7 +20,7 @@ use pmp_encoding::{Limit, Xlen};
 use pmp_match::Segments;
 use program_tasks::Answers;
 use register_audit::{ListingRules, Ruled, rules_in};
-use register_text::ListingNotes;
+use register_audit::ListingNotes;
 use std::alloc::Global;
 use trace_answers::{Compared, Deciders, compare_judged, explain_judged};
 

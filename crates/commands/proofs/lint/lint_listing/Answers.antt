@@ -2,7 +2,7 @@ use Rattle.std.proofs.Common.{[], ◌∙◌, ap, refl, true, false}
 use Rattle.std.specs.Option.{is_some}
 use Rattle.std.proofs.lemmas.Result.{err_from_is_err_and}
 use Rattle.byte_streams.proofs.Writings.{takes_none}
-use Rattle.register_text.specs.Listings.{listed}
+use Rattle.register_audit.specs.RegisterListings.{listed}
 use Rattle.commands.specs.Lint as lints
 use Rattle.commands.proofs.lint.lint_listing.Goals as goal
 

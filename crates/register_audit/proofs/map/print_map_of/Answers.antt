@@ -1,7 +1,7 @@
 use Rattle.register_audit.proofs.Meant.{map_meant}
 use Rattle.register_audit.proofs.NoMap.{none_meant}
 use Rattle.std.proofs.Common.{◌∙◌, refl}
-use Rattle.register_text.specs.Texts.{notes_text}
+use Rattle.register_audit.specs.ListingTexts.{notes_text}
 use Rattle.register_audit.proofs.map.print_map_of.Goals as goal
 
 pub returns-clause-means : goal.returns-clause-means

@@ -1,0 +1,237 @@
+-- What a line of a listing sets.
+use Rattle.std.specs.Prelude.{ℕ, ◌+◌, ◌*◌, ◌%◌, ◌/◌, ◌-◌, ◌<◌, ◌≤◌, ⊤, Bool, false, not, ◌&&◌, ◌||◌}
+use Rattle.std.specs.Prelude.{◌==◌, nat_lt, nat_le, if◌then◌else◌, List, [], ◌∷◌, length, take}
+use Rattle.std.specs.Prelude.{drop, Option, Some, None, codes, bytes_eq}
+use Rattle.std.specs.List.{list_all, position_or_len}
+use Rattle.std.specs.Option.{option_and_then}
+use Rattle.std.specs.Str.{str_eq_ignore_ascii_case}
+use Rattle.pmp_encoding.specs.declared.xlen.Xlen.{Xlen}
+use Rattle.pmp_encoding.specs.declared.xlen.Xlen.TheVariants.{Rv32, Rv64}
+use Rattle.pmp_encoding.specs.Widths.{fits, word_entries, xlen_bits}
+use Rattle.text_lines.specs.Bytes.{after_name, begins_with}
+use Rattle.text_lines.specs.Words.{words_of}
+use Rattle.text_lines.specs.Numbers.{numeral_of, number_of}
+use Rattle.text_lines.specs.Lines.{without_return}
+use Rattle.register_audit.specs.declared.entry.RegionEntry.{RegionEntry}
+use Rattle.register_audit.specs.LogLines.{log_says}
+use Rattle.register_audit.specs.Names.{is_about_pmp, names_hart, unpadded, value_of}
+use Rattle.register_audit.specs.declared.setting.Setting.{Setting}
+use Rattle.register_audit.specs.declared.setting.Setting.TheVariants as settings
+
+-- the places of a setting are those of 64 entries
+abbrev pub IsInside : Xlen → Setting → Type 0
+IsInside xlen settings.Nothing = ⊤
+IsInside xlen (settings.Count entries) = ⊤
+IsInside xlen settings.Other = ⊤
+IsInside xlen (settings.Security value) = ⊤
+IsInside xlen (settings.Pair place cfg address) = place < 64
+IsInside xlen (settings.Address place value) = place < 64
+IsInside xlen (settings.Word place value) = place + word_entries xlen ≤ 64
+
+-- decimal digits with no leading zero
+abbrev pub has_leading_zero : List ℕ → Bool
+has_leading_zero (first ∷ second ∷ digits) = first == 48
+has_leading_zero _ = false
+
+abbrev pub index_of : List ℕ → Option ℕ
+index_of digits = if has_leading_zero digits then None else numeral_of 10 digits
+
+-- `pmpaddrN`, N from 0 to 63
+abbrev pub address_at : ℕ → ℕ → Option Setting
+address_at value place = if nat_lt place 64 then Some (settings.Address place value) else None
+
+abbrev pub address_setting : List ℕ → ℕ → Option Setting
+address_setting digits value = option_and_then (address_at value) (index_of digits)
+
+-- `pmpcfgK`, K from 0 to 15 and on RV64 even, since there is a number for each 32 bits: the bytes
+-- of the entries from 4 * K on
+abbrev pub word_at : Xlen → ℕ → ℕ → Option Setting
+word_at xlen value k = if nat_lt k 16 && k % (xlen_bits xlen / 32) == 0
+    then Some (settings.Word (4 * k) value) else None
+
+abbrev pub word_setting : Xlen → List ℕ → ℕ → Option Setting
+word_setting xlen digits value = option_and_then (word_at xlen value) (index_of digits)
+
+abbrev pub is_letter : ℕ → Bool
+is_letter b = nat_le 65 b && nat_le b 90 || nat_le 97 b && nat_le b 122
+
+abbrev pub begins_with_letter : List ℕ → Bool
+begins_with_letter [] = false
+begins_with_letter (first ∷ rest) = is_letter first
+
+-- a register that is none of the protection: gdb's `pc` and `priv`, or one whose name does not
+-- begin with p, so that a misspelt one of the protection is not passed over
+abbrev pub is_foreign : List ℕ → Bool
+is_foreign name =
+    str_eq_ignore_ascii_case name (codes "pc") || str_eq_ignore_ascii_case name (codes "priv")
+    || (begins_with_letter name && not (begins_with name (codes "p")))
+
+-- a register that leaves those of the protection their meaning: none of them, or `mseccfgh` where
+-- it is zero
+abbrev pub is_harmless : List ℕ → ℕ → Bool
+is_harmless name value = not (is_about_pmp name)
+    || (value == 0 && str_eq_ignore_ascii_case name (codes "mseccfgh"))
+
+-- another register, which is passed over
+abbrev pub is_other : List ℕ → ℕ → Bool
+is_other name value = is_foreign name && (not (names_hart name) && is_harmless name value)
+
+-- mseccfg, whose bits change what the entries mean, or a register that is passed over
+abbrev pub other_setting : List ℕ → ℕ → Option Setting
+other_setting name value =
+    if str_eq_ignore_ascii_case name (codes "mseccfg") then Some (settings.Security value)
+    else if is_other name value then Some settings.Other else None
+
+-- a name of a register and its value
+abbrev pub by_digits : Xlen → List ℕ → ℕ → Option (List ℕ) → Option (List ℕ) → Option Setting
+by_digits xlen name value (Some digits) cfg = address_setting digits value
+by_digits xlen name value None (Some digits) = word_setting xlen digits value
+by_digits xlen name value None None = other_setting name value
+
+-- a name without the colon that may follow it
+abbrev pub without_colon : List ℕ → List ℕ
+without_colon name = if bytes_eq (drop (length name - 1) name) (codes ":")
+    then take (length name - 1) name else name
+
+-- a register holds the value
+abbrev pub plain_setting : Xlen → List ℕ → ℕ → Option Setting
+plain_setting xlen name value = if fits xlen value
+    then by_digits xlen name value (after_name name (codes "pmpaddr"))
+    (after_name name (codes "pmpcfg"))
+    else None
+
+abbrev pub register_setting : Xlen → List ℕ → ℕ → Option Setting
+register_setting xlen name value = plain_setting xlen (without_colon name) value
+
+-- `NAME=VALUE`
+abbrev pub equals_at : List ℕ → ℕ
+equals_at word = position_or_len (λ b. b == 61) word
+
+abbrev pub set_by_one : Xlen → List ℕ → Option Setting
+set_by_one xlen word =
+    if nat_lt (equals_at word) (length word)
+    then option_and_then (plain_setting xlen (take (equals_at word) word))
+    (value_of (take (equals_at word) word) (drop (equals_at word + 1) word)) else None
+
+-- a register, or a count of entries
+abbrev pub named_setting : Xlen → List ℕ → ℕ → Option Setting
+named_setting xlen name value = if bytes_eq name (codes "entries") then Some (settings.Count value)
+    else register_setting xlen name value
+
+-- the number of an entry, below 64, its configuration byte and its address
+abbrev pub pair_setting : Xlen → ℕ → ℕ → ℕ → Option Setting
+pair_setting xlen place cfg address = if nat_lt place 64 && (nat_lt cfg 256 && fits xlen address)
+    then Some (settings.Pair place cfg address) else None
+
+abbrev pub pair_by_words : Xlen → ℕ → List ℕ → List ℕ → Option Setting
+pair_by_words xlen place cfg address =
+    option_and_then (λ c. option_and_then (pair_setting xlen place c) (unpadded address))
+    (unpadded cfg)
+
+-- the width of a register in bits, as OpenOCD writes it
+abbrev pub width_sign : Xlen → List ℕ
+width_sign Rv32 = codes "(/32):"
+width_sign Rv64 = codes "(/64):"
+
+-- between a name and its value: a sign, or the width of the register
+abbrev pub is_between : Xlen → List ℕ → Bool
+is_between xlen word = bytes_eq word (codes ":") || bytes_eq word (codes "=")
+    || bytes_eq word (width_sign xlen)
+
+-- the value's word: the second, or the third where the second comes between a name and its value
+abbrev pub value_word : Xlen → List ℕ → List ℕ → List ℕ
+value_word xlen second third = if is_between xlen second then third else second
+
+-- a word that could be about the protection can be the name of another of its registers
+abbrev pub is_no_name : List ℕ → Bool
+is_no_name word = not (is_about_pmp word)
+
+-- a register and the word of its value
+abbrev pub register_by_word : Xlen → List ℕ → List ℕ → Option Setting
+register_by_word xlen name word = option_and_then (register_setting xlen name) (value_of name word)
+
+-- the pair of an entry, where a number comes first; otherwise a register and its value, and after
+-- the value no other name
+abbrev pub set_by_three : Xlen → Option ℕ → List ℕ → List ℕ → List ℕ → Option Setting
+set_by_three xlen (Some place) first second third = pair_by_words xlen place second third
+set_by_three xlen None first second third = if is_no_name third
+    then register_by_word xlen first (value_word xlen second third) else None
+
+-- another register with its fields after its value, as gdb prints mstatus; no word after the value
+-- is such a name
+abbrev pub set_by_many : List ℕ → List ℕ → List (List ℕ) → Option Setting
+set_by_many first second rest = if list_all is_no_name rest
+    then option_and_then (other_setting (without_colon first)) (number_of second) else None
+
+-- what OpenOCD writes behind a value that was changed and not yet written
+abbrev pub is_dirty : List (List ℕ) → Bool
+is_dirty (word ∷ []) = bytes_eq word (codes "(dirty)")
+is_dirty words = false
+
+-- what words set
+abbrev pub set_by_words : Xlen → List (List ℕ) → Option Setting
+set_by_words xlen [] = Some settings.Nothing
+set_by_words xlen (word ∷ []) = set_by_one xlen word
+set_by_words xlen (name ∷ value ∷ []) = option_and_then (named_setting xlen name)
+    (value_of name value)
+set_by_words xlen (first ∷ second ∷ third ∷ []) =
+    set_by_three xlen (number_of first) first second third
+set_by_words xlen (first ∷ second ∷ third ∷ rest) =
+    if is_dirty rest then set_by_three xlen (number_of first) first second third
+    else set_by_many first second (third ∷ rest)
+
+-- a byte of `N)`: a decimal digit, or the parenthesis
+abbrev pub is_index_byte : ℕ → Bool
+is_index_byte b = (nat_le 48 b && nat_le b 57) || b == 41
+
+-- `(N)`, the number under which OpenOCD lists a register
+abbrev pub is_index : List ℕ → Bool
+is_index (first ∷ rest) = first == 40 && list_all is_index_byte rest
+is_index [] = false
+
+-- words without such a number before them
+abbrev pub without_index : List (List ℕ) → List (List ℕ)
+without_index (first ∷ rest) = if is_index first then rest else first ∷ rest
+without_index [] = []
+
+-- in the place of a value: what gdb writes of a register that it does not have and of one that is
+-- no number, and what OpenOCD writes of one that it has not read
+abbrev pub has_no_number : List ℕ → Bool
+has_no_number word = bytes_eq word (codes "<unavailable>") || begins_with word (codes "{")
+    || begins_with word (codes "(/")
+
+-- a heading of OpenOCD, or the name of another register
+abbrev pub is_other_name : List ℕ → Bool
+is_other_name word = bytes_eq word (codes "=====")
+    || (is_foreign (without_colon word) && not (names_hart (without_colon word)))
+
+-- words that are passed over without a number: those of another register, or of a heading, none of
+-- which could be about the protection
+abbrev pub are_passed : List (List ℕ) → Bool
+are_passed (first ∷ second ∷ rest) = list_all is_no_name (first ∷ second ∷ rest)
+    && (is_other_name first && (has_no_number second || bytes_eq first (codes "=====")))
+are_passed _ = false
+
+-- what words set, or that they are passed over
+abbrev pub set_or_passed : Xlen → List (List ℕ) → Option Setting
+set_or_passed xlen words = if are_passed words then Some settings.Other
+    else set_by_words xlen words
+
+-- what a line sets, where it is understood, by the width of the hart's registers
+abbrev pub line_sets : Xlen → List ℕ → Option Setting
+line_sets xlen line = option_and_then (λ words. set_or_passed xlen (without_index words))
+    (words_of line)
+
+-- what a line of at most 1023 bytes sets, its CR counted
+abbrev pub raw_sets : Xlen → List ℕ → Option Setting
+raw_sets xlen raw = if nat_le (length raw) 1023 then line_sets xlen (without_return raw) else None
+
+-- what a line of a boot log sets: the pair of a region, which has the next number, or nothing
+abbrev pub region_setting : ℕ → Option RegionEntry → Option Setting
+region_setting next None = Some settings.Nothing
+region_setting next (Some entry) = if entry.place == next
+    then Some (settings.Pair entry.place entry.cfg entry.address) else None
+
+-- what it sets, where it is understood, after so many regions
+abbrev pub log_sets : Xlen → ℕ → List ℕ → Option Setting
+log_sets xlen next raw = option_and_then (region_setting next) (log_says xlen raw)

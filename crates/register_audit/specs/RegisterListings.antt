@@ -1,0 +1,175 @@
+-- What a listing leaves.
+use Rattle.std.specs.Prelude.{◌≡◌, if◌then◌else◌, ℕ, zero, suc, ◌+◌, ◌/◌, ◌%◌, List, [], ◌∷◌, ◌++◌}
+use Rattle.std.specs.Prelude.{length, replicate, slice_set, Option, Some, None, Bool, true, false}
+use Rattle.std.specs.Prelude.{◌==◌, ◌&&◌, ◌||◌}
+use Rattle.std.specs.Option.{option_and_then}
+use Rattle.pmp_encoding.specs.declared.xlen.Xlen.{Xlen}
+use Rattle.pmp_encoding.specs.Widths.{word_entries}
+use Rattle.pmp_match.specs.declared.registers.Registers.{Registers}
+use Rattle.pmp_match.specs.Smepmp.{security_of}
+use Rattle.register_audit.specs.declared.listing.Listing.{Listing}
+use Rattle.register_audit.specs.declared.setting.Setting.{Setting}
+use Rattle.register_audit.specs.declared.setting.Setting.TheVariants as settings
+use Rattle.text_lines.specs.Lines.{raw_lines}
+use Rattle.register_audit.specs.LogLines.{is_boot_log}
+use Rattle.register_audit.specs.Lines.{log_sets, raw_sets}
+
+-- registers of that width that are all zero, and no line that is passed over
+abbrev pub nothing_set : Xlen → Listing
+nothing_set xlen = record {
+  registers =
+      record {
+        xlen = xlen;
+        security = security_of 0;
+        cfgs = replicate 64 0;
+        addresses = replicate 64 0;
+      };
+  mseccfg = 0;
+  passed = None;
+  entries = None;
+  pairs = 0;
+  is_set = false;
+}
+
+-- the bytes of a number put in place, so many of them, the lowest first
+abbrev pub set_bytes : ℕ → ℕ → ℕ → List ℕ → List ℕ
+set_bytes place zero value bytes = bytes
+set_bytes place (suc count) value bytes =
+    set_bytes (place + 1) count (value / 256) (slice_set bytes place (value % 256))
+
+-- the registers of the protection after a setting: a configuration word has a byte of as many
+-- entries as its width says, and of mseccfg the bits are kept that change what entries give
+abbrev pub registers_by : Registers → Setting → Registers
+registers_by registers (settings.Pair place cfg address) =
+    record {
+      xlen = registers.xlen;
+      security = registers.security;
+      cfgs = slice_set registers.cfgs place cfg;
+      addresses = slice_set registers.addresses place address;
+    }
+registers_by registers (settings.Address place value) =
+    record {
+      xlen = registers.xlen;
+      security = registers.security;
+      cfgs = registers.cfgs;
+      addresses = slice_set registers.addresses place value;
+    }
+registers_by registers (settings.Word place value) =
+    record {
+      xlen = registers.xlen;
+      security = registers.security;
+      cfgs =
+          set_bytes place (word_entries registers.xlen) value registers.cfgs;
+      addresses = registers.addresses;
+    }
+registers_by registers (settings.Security value) =
+    record {
+      xlen = registers.xlen;
+      security = security_of value;
+      cfgs = registers.cfgs;
+      addresses = registers.addresses;
+    }
+registers_by registers setting = registers
+
+-- the first line that is passed over, where line n is one
+abbrev pub first_of : Option ℕ → ℕ → Option ℕ
+first_of (Some first) n = Some first
+first_of None n = Some n
+
+-- `mseccfg` after a setting
+abbrev pub security_by : ℕ → Setting → ℕ
+security_by mseccfg (settings.Security value) = value
+security_by mseccfg setting = mseccfg
+
+-- the first line that is passed over after that of line n
+abbrev pub passed_by : Option ℕ → ℕ → Setting → Option ℕ
+passed_by passed n settings.Other = first_of passed n
+passed_by passed n setting = passed
+
+-- how many entries should be listed
+abbrev pub count_by : Option ℕ → Setting → Option ℕ
+count_by entries (settings.Count n) = Some n
+count_by entries setting = entries
+
+-- how many lines set the pair of an entry
+abbrev pub pairs_by : ℕ → Setting → ℕ
+pairs_by pairs (settings.Pair place cfg address) = pairs + 1
+pairs_by pairs setting = pairs
+
+-- a setting is about the protection
+abbrev pub is_of_pmp : Setting → Bool
+is_of_pmp settings.Nothing = false
+is_of_pmp settings.Other = false
+is_of_pmp setting = true
+
+-- what the listing says after the setting of line n
+abbrev pub set_by : Listing → ℕ → Setting → Listing
+set_by listing n setting = record {
+  registers = registers_by listing.registers setting;
+  mseccfg = security_by listing.mseccfg setting;
+  passed = passed_by listing.passed n setting;
+  entries = count_by listing.entries setting;
+  pairs = pairs_by listing.pairs setting;
+  is_set = listing.is_set || is_of_pmp setting;
+}
+
+-- what it says after lines from number n on, each of which is understood after those before it
+abbrev pub set_by_lines : (Listing → List ℕ → Option Setting) → Listing → ℕ → List (List ℕ)
+    → Option Listing
+set_by_lines sets listing n [] = Some listing
+set_by_lines sets listing n (raw ∷ raws) =
+    option_and_then (λ setting. set_by_lines sets (set_by listing n setting) (n + 1) raws)
+    (sets listing raw)
+
+-- what the lines of a text leave, where all are understood
+abbrev pub listed_by : Xlen → (Listing → List ℕ → Option Setting) → List ℕ → Option Listing
+listed_by xlen sets bytes = set_by_lines sets (nothing_set xlen) 1 (raw_lines bytes)
+
+-- line n of a text is not understood, and those before it are
+pub record IsFirstUnknownBy (xlen : Xlen) (sets : Listing → List ℕ
+    → Option Setting) (bytes : List ℕ) (n : ℕ) : Type 0 where
+  pub before : List (List ℕ)
+  pub raw : List ℕ
+  pub rest : List (List ℕ)
+  pub are_lines : raw_lines bytes ≡ before ++ raw ∷ rest
+  pub number : length before + 1 ≡ n
+  pub listing : Listing
+  pub understood : set_by_lines sets (nothing_set xlen) 1 before ≡ Some listing
+  pub unknown : sets listing raw ≡ None
+
+-- what a line of registers sets, whatever comes before it
+abbrev pub sets_alone : Xlen → Listing → List ℕ → Option Setting
+sets_alone xlen listing = raw_sets xlen
+
+-- what a line of a boot log sets: a region the entry of its number, which is the next one
+abbrev pub sets_next : Xlen → Listing → List ℕ → Option Setting
+sets_next xlen listing = log_sets xlen listing.pairs
+
+-- what a line sets: by the regions of a boot log, or as a line of registers
+abbrev pub sets_in : Xlen → List ℕ → Listing → List ℕ → Option Setting
+sets_in xlen bytes = if is_boot_log bytes then sets_next xlen else sets_alone xlen
+
+-- as many pairs are listed as a count says
+abbrev pub has_all : Option ℕ → ℕ → Bool
+has_all None pairs = true
+has_all (Some n) pairs = pairs == n
+
+-- a listing is whole: some line is about the protection, and each entry is there that is counted
+abbrev pub is_whole : Listing → Bool
+is_whole listing = listing.is_set && has_all listing.entries listing.pairs
+
+-- such a listing, and otherwise none
+abbrev pub whole : Listing → Option Listing
+whole listing = if is_whole listing then Some listing else None
+
+-- what the lines of a listing of registers of that width leave, where all are understood and it is
+-- whole
+abbrev pub listed : Xlen → List ℕ → Option Listing
+listed xlen bytes = option_and_then whole (listed_by xlen (sets_in xlen bytes) bytes)
+
+-- line n of such a listing is not understood, and those before it are; or all are, and it ends
+-- before line n, where it should not
+pub data IsFirstUnknown (xlen : Xlen) (bytes : List ℕ) (n : ℕ) : Type 0 where
+  line : IsFirstUnknownBy xlen (sets_in xlen bytes) bytes n → IsFirstUnknown xlen bytes n
+  end : (leaves : Listing) → listed_by xlen (sets_in xlen bytes) bytes ≡ Some leaves
+      → is_whole leaves ≡ false → length (raw_lines bytes) + 1 ≡ n → IsFirstUnknown xlen bytes n

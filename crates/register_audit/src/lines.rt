@@ -1,0 +1,330 @@
+//! What the lines of a boot log say.
+
+ghost use Rattle.std.specs.Prelude.{◌≡◌, ◌<◌, IfOk, IfSome, option_map, not, codes};
+ghost use Rattle.std.specs.List.{list_all};
+ghost use Rattle.std.specs.Option.{is_some, option_and_then};
+ghost use Rattle.std.specs.Result.{result_ok};
+ghost use Rattle.text_lines.specs.Bytes.{after_text};
+ghost use Rattle.text_lines.specs.Numbers.{numeral_of};
+ghost use Rattle.text_lines.specs.Words.{split_words};
+ghost use Rattle.register_audit.specs.Letters.{perm_of};
+ghost use Rattle.register_audit.specs.LogLines.{block_in, entry_by, entry_in, is_another_hart, is_boot_log, is_damaged, is_elsewhere, is_later, is_of_hart, is_of_time, is_other_region, is_other_width, is_region, is_region_line, is_register, is_time, lacks_entries, letters_in, log_says, number_in, resembles_region, said_by, without_times, words_in};
+
+use crate::block::block_from;
+use crate::entry::RegionEntry;
+use crate::letters::perm_of;
+use crate::names::mentions;
+use lint_texts::{len_before, split_line};
+use pmp_encoding::{Entry, Perm, Region, Xlen};
+use text_lines::{
+    NotUnderstood, Words, after_text, begins_with, is_text, number, numeral, without_return,
+};
+
+/// The words of a line, and none where a byte outside its comment is not allowed there.
+fn words_in(raw: &[u8]) -> Words<'_>
+    ensures { split_words result.rest.now ≡ words_in raw.now }
+{
+    match Words::of(without_return(raw)) {
+        Ok(words) => without_times(words),
+        Err(_) => Words { rest: &[] },
+    }
+}
+
+/// Whether a byte can be one of a time.
+fn is_of_time(b: u8) -> bool
+    ensures { result ≡ is_of_time b }
+{
+    ((b >= 40 && b <= 58) && b != 42) || (b == 91 || b == 93)
+}
+
+/// Whether a word is one of a time.
+fn is_time(word: &[u8]) -> bool
+    ensures { result ≡ is_time word.now }
+{
+    word.iter().all(|b| is_of_time(*b))
+}
+
+/// Words without those of a time before them.
+fn without_times(words: Words<'_>) -> Words<'_>
+    ensures { split_words result.rest.now ≡ without_times (split_words words.entry.rest.now) }
+{
+    let mut left = words;
+    let mut rest = words;
+    while let Some(word) = rest.next_word() {
+        if !is_time(word) {
+            return left;
+        }
+        left = rest;
+    }
+    left
+}
+
+/// Whether words are on a region of the first domain.
+fn is_region(mut words: Words<'_>) -> bool
+    ensures { result ≡ is_region (split_words words.entry.rest.now) }
+{
+    let Some(domain) = words.next_word() else {
+        return false;
+    };
+    let Some(region) = words.next_word() else {
+        return false;
+    };
+    is_text(domain, b"Domain0") && after_text(region, b"Region").is_some()
+}
+
+/// Whether words are on a register of the protection.
+fn is_register(mut words: Words<'_>) -> bool
+    ensures { result ≡ is_register (split_words words.entry.rest.now) }
+{
+    match words.next_word() {
+        Some(name) => begins_with(name, b"pmp") || begins_with(name, b"mseccfg"),
+        None => false,
+    }
+}
+
+/// Whether a word names a domain that is not the first.
+fn is_later_domain(word: &[u8]) -> bool
+    ensures { result ≡ is_later (option_and_then (numeral_of 10)
+        (after_text word.now (codes "Domain"))) }
+{
+    let Some(digits) = after_text(word, b"Domain") else {
+        return false;
+    };
+    match numeral(digits, 10) {
+        Some(n) => n != 0,
+        None => false,
+    }
+}
+
+/// Whether words are on a region of another domain.
+fn is_other_region(mut words: Words<'_>) -> bool
+    ensures { result ≡ is_other_region (split_words words.entry.rest.now) }
+{
+    let Some(domain) = words.next_word() else {
+        return false;
+    };
+    let Some(region) = words.next_word() else {
+        return false;
+    };
+    is_later_domain(domain) && after_text(region, b"Region").is_some()
+}
+
+/// Whether a line could be on a region: two of what a region's line has are in it.
+fn resembles_region(raw: &[u8]) -> bool
+    ensures { result ≡ resembles_region raw.now }
+{
+    let is_of_domain = mentions(raw, b"Domain");
+    let is_of_region = mentions(raw, b"Region");
+    (is_of_domain && is_of_region) || ((is_of_domain || is_of_region) && mentions(raw, b"-0x"))
+}
+
+/// Whether a line could be on a region and is on none: it was damaged on its way.
+fn is_damaged(raw: &[u8]) -> bool
+    ensures { result ≡ is_damaged raw.now }
+{
+    resembles_region(raw) && !(is_region(words_in(raw)) || is_other_region(words_in(raw)))
+}
+
+/// Whether words say that the hart has no entries.
+fn lacks_entries(mut words: Words<'_>) -> bool
+    ensures { result ≡ lacks_entries (split_words words.entry.rest.now) }
+{
+    let (Some(_), Some(_)) = (words.next_word(), words.next_word()) else {
+        return false;
+    };
+    let (Some(pmp), Some(count)) = (words.next_word(), words.next_word()) else {
+        return false;
+    };
+    let (Some(_), Some(number)) = (words.next_word(), words.next_word()) else {
+        return false;
+    };
+    (is_text(pmp, b"PMP") && is_text(count, b"Count")) && is_text(number, b"0")
+}
+
+/// Whether words are about the hart that boots.
+fn is_of_hart(mut words: Words<'_>) -> bool
+    ensures { result ≡ is_of_hart (split_words words.entry.rest.now) }
+{
+    let Some(boot) = words.next_word() else {
+        return false;
+    };
+    let Some(hart) = words.next_word() else {
+        return false;
+    };
+    is_text(boot, b"Boot") && is_text(hart, b"HART")
+}
+
+/// Whether words say its domain, which is not the first.
+fn is_elsewhere(mut words: Words<'_>) -> bool
+    ensures { result ≡ is_elsewhere (split_words words.entry.rest.now) }
+{
+    let (Some(_), Some(_)) = (words.next_word(), words.next_word()) else {
+        return false;
+    };
+    let (Some(domain), Some(_)) = (words.next_word(), words.next_word()) else {
+        return false;
+    };
+    let Some(name) = words.next_word() else {
+        return false;
+    };
+    is_text(domain, b"Domain") && !is_text(name, b"root")
+}
+
+/// Whether a word names the instruction set of the other width.
+fn is_other_width(xlen: Xlen, word: &[u8]) -> bool
+    ensures { result ≡ is_other_width xlen word.now }
+{
+    match xlen {
+        Xlen::Rv32 => begins_with(word, b"rv64"),
+        Xlen::Rv64 => begins_with(word, b"rv32"),
+    }
+}
+
+/// Whether none of the words does.
+fn are_of_width(xlen: Xlen, words: Words<'_>) -> bool
+    ensures { result ≡ list_all (λ word. not (is_other_width xlen word))
+        (split_words words.entry.rest.now) }
+{
+    let mut left = words;
+    while let Some(word) = left.next_word() {
+        if is_other_width(xlen, word) {
+            return false;
+        }
+    }
+    true
+}
+
+/// Whether words say that the hart that boots is none that these registers are of.
+fn is_another_hart(xlen: Xlen, words: Words<'_>) -> bool
+    ensures { result ≡ is_another_hart xlen (split_words words.entry.rest.now) }
+{
+    is_of_hart(words) && (is_elsewhere(words) || !are_of_width(xlen, words))
+}
+
+/// The number of a region.
+fn number_in(region: &[u8]) -> Option<u64>
+    ensures { result ≡ number_in region.now }
+{
+    let digits = after_text(region, b"Region")?;
+    numeral(digits, 10)
+}
+
+/// The block from the first to the last address of a region.
+fn block_in(xlen: Xlen, word: &[u8]) -> Option<Region>
+    ensures { option_map (λ r. (r.base, r.log2)) result ≡ block_in xlen word.now }
+{
+    let dash = len_before(b'-', word);
+    if dash >= word.len() {
+        return None;
+    }
+    let first = number(&word[..dash])?;
+    let last = number(&word[dash + 1..])?;
+    block_from(xlen, first, last)
+}
+
+/// The letters of supervisor and user mode.
+fn letters_in(mut words: Words<'_>) -> Option<&[u8]>
+    ensures { option_map (λ letters. letters.now) result
+        ≡ letters_in (split_words words.entry.rest.now) }
+{
+    let first = words.next_word()?;
+    let Some(_) = words.next_word() else {
+        return Some(first);
+    };
+    let user = words.next_word()?;
+    let letters = words.next_word()?;
+    if let Some(_) = words.next_word() {
+        return None;
+    }
+    if is_text(first, b"M:") && is_text(user, b"S/U:") {
+        Some(letters)
+    } else {
+        None
+    }
+}
+
+/// The permission of supervisor and user mode.
+fn perm_in(words: Words<'_>) -> Option<Perm>
+    ensures { result ≡ option_and_then perm_of (letters_in (split_words words.entry.rest.now)) }
+{
+    let letters = letters_in(words)?;
+    perm_of(letters)
+}
+
+/// The entry of a region by its parts.
+fn entry_by(number: Option<u64>, region: Option<Region>, perm: Option<Perm>) -> Option<RegionEntry>
+    ensures value { result ≡ entry_by number (option_map (λ r. (r.base, r.log2)) region) perm }
+    ensures inside { IfSome result (λ entry. entry.place < 64) }
+{
+    let place = number?;
+    let region = region?;
+    let perm = perm?;
+    if place >= 64 {
+        return None;
+    }
+    let (cfg, address) = Entry { region, perm }.encode();
+    Some(RegionEntry {
+        place: place as usize,
+        cfg,
+        address,
+    })
+}
+
+/// What words on a region set.
+fn entry_in(xlen: Xlen, mut words: Words<'_>) -> Option<RegionEntry>
+    ensures value { result ≡ entry_in xlen (split_words words.entry.rest.now) }
+    ensures inside { IfSome result (λ entry. entry.place < 64) }
+{
+    let _ = words.next_word()?;
+    let region = words.next_word()?;
+    let colon = words.next_word()?;
+    let block = words.next_word()?;
+    if !is_text(colon, b":") {
+        return None;
+    }
+    entry_by(number_in(region), block_in(xlen, block), perm_in(words))
+}
+
+/// What words say.
+fn said_by(xlen: Xlen, words: Words<'_>) -> Result<Option<RegionEntry>, NotUnderstood>
+    ensures value { result_ok result ≡ said_by xlen (split_words words.entry.rest.now) }
+    ensures inside { IfOk result (λ said. IfSome said (λ entry. entry.place < 64)) }
+{
+    if is_region(words) {
+        return match entry_in(xlen, words) {
+            Some(entry) => Ok(Some(entry)),
+            None => Err(NotUnderstood),
+        };
+    }
+    if is_register(words) || (lacks_entries(words) || is_another_hart(xlen, words)) {
+        Err(NotUnderstood)
+    } else {
+        Ok(None)
+    }
+}
+
+/// What a line of the boot log of a hart of that width says: the entry of a region, or nothing.
+pub fn log_says(xlen: Xlen, raw: &[u8]) -> Result<Option<RegionEntry>, NotUnderstood>
+    ensures value { result_ok result ≡ log_says xlen raw.now }
+    ensures inside { IfOk result (λ said. IfSome said (λ entry. entry.place < 64)) }
+{
+    if is_damaged(raw) {
+        return Err(NotUnderstood);
+    }
+    said_by(xlen, words_in(raw))
+}
+
+/// Whether a text is a boot log: whether some line of it is on a region.
+pub fn is_boot_log(bytes: &[u8]) -> bool
+    ensures { result ≡ is_boot_log bytes.now }
+{
+    let mut rest = bytes;
+    while !rest.is_empty() {
+        let (raw, behind) = split_line(rest);
+        if is_region(words_in(raw)) {
+            return true;
+        }
+        rest = behind;
+    }
+    false
+}

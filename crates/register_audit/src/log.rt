@@ -1,0 +1,61 @@
+//! OpenSBI's boot log as a listing, line by line.
+
+ghost use Rattle.std.specs.Prelude.{◌≡◌, ◌-◌, ◌^◌, ◌<◌, ◌≤◌, IfErr, IfOk, Some, length};
+ghost use Rattle.std.specs.Result.{result_ok};
+ghost use Rattle.register_audit.specs.Lines.{IsInside, log_sets, region_setting};
+ghost use Rattle.register_audit.specs.RegisterListings.{IsFirstUnknownBy, listed_by, sets_next};
+ghost use Rattle.text_lines.specs.Lines.{raw_lines};
+
+use crate::listing::Left;
+use crate::log_says;
+use crate::setting::{Setting, nothing_set};
+use lint_texts::split_line;
+use pmp_encoding::Xlen;
+use text_lines::NotUnderstood;
+
+/// What a line of a boot log sets after so many regions, where it is understood.
+fn log_sets(xlen: Xlen, next: u64, raw: &[u8]) -> Result<Setting, NotUnderstood>
+    ensures value { result_ok result ≡ log_sets xlen next raw.now }
+    ensures inside { IfOk result (IsInside xlen) }
+{
+    match log_says(xlen, raw)? {
+        Some(entry) => {
+            if entry.place as u64 != next {
+                return Err(NotUnderstood);
+            }
+            Ok(Setting::Pair {
+                place: entry.place,
+                cfg: entry.cfg,
+                address: entry.address,
+            })
+        }
+        None => Ok(Setting::Nothing),
+    }
+}
+
+/// What the lines of a boot log leave.
+pub(crate) fn log_listing(xlen: Xlen, bytes: &[u8]) -> Result<Left, u64>
+    requires { length bytes.now < 2 ^ 64 - 1 }
+    ensures listing { IfOk result (λ left.
+        listed_by xlen (sets_next xlen) bytes.now ≡ Some left.listing) }
+    ensures lines { IfOk result (λ left. left.lines ≡ length (raw_lines bytes.now)) }
+    ensures few { IfOk result (λ left. left.lines ≤ length bytes.now) }
+    ensures unknown { IfErr result (IsFirstUnknownBy xlen (sets_next xlen) bytes.now) }
+{
+    let mut listing = nothing_set(xlen);
+    let mut rest = bytes;
+    let mut number: u64 = 0;
+    while !rest.is_empty() {
+        let (raw, behind) = split_line(rest);
+        number += 1;
+        let Ok(setting) = log_sets(xlen, listing.pairs, raw) else {
+            return Err(number);
+        };
+        listing = setting.of(&listing, number);
+        rest = behind;
+    }
+    Ok(Left {
+        listing,
+        lines: number,
+    })
+}

@@ -1,3 +1,0 @@
-pub mod Followed
-pub mod LowestBits
-pub mod Exponents

@@ -1,5 +1,0 @@
-use Rattle.std.proofs.Common.{length}
-use Rattle.register_text.proofs.letters.+are_letters.Given as goal
-
-abbrev pub decreases-are_letters : goal.decreases-are_letters
-decreases-are_letters l = length l.text.now
