@@ -61,17 +61,13 @@ extents_given mode view registers true (verdicts.Differs stretch) is e = (is.1.0
 extents_given mode view registers true (verdicts.Cuts entry at) is e = absurd cc
 extents_given mode view registers true (verdicts.NoMeaning found) is e = absurd cc
 
--- what an answer says of the registers
-pub answer_yes : (mode : Mode) (view : View) (fewest : ℕ) (all : Bool) (listing : Listing) (text : List ℕ) (means : Bool)
-    → IsAnswer mode view fewest all listing text means → means ≡ true
+-- an answer about the registers
+pub answer_yes : (mode : Mode) (view : View) (listing : Listing) (means : Bool) → IsAnswer mode view listing means → means ≡ true
     → (unknown_bit listing.mseccfg ≡ None) × MeanFor mode listing.registers view
-answer_yes mode view fewest all listing _ means (judged none verdict is text said) told =
-    (none, verdict_yes mode view listing.registers verdict is (sym told))
-answer_yes mode view fewest all listing text means (unmodelled bit is) told = absurd cc
+answer_yes mode view listing means (judged none verdict is) told = (none, verdict_yes mode view listing.registers verdict is (sym told))
+answer_yes mode view listing means (unmodelled bit is) told = absurd cc
 
-pub answer_no : (mode : Mode) (view : View) (fewest : ℕ) (all : Bool) (listing : Listing) (text : List ℕ) (means : Bool)
-    → IsAnswer mode view fewest all listing text means → means ≡ false
+pub answer_no : (mode : Mode) (view : View) (listing : Listing) (means : Bool) → IsAnswer mode view listing means → means ≡ false
     → (unknown_bit listing.mseccfg ≢ None) ⊎ (¬ MeanFor mode listing.registers view)
-answer_no mode view fewest all listing _ means (judged none verdict is text said) told =
-    inr (verdict_no mode view listing.registers verdict is (sym told))
-answer_no mode view fewest all listing text means (unmodelled bit is) told = inl (λ none. one_or_none (unknown_bit listing.mseccfg) bit is none)
+answer_no mode view listing means (judged none verdict is) told = inr (verdict_no mode view listing.registers verdict is (sym told))
+answer_no mode view listing means (unmodelled bit is) told = inl (λ none. one_or_none (unknown_bit listing.mseccfg) bit is none)

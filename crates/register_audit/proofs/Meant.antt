@@ -30,8 +30,8 @@ extents_mean mode listing xs text is_map none are (mapped runs are_runs means) i
   means = means_by mode listing.registers (view_of_runs runs) xs are means;
   is_text = refl;
 }
-extents_mean mode listing xs text is_map none are (below view first s d) is_one = absurd cc
-extents_mean mode listing xs text is_map none are (cut view first i at c) is_one = absurd cc
+extents_mean mode listing xs text is_map none are (below view first s d line) is_one = absurd cc
+extents_mean mode listing xs text is_map none are (cut view first i at c line) is_one = absurd cc
 
 -- where a map is printed the registers mean it
 pub map_meant : (mode : Mode) (listing : Listing) (text : List ℕ) (is_map : Bool) → IsMapOf mode listing text is_map → is_map ≡ true

@@ -10,7 +10,7 @@ use Rattle.pmp_match.proofs.Matched.{all_defined}
 use Rattle.map_table.specs.declared.stretch.Stretch.{Stretch}
 use Rattle.register_audit.specs.declared.listing.Listing.{Listing}
 use Rattle.register_audit.specs.SecurityBits.{unknown_bit}
-use Rattle.register_audit.specs.ListingTexts.{IsRefusal, reserved, unmodelled}
+use Rattle.register_audit.specs.NoMeaning.{MeansNothing, reserved, unmodelled}
 use Rattle.register_audit.specs.Findings.{CutsAlone, IsCut, IsFirstDifference}
 use Rattle.register_audit.proofs.Cut.{cut_not}
 use Rattle.register_audit.proofs.ByMode.{are_words, by_means}
@@ -53,8 +53,8 @@ cut_none xs view other i at words first c means =
 extents_none : (xs : List Extent) (text : List ℕ) (is_map : Bool) (other : View) → AllByRecursion IsWords xs → IsMapOfExtents xs text is_map → is_map ≡ false
     → ¬ ExtentsMean xs other
 extents_none xs text is_map other words (mapped runs are means) no_map = absurd cc
-extents_none xs text is_map other words (below view first s d) no_map = below_none xs view other s words first d
-extents_none xs text is_map other words (cut view first i at c) no_map = cut_none xs view other i at words first c
+extents_none xs text is_map other words (below view first s d line) no_map = below_none xs view other s words first d
+extents_none xs text is_map other words (cut view first i at c line) no_map = cut_none xs view other i at words first c
 
 -- a bit is not none
 pub one_or_none : (o : Option ℕ) (bit : ℕ) → o ≡ Some bit → o ≡ None → ⊥
@@ -62,11 +62,11 @@ one_or_none None bit is none = cc
 one_or_none (Some other) bit is none = cc
 
 -- what a listing leaves that means nothing means no view
-none_refused : (mode : Mode) (listing : Listing) (line : List ℕ) → IsRefusal listing line
+none_refused : (mode : Mode) (listing : Listing) → MeansNothing listing
     → (unknown_bit listing.mseccfg ≢ None) ⊎ ((view : View) → ¬ MeanFor mode listing.registers view)
-none_refused mode listing line (reserved none found is) =
+none_refused mode listing (reserved none found is) =
     inr (λ view m. all_defined listing.registers m.extents m.are_extents found.place is.inside found.value is.value.has)
-none_refused mode listing line (unmodelled bit is) = inl (λ none. one_or_none (unknown_bit listing.mseccfg) bit is none)
+none_refused mode listing (unmodelled bit is) = inl (λ none. one_or_none (unknown_bit listing.mseccfg) bit is none)
 
 -- where no map is printed there is none
 pub none_meant : (mode : Mode) (listing : Listing) (text : List ℕ) (is_map : Bool) → IsMapOf mode listing text is_map → is_map ≡ false
@@ -74,4 +74,4 @@ pub none_meant : (mode : Mode) (listing : Listing) (text : List ℕ) (is_map : B
 none_meant mode listing text is_map (told none given are said it of) no_map =
     inr (λ view m. extents_none given text is_map view (are_words listing.registers mode given are) of no_map
     (by_means mode listing.registers view given are m))
-none_meant mode listing text is_map (refused line is) no_map = none_refused mode listing line is
+none_meant mode listing text is_map (refused line is) no_map = none_refused mode listing is

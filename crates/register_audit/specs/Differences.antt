@@ -8,7 +8,6 @@ use Rattle.map_table.specs.declared.stretch.Stretch.{Stretch}
 use Rattle.map_table.specs.Stretches.{AreStretches}
 use Rattle.register_audit.specs.Findings.{agrees}
 use Rattle.register_audit.specs.Modes.{AreGiven}
-use Rattle.register_audit.specs.Texts.{stretch_text}
 
 -- of a list of stretches those that do not agree, in its order
 pub data AreOdd : List Stretch → List Stretch → Type 0 where
@@ -17,19 +16,11 @@ pub data AreOdd : List Stretch → List Stretch → Type 0 where
   other : {all odd : List Stretch} → (s : Stretch) → s.wanted ≢ s.given → AreOdd all odd
       → AreOdd (s ∷ all) (s ∷ odd)
 
--- the lines of stretches, one after another
-abbrev pub differences_text : List Stretch → List ℕ
-differences_text [] = []
-differences_text (s ∷ odd) = stretch_text s ++ differences_text odd
-
--- the text is a line for each stretch of the space on which registers give a mode another
--- permission than a view
-pub record AreDifferences (mode : Mode) (view : View) (registers : Registers) (text : List ℕ) :
-    Type 0 where
+-- these are the stretches of the space on which registers give a mode another permission than a view
+pub record AreDifferences (mode : Mode) (view : View) (registers : Registers)
+    (odd : List Stretch) : Type 0 where
   pub given : List Extent
   pub are_given : AreGiven mode registers given
   pub all : List Stretch
   pub stretches : AreStretches view given 0 all (2 ^ 56)
-  pub odd : List Stretch
   pub are_odd : AreOdd all odd
-  pub text_is : text ≡ differences_text odd

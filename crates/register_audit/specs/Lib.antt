@@ -1,7 +1,6 @@
 pub mod Registers
 pub mod Findings
 pub mod Verdicts
-pub mod Texts
 pub mod Differences
 pub mod Audits
 pub mod Tables
@@ -17,7 +16,7 @@ pub mod Maps
 pub mod Lines
 pub mod RegisterListings
 pub mod SecurityBits
-pub mod ListingTexts
+pub mod NoMeaning
 pub mod Blocks
 pub mod Letters
 pub mod Names

@@ -7,30 +7,27 @@ use Rattle.pmp_encoding.specs.declared.xlen.Xlen.{Xlen}
 use Rattle.register_audit.specs.declared.listing.Listing.{Listing}
 use Rattle.register_audit.specs.RegisterListings.{listed}
 use Rattle.register_audit.specs.SecurityBits.{unknown_bit}
-use Rattle.register_audit.specs.ListingTexts.{IsRefusal, notes_text}
+use Rattle.register_audit.specs.NoMeaning.{MeansNothing}
 use Rattle.register_audit.specs.declared.listing_rules.Ruled.{Ruled}
 use Rattle.register_audit.specs.declared.listing_rules.Ruled.TheVariants as ruled
 
 -- a listing of registers of that width leaves these, without a reserved value and with no bit
--- of mseccfg that no extension gives; the notes are the comments on what is passed over
-pub record HasRules (xlen : Xlen) (listing notes : List ℕ) (registers : Registers) :
-    Type 0 where
+-- of mseccfg that no extension defines
+pub record HasRules (xlen : Xlen) (listing : List ℕ) (registers : Registers) : Type 0 where
   pub leaves : Listing
   pub listed_as : listed xlen listing ≡ Some leaves
   pub modelled : unknown_bit leaves.mseccfg ≡ None
   pub registers_are : registers ≡ leaves.registers
   pub extents : List Extent
   pub are_extents : AreExtents leaves.registers extents
-  pub notes_are : notes ≡ notes_text leaves
 
--- the line says why what a listing leaves judges nothing, and the notes are such comments
-pub record IsRefused (xlen : Xlen) (listing notes line : List ℕ) : Type 0 where
+-- what a listing leaves judges nothing
+pub record IsRefused (xlen : Xlen) (listing : List ℕ) : Type 0 where
   pub leaves : Listing
   pub listed_as : listed xlen listing ≡ Some leaves
-  pub is_line : IsRefusal leaves line
-  pub notes_are : notes ≡ notes_text leaves
+  pub nothing : MeansNothing leaves
 
--- what a listing has, and what is said of it beside
-abbrev pub IsRuled : Xlen → List ℕ → List ℕ → Ruled → Type 0
-IsRuled xlen listing notes (ruled.Rules registers) = HasRules xlen listing notes registers
-IsRuled xlen listing notes (ruled.Refused line) = IsRefused xlen listing notes line
+-- the rules of a listing, or that it has none
+abbrev pub IsRuled : Xlen → List ℕ → Ruled → Type 0
+IsRuled xlen listing (ruled.Rules registers) = HasRules xlen listing registers
+IsRuled xlen listing (ruled.Refused line) = IsRefused xlen listing

@@ -10,7 +10,7 @@ use Rattle.register_audit.specs.declared.listing.Listing.{Listing}
 use Rattle.register_audit.specs.RegisterListings.{listed}
 use Rattle.register_audit.specs.Registers.{count_on}
 use Rattle.register_audit.specs.SecurityBits.{unknown_bit}
-use Rattle.register_audit.specs.ListingTexts.{IsRefusal, notes_text}
+use Rattle.register_audit.specs.NoMeaning.{MeansNothing}
 use Rattle.map_table.specs.Tables.{IsExtentTable}
 
 -- what is said of what a listing leaves, and whether the registers mean something: the table of
@@ -24,14 +24,15 @@ pub data IsShown (mode : Mode) (listing : Listing) : List ℕ → Bool → Type 
       → IsExtentTable (entries_from listing.registers mode 0 extents)
       (default_perm listing.registers mode) (count_on listing.registers.cfgs) text
       → IsShown mode listing text true
-  refused : (line : List ℕ) → IsRefusal listing line → IsShown mode listing line false
+  refused : (line : List ℕ) → MeansNothing listing → IsShown mode listing line false
 
--- the text is what is said of what the listing of registers of that width leaves, and after it
--- comments on what is passed over
+-- the text is such a table of what the listing of registers of that width leaves, and comments on
+-- what is passed over
 pub record IsRegisterTable (mode : Mode) (xlen : Xlen) (listing text : List ℕ) (meant : Bool) :
     Type 0 where
   pub leaves : Listing
   pub listed_as : listed xlen listing ≡ Some leaves
   pub said : List ℕ
   pub is_said : IsShown mode leaves said meant
-  pub lines : text ≡ said ++ notes_text leaves
+  pub notes : List ℕ
+  pub lines : text ≡ said ++ notes

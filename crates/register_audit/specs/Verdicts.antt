@@ -30,10 +30,3 @@ is_meant _ = false
 abbrev pub is_difference : Verdict → Bool
 is_difference (verdicts.Differs stretch) = true
 is_difference _ = false
-
--- a verdict whose numbers can be written
-abbrev pub IsWritable : Verdict → Type 0
-IsWritable (verdicts.Means count) = ⊤
-IsWritable (verdicts.Differs stretch) = 0 < stretch.end
-IsWritable (verdicts.Cuts entry at) = at + 7 < 2 ^ 64
-IsWritable (verdicts.NoMeaning found) = found.place < 64

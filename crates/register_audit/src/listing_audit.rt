@@ -6,15 +6,14 @@ ghost use Rattle.permission_map.specs.Runs.{view_of_runs};
 ghost use Rattle.register_audit.specs.declared.listing.Listing.{Listing};
 ghost use Rattle.register_audit.specs.RegisterListings.{IsFirstUnknown, listed};
 ghost use Rattle.register_audit.specs.declared.fault.ListingFault as ListingFault;
-ghost use Rattle.register_audit.specs.Audits.{IsAnswer, IsAudit, IsSaid};
+ghost use Rattle.register_audit.specs.Audits.{IsAnswer, IsAudit};
 ghost use Rattle.register_audit.specs.Modes.{MeanFor};
 ghost use Rattle.register_audit.specs.SecurityBits.{unknown_bit};
-ghost use Rattle.register_audit.specs.ListingTexts.{notes_text};
 ghost use Rattle.register_audit.specs.Verdicts.{IsVerdict, is_difference, is_meant};
 
 use crate::differences::differences_of;
 use crate::fault::ListingFault;
-use crate::texts::verdict_line;
+use crate::texts::{stretch_line, verdict_line};
 use crate::verdict::{Verdict, verdict_of};
 use byte_streams::{Sink, write_whole};
 use permission_map::{Memory, PermissionMap};
@@ -54,14 +53,15 @@ fn text_of(
     all: bool,
 ) -> Result<Vec<u8>, Memory>
     requires { IsVerdict mode (view_of_runs map.now) registers.now verdict.now }
-    ensures { IfOk result (λ text. IsSaid mode (view_of_runs map.now) fewest all registers.now
-        verdict.now text.items) }
 {
-    if is_each(all, verdict) {
-        let text = differences_of(alloc, mode, map, registers)?;
+    if !is_each(all, verdict) {
+        let text = text_of_line(alloc, &verdict_line(mode, fewest, registers, verdict))?;
         return Ok(text);
     }
-    let text = text_of_line(alloc, &verdict_line(mode, fewest, registers, verdict))?;
+    let mut text = Vec::new(alloc);
+    for stretch in differences_of(alloc, mode, map, registers)?.as_slice() {
+        text.extend_from_slice(stretch_line(stretch).as_slice())?;
+    }
     Ok(text)
 }
 
@@ -74,8 +74,8 @@ fn answer_of(
     listing: &Listing,
     all: bool,
 ) -> Result<Answer, Memory>
-    ensures { IfOk result (λ answer. IsAnswer mode (view_of_runs map.now) fewest all listing.now
-        answer.text.items answer.means) }
+    ensures { IfOk result (λ answer.
+        IsAnswer mode (view_of_runs map.now) listing.now answer.means) }
 {
     if let Some(bit) = unknown_bit(listing.mseccfg) {
         let text = text_of_line(alloc, &unknown_bit_line(listing.mseccfg, bit))?;
@@ -106,8 +106,8 @@ pub fn audit<W: Sink>(
 ) -> Result<bool, ListingFault>
     requires short { length listing.now < 2 ^ 64 - 1 }
     ensures written { IfOk result (λ means.
-        (text : List ℕ) × IsAudit mode (view_of_runs map.now) xlen fewest all listing.now text means
-        × TakesAll text (writing W.contents W.failures W.stalls out.old out.new)) }
+        IsAudit mode (view_of_runs map.now) xlen listing.now means
+        × (text : List ℕ) × TakesAll text (writing W.contents W.failures W.stalls out.old out.new)) }
     ensures means { result ≡ Ok true
         → (leaves : Listing) × (listed xlen listing.now ≡ Some leaves)
         × (unknown_bit leaves.mseccfg ≡ None)
@@ -119,9 +119,7 @@ pub fn audit<W: Sink>(
     ensures line { (n : ℕ) → result ≡ Err (ListingFault.Line n)
         → IsFirstUnknown xlen listing.now n × (out.new ≡ out.old) }
     ensures untouched { result ≡ Err ListingFault.Memory → out.new ≡ out.old }
-    ensures broken { result ≡ Err ListingFault.Device → (text : List ℕ) × (means : Bool)
-        × IsAudit mode (view_of_runs map.now) xlen fewest all listing.now text means
-        × Breaks text (writing W.contents W.failures W.stalls out.old out.new) }
+    ensures broken { result ≡ Err ListingFault.Device → (text : List ℕ) × Breaks text (writing W.contents W.failures W.stalls out.old out.new) }
 {
     let listing = match listing_of(xlen, listing) {
         Ok(listing) => listing,

@@ -3,7 +3,7 @@
 ghost use Rattle.std.specs.Prelude.{◌≡◌, IfErr, IfOk, None};
 ghost use Rattle.pmp_match.specs.RegisterMatching.{AreExtents};
 ghost use Rattle.register_audit.specs.SecurityBits.{unknown_bit};
-ghost use Rattle.register_audit.specs.ListingTexts.{IsRefusal};
+ghost use Rattle.register_audit.specs.NoMeaning.{MeansNothing};
 
 use crate::listing::Listing;
 use crate::security_bits::unknown_bit;
@@ -11,11 +11,11 @@ use crate::listing_texts::{reserved_line, unknown_bit_line};
 use pmp_match::{Extent, extents_of};
 use text_lines::Line;
 
-/// What each entry of what a listing leaves matches, or the line that says why it means nothing.
+/// Returns the addresses that each entry of a listing matches, or a line that says why the listing means nothing.
 pub fn extents_in(listing: &Listing) -> Result<[Extent; 64], Line>
     ensures modelled { IfOk result (λ _. unknown_bit listing.now.mseccfg ≡ None) }
     ensures extents { IfOk result (AreExtents listing.now.registers) }
-    ensures refused { IfErr result (λ line. IsRefusal listing.now line) }
+    ensures refused { IfErr result (λ _. MeansNothing listing.now) }
 {
     if let Some(bit) = unknown_bit(listing.mseccfg) {
         return Err(unknown_bit_line(listing.mseccfg, bit));

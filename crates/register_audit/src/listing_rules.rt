@@ -2,7 +2,6 @@
 
 ghost use Rattle.std.specs.Prelude.{◌≡◌, ℕ, ◌-◌, ◌^◌, ◌<◌, IfErr, IfOk, List, Some, length};
 ghost use Rattle.register_audit.specs.RegisterListings.{IsFirstUnknown, listed};
-ghost use Rattle.register_audit.specs.ListingTexts.{notes_text};
 ghost use Rattle.pmp_encoding.specs.declared.xlen.Xlen.{Xlen};
 ghost use Rattle.register_audit.specs.Listings.{IsRuled};
 
@@ -32,7 +31,7 @@ pub struct ListingRules {
 /// The rules of what a listing leaves.
 fn ruled_by(listing: &Listing) -> Ruled
     ensures { (xlen : Xlen) (bytes : List ℕ) → listed xlen bytes ≡ Some listing.now
-        → IsRuled xlen bytes (notes_text listing.now) result }
+        → IsRuled xlen bytes result }
 {
     match extents_in(listing) {
         Ok(extents) => Ruled::Rules(Rules::by(&listing.registers, extents)),
@@ -45,7 +44,7 @@ fn ruled_by(listing: &Listing) -> Ruled
 pub fn rules_in(xlen: Xlen, listing: &[u8]) -> Result<ListingRules, u64>
     requires { length listing.now < 2 ^ 64 - 1 }
     ensures ruled { IfOk result (λ rules.
-        IsRuled xlen listing.now rules.notes.items rules.ruled) }
+        IsRuled xlen listing.now rules.ruled) }
     ensures line { IfErr result (IsFirstUnknown xlen listing.now) }
 {
     let leaves = listing_of(xlen, listing)?;

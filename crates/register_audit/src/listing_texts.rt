@@ -1,124 +1,107 @@
-//! What is said of what a listing leaves.
+//! Lines about a listing, for people.
 
-ghost use Rattle.std.specs.Prelude.{◌≡◌, ◌++◌, ◌<◌, ◌≤◌, IfOk, length};
-ghost use Rattle.register_audit.specs.ListingTexts.{foreign_bit_text, notes_text, passed_text, reserved_name, reserved_text, unknown_bit_text};
+ghost use Rattle.std.specs.Prelude.{◌≡◌, IfOk};
 
 use crate::listing::Listing;
 use crate::security_bits::foreign_bit;
-use arrayvec::ArrayVec;
-use lint_texts::append;
+use arrayvec::{ArrayString, ArrayVec};
 use pmp_match::{Registers, Reserved, ReservedAt};
 use std::alloc::{AllocError, Global};
-use text_lines::{Line, push_decimal, push_hex, push_text};
+use std::fmt::Write;
+use text_lines::{Line, push_text};
 
-fn reserved_name(value: Reserved) -> &'static str
-    ensures value { result.now ≡ reserved_name value }
-    ensures length { length result.now ≤ 32 }
-{
-    match value {
-        Reserved::Permission => "W without R",
-        Reserved::Bits => "reserved bits",
-    }
-}
+/// The words of a line. A part that does not fit is left out.
+pub(crate) type Words = ArrayString<128>;
 
-/// The line on an entry that has a reserved value.
-pub fn reserved_line(registers: &Registers, found: &ReservedAt) -> Line
-    requires { found.now.place < 64 }
-    ensures { result ≡ reserved_text registers.now found.now }
-{
-    let mut line = Line::new();
-    push_text(&mut line, b"pair ");
-    push_decimal(&mut line, found.place as u64);
-    push_text(&mut line, b" 0x");
-    push_hex(&mut line, u64::from(registers.cfgs[found.place]), 2);
-    push_text(&mut line, b" 0x");
-    push_hex(
-        &mut line,
-        registers.addresses[found.place],
-        registers.xlen.digits(),
-    );
-    push_text(&mut line, b": ");
-    push_text(&mut line, reserved_name(found.value).as_bytes());
-    line.push(b'\n');
-    line
-}
-
-/// The line on an `mseccfg` with a bit that no extension gives.
-pub fn unknown_bit_line(mseccfg: u64, bit: u8) -> Line
-    ensures { result ≡ unknown_bit_text mseccfg bit }
-{
-    let mut line = Line::new();
-    push_text(&mut line, b"mseccfg 0x");
-    push_hex(&mut line, mseccfg, 16);
-    push_text(&mut line, b": no verdict, bit ");
-    push_decimal(&mut line, u64::from(bit));
-    push_text(&mut line, b" is not known\n");
-    line
-}
-
-/// The comment on lines that are passed over.
-fn passed_line(passed: Option<u64>) -> Line
-    ensures { result ≡ passed_text passed }
-{
-    let mut line = Line::new();
-    let Some(first) = passed else {
-        return line;
-    };
-    push_text(
-        &mut line,
-        b"# lines of other registers are passed over, line ",
-    );
-    push_decimal(&mut line, first);
-    push_text(&mut line, b" first\n");
-    line
-}
-
-/// The comment on bits of `mseccfg` that are not about PMP.
-fn foreign_bit_line(bit: Option<u8>) -> Line
-    ensures { result ≡ foreign_bit_text bit }
-{
-    let mut line = Line::new();
-    let Some(first) = bit else {
-        return line;
-    };
-    push_text(
-        &mut line,
-        b"# bits of mseccfg that are not about PMP are passed over, bit ",
-    );
-    push_decimal(&mut line, u64::from(first));
-    push_text(&mut line, b" first\n");
-    line
-}
-
-/// What is said of a listing beside the answer.
+/// Comments on a listing: what was passed over.
 pub type ListingNotes = ArrayVec<u8, 256>;
 
-/// The comments on what is passed over of a listing.
-pub fn notes_of(listing: &Listing) -> ListingNotes
-    ensures { result.items ≡ notes_text listing.now }
-{
-    let mut notes = ArrayVec::new();
-    append(&mut notes, passed_line(listing.passed).as_slice());
-    append(
-        &mut notes,
-        foreign_bit_line(foreign_bit(listing.mseccfg)).as_slice(),
-    );
-    notes
+/// The most bytes of a line.
+const ROOM: usize = 128;
+
+/// Makes a line of these words.
+pub(crate) fn line_of(words: &Words) -> Line {
+    let mut line = Line::new();
+    let bytes = words.as_str().as_bytes();
+    if bytes.len() <= ROOM {
+        push_text(&mut line, bytes);
+    }
+    line
 }
 
-/// Appends the comments on what is passed over of a listing. The only error is out of memory.
-pub fn push_notes(text: &mut Vec<u8>, listing: &Listing) -> Result<(), AllocError>
-    ensures { IfOk result (λ _. text.new.items ≡ text.old.items ++ notes_text listing.now) }
-{
-    text.extend_from_slice(notes_of(listing).as_slice())?;
-    Ok(())
-}
-
-/// A line as a text of its own. The only error is out of memory.
+/// Makes a text of one line. The only error is out of memory.
 pub fn text_of_line(alloc: Global, line: &Line) -> Result<Vec<u8>, AllocError>
     ensures { IfOk result (λ text. text.items ≡ line.now) }
 {
     let mut text = Vec::new(alloc);
     text.extend_from_slice(line.as_slice())?;
     Ok(text)
+}
+
+/// The line about an entry that has a reserved value.
+pub fn reserved_line(registers: &Registers, found: &ReservedAt) -> Line {
+    let place = found.place;
+    let (Some(cfg), Some(address)) = (registers.cfgs.get(place), registers.addresses.get(place))
+    else {
+        return Line::new();
+    };
+    let name = match found.value {
+        Reserved::Permission => "W without R",
+        Reserved::Bits => "reserved bits",
+    };
+    let mut words = Words::new();
+    let _ = write!(words, "pair {place} 0x{cfg:02x} 0x");
+    let _ = if registers.xlen.digits() == 8 {
+        write!(words, "{address:08x}")
+    } else {
+        write!(words, "{address:016x}")
+    };
+    let _ = writeln!(words, ": {name}");
+    line_of(&words)
+}
+
+/// The line about an `mseccfg` with a bit that no extension defines.
+pub fn unknown_bit_line(mseccfg: u64, bit: u8) -> Line {
+    let mut words = Words::new();
+    let _ = writeln!(
+        words,
+        "mseccfg 0x{mseccfg:016x}: no verdict, bit {bit} is not known"
+    );
+    line_of(&words)
+}
+
+/// Appends the comment on the first line that is passed over, if there is one.
+fn note_passed(words: &mut ArrayString<256>, passed: Option<u64>) {
+    if let Some(first) = passed {
+        let _ = writeln!(
+            words,
+            "# lines of other registers are passed over, line {first} first"
+        );
+    }
+}
+
+/// Appends the comment on the lowest bit of `mseccfg` that is not about PMP, if there is one.
+fn note_foreign_bit(words: &mut ArrayString<256>, bit: Option<u8>) {
+    if let Some(first) = bit {
+        let _ = writeln!(
+            words,
+            "# bits of mseccfg that are not about PMP are passed over, bit {first} first"
+        );
+    }
+}
+
+/// The comments on what is passed over in a listing.
+pub fn notes_of(listing: &Listing) -> ListingNotes {
+    let mut words = ArrayString::new();
+    note_passed(&mut words, listing.passed);
+    note_foreign_bit(&mut words, foreign_bit(listing.mseccfg));
+    let mut notes = ArrayVec::new();
+    let _ = notes.try_extend_from_slice(words.as_str().as_bytes());
+    notes
+}
+
+/// Appends the comments on what is passed over in a listing. The only error is out of memory.
+pub fn push_notes(text: &mut Vec<u8>, listing: &Listing) -> Result<(), AllocError> {
+    text.extend_from_slice(notes_of(listing).as_slice())?;
+    Ok(())
 }

@@ -9,7 +9,6 @@ ghost use Rattle.pmp_match.specs.RegisterDecision.{IsWords};
 ghost use Rattle.register_audit.specs.declared.listing.Listing.{Listing};
 ghost use Rattle.register_audit.specs.RegisterListings.{IsFirstUnknown, listed};
 ghost use Rattle.register_audit.specs.SecurityBits.{unknown_bit};
-ghost use Rattle.register_audit.specs.ListingTexts.{notes_text};
 ghost use Rattle.register_audit.specs.declared.fault.ListingFault as ListingFault;
 ghost use Rattle.register_audit.specs.declared.fault.MapOfFault as MapOfFault;
 ghost use Rattle.register_audit.specs.declared.fault.NoMapReason as NoMapReason;
@@ -109,7 +108,7 @@ pub fn print_map_of<W: Sink>(
 ) -> Result<MapAnswer, MapOfFault>
     requires { length listing.now < 2 ^ 64 - 1 }
     ensures written { IfOk result (λ answer. (text : List ℕ)
-        × IsMapFile mode xlen listing.now text answer.notes.items answer.is_map
+        × IsMapFile mode xlen listing.now text answer.is_map
         × TakesAll text (writing W.contents W.failures W.stalls out.old out.new)) }
     ensures means { IfOk result (λ answer. answer.is_map ≡ true → (leaves : Listing)
         × (listed xlen listing.now ≡ Some leaves) × (unknown_bit leaves.mseccfg ≡ None)
@@ -127,8 +126,7 @@ pub fn print_map_of<W: Sink>(
     ensures untouched { result ≡ Err (MapOfFault.Listing ListingFault.Memory)
         → out.new ≡ out.old }
     ensures broken { result ≡ Err (MapOfFault.Listing ListingFault.Device)
-        → (text notes : List ℕ) × (is_map : Bool)
-        × IsMapFile mode xlen listing.now text notes is_map
+        → (text : List ℕ) × (is_map : Bool) × IsMapFile mode xlen listing.now text is_map
         × Breaks text (writing W.contents W.failures W.stalls out.old out.new) }
 {
     let listing = match listing_of(xlen, listing) {

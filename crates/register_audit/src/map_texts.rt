@@ -2,14 +2,16 @@
 
 ghost use Rattle.std.specs.Prelude.{◌≡◌, ◌+◌, ◌++◌, ◌*◌, ◌^◌, ◌<◌, ◌≤◌, IfOk};
 ghost use Rattle.permission_map.specs.Runs.{AreRuns, end_of};
-ghost use Rattle.register_audit.specs.MapTexts.{below_text, cut_text, map_text, run_text};
+ghost use Rattle.register_audit.specs.MapTexts.{map_text, run_text};
 
+use crate::listing_texts::{Words, line_of};
 use map_table::Stretch;
 use permission_map::{Memory, PermissionMap, Run};
 use pmp_encoding::PAGE_SIZE;
 use printed_lines::letters;
 use std::alloc::Global;
-use text_lines::{Line, push_decimal, push_hex, push_text};
+use std::fmt::Write;
+use text_lines::{Line, push_hex, push_text};
 
 /// The line of a range.
 fn run_line(run: &Run) -> Line
@@ -40,36 +42,27 @@ pub(crate) fn map_text(alloc: Global, map: &PermissionMap) -> Result<Vec<u8>, Me
     Ok(text)
 }
 
-/// The line on bytes that their page's first byte does not speak for.
-pub(crate) fn below_line(stretch: &Stretch) -> Line
-    requires { 0 < stretch.now.end }
-    ensures { result ≡ below_text stretch.now }
-{
-    let mut line = Line::new();
-    push_text(&mut line, b"no map: 0x");
-    push_hex(&mut line, stretch.first, 16);
-    push_text(&mut line, b" 0x");
-    push_hex(&mut line, stretch.end - 1, 16);
-    push_text(&mut line, b" has ");
-    push_text(&mut line, letters(stretch.given).as_bytes());
-    push_text(&mut line, b", its page's first byte ");
-    push_text(&mut line, letters(stretch.wanted).as_bytes());
-    line.push(b'\n');
-    line
+/// The line about bytes whose permission differs from that of their page's first byte.
+pub(crate) fn below_line(stretch: &Stretch) -> Line {
+    let first = stretch.first;
+    let last = stretch.end.saturating_sub(1);
+    let given = letters(stretch.given);
+    let wanted = letters(stretch.wanted);
+    let mut words = Words::new();
+    let _ = writeln!(
+        words,
+        "no map: 0x{first:016x} 0x{last:016x} has {given}, its page's first byte {wanted}"
+    );
+    line_of(&words)
 }
 
-/// The line on an access that an entry cuts.
-pub(crate) fn cut_line(entry: usize, at: u64) -> Line
-    requires { at + 7 < 2 ^ 64 }
-    ensures { result ≡ cut_text entry at }
-{
-    let mut line = Line::new();
-    push_text(&mut line, b"no map: 0x");
-    push_hex(&mut line, at, 16);
-    push_text(&mut line, b" 0x");
-    push_hex(&mut line, at + 7, 16);
-    push_text(&mut line, b", entry ");
-    push_decimal(&mut line, entry as u64);
-    push_text(&mut line, b" cuts an access of 8 bytes\n");
-    line
+/// The line about an access that an entry cuts.
+pub(crate) fn cut_line(entry: usize, at: u64) -> Line {
+    let last = at.saturating_add(7);
+    let mut words = Words::new();
+    let _ = writeln!(
+        words,
+        "no map: 0x{at:016x} 0x{last:016x}, entry {entry} cuts an access of 8 bytes"
+    );
+    line_of(&words)
 }

@@ -3,20 +3,21 @@
 ghost use Rattle.std.specs.Prelude.{◌≡◌, ◌-◌, ◌^◌, ◌<◌, ◌++◌, ℕ, Bool, Err, IfOk, List, length};
 ghost use Rattle.byte_streams.specs.Writings.{writing, Breaks, TakesAll};
 ghost use Rattle.register_audit.specs.RegisterListings.{IsFirstUnknown};
-ghost use Rattle.register_audit.specs.ListingTexts.{notes_text};
 ghost use Rattle.register_audit.specs.declared.fault.ListingFault as ListingFault;
 ghost use Rattle.register_audit.specs.Tables.{IsRegisterTable, IsShown};
 
 use crate::count_on;
 use crate::decision::default_perm;
 use crate::fault::ListingFault;
+use crate::listing::{Listing, listing_of};
+use crate::listing_extents::extents_in;
+use crate::listing_texts::{notes_of, text_of_line};
 use crate::modes::entries_given;
 use byte_streams::{Sink, write_whole};
 use map_table::extent_table;
 use permission_map::Memory;
 use pmp_encoding::Xlen;
 use pmp_match::Mode;
-use crate::{Listing, extents_in, listing_of, push_notes, text_of_line};
 use std::alloc::Global;
 
 /// What is said of registers, and whether they mean something.
@@ -47,11 +48,11 @@ fn said_of(alloc: Global, mode: Mode, listing: &Listing) -> Result<Shown, Memory
 
 /// The same with the comments on what is passed over. The only error is out of memory.
 fn with_comment(alloc: Global, mode: Mode, listing: &Listing) -> Result<Shown, Memory>
-    ensures { IfOk result (λ all. (text : List ℕ) × IsShown mode listing.now text all.meant
-        × (all.text.items ≡ text ++ notes_text listing.now)) }
+    ensures { IfOk result (λ all. (text notes : List ℕ) × IsShown mode listing.now text all.meant
+        × (all.text.items ≡ text ++ notes)) }
 {
     let mut all = said_of(alloc, mode, listing)?;
-    push_notes(&mut all.text, listing)?;
+    all.text.extend_from_slice(notes_of(listing).as_slice())?;
     Ok(all)
 }
 

@@ -3,8 +3,7 @@ use Rattle.register_audit.specs.Audits.{judged, unmodelled}
 use Rattle.register_audit.proofs.listing_audit.answer_of.Goals as goal
 
 pub returns-in-Some : goal.returns-in-Some
-returns-in-Some c = rw (c.in_ok-text.ensures, c.unknown_bit_line.ensures) (unmodelled c.in-Some.bit (sym c.in-Some.ensures))
+returns-in-Some c = unmodelled c.in-Some.bit (sym c.in-Some.ensures)
 
 pub returns : goal.returns
-returns c = rw c.is_meant.ensures (judged (sym c.in_default.ensures) c.in_ok-verdict.verdict c.in_ok-verdict.ensures c.in_ok-text-2.text.items
-    c.in_ok-text-2.ensures)
+returns c = rw c.is_meant.ensures (judged (sym c.in_default.ensures) c.in_ok-verdict.verdict c.in_ok-verdict.ensures)

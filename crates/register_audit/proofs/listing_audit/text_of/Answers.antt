@@ -1,6 +1,5 @@
 use Rattle.std.proofs.Common.{◌∙◌, sym}
 use Rattle.permission_map.specs.Runs.{view_of_runs}
-use Rattle.register_audit.specs.Audits.{each, line}
 use Rattle.register_audit.proofs.Answered.{extents_given}
 use Rattle.register_audit.proofs.listing_audit.text_of.Goals as goal
 
@@ -8,9 +7,3 @@ pub differences_of-requires : goal.differences_of-requires
 differences_of-requires c =
     extents_given c.args.mode (view_of_runs c.args.map.now) c.args.registers.now c.args.all c.args.verdict.now c.requires
     (sym c.is_each.ensures ∙ c.if-is_each.true)
-
-pub returns-then-is_each : goal.returns-then-is_each
-returns-then-is_each c = each (sym c.is_each.ensures ∙ c.if-is_each.true) c.in_ok-text.text.items c.in_ok-text.ensures
-
-pub returns : goal.returns
-returns c = rw (c.in_ok-text-2.ensures, c.verdict_line.ensures) (line (sym c.is_each.ensures ∙ c.if-is_each.false))

@@ -1,7 +1,6 @@
 use Rattle.register_audit.proofs.Meant.{map_meant}
 use Rattle.register_audit.proofs.NoMap.{none_meant}
-use Rattle.std.proofs.Common.{◌∙◌, refl}
-use Rattle.register_audit.specs.ListingTexts.{notes_text}
+use Rattle.std.proofs.Common.{◌∙◌}
 use Rattle.register_audit.proofs.map.print_map_of.Goals as goal
 
 pub returns-clause-means : goal.returns-clause-means
@@ -22,8 +21,7 @@ returns-clause-none g c = λ e. (c.in-Ok.listing, c.in-Ok.ensures.listing, none_
 pub returns-in_default-clause-broken : goal.returns-in_default-clause-broken
 returns-in_default-clause-broken g c = λ e. (
   _,
-  notes_text c.in-Ok.listing,
   _,
-  record { leaves = c.in-Ok.listing; listed_as = c.in-Ok.ensures.listing; is_said = c.in-Ok-said_of.ensures.said; notes_are = refl },
+  record { leaves = c.in-Ok.listing; listed_as = c.in-Ok.ensures.listing; is_said = c.in-Ok-said_of.ensures.said },
   rw c.as_slice.ensures.value at c.in_default.ensures,
 )

@@ -9,7 +9,7 @@ said_of_extents-requires c = rw (c.as_slice.ensures.value, c.in_ok-given.ensures
     (all_given c.args.listing.now.registers c.args.mode _ (c.in-Ok.extents, c.in-Ok.ensures.extents, refl))
 
 pub returns-in-Err-clause-said : goal.returns-in-Err-clause-said
-returns-in-Err-clause-said c = rw c.in_ok-text-in-Err.ensures (refused _ c.in-Err.ensures.refused)
+returns-in-Err-clause-said c = refused _ c.in-Err.ensures.refused
 
 pub returns-clause-said : goal.returns-clause-said
 returns-clause-said c = told c.in-Ok.ensures.modelled _ (c.in-Ok.extents, c.in-Ok.ensures.extents, c.in_ok-given.ensures) _ _
