@@ -5,5 +5,4 @@ pub mod Hulls
 pub mod Meetings
 pub mod Stretches
 pub mod JsonTables
-pub mod Pictures
 pub mod FormattedTables

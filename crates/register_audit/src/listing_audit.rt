@@ -15,11 +15,11 @@ use crate::differences::differences_of;
 use crate::fault::ListingFault;
 use crate::texts::{stretch_line, verdict_line};
 use crate::verdict::{Verdict, verdict_of};
+use crate::{Listing, listing_of, push_notes, text_of_line, unknown_bit, unknown_bit_line};
 use byte_streams::{Sink, write_whole};
 use permission_map::{Memory, PermissionMap};
 use pmp_encoding::Xlen;
 use pmp_match::{Mode, Registers};
-use crate::{Listing, listing_of, push_notes, text_of_line, unknown_bit, unknown_bit_line};
 use std::alloc::Global;
 
 /// What is said of a listing, and whether it is a yes.
@@ -42,7 +42,7 @@ fn is_each(all: bool, verdict: &Verdict) -> bool
     all && matches!(verdict, Verdict::Differs(_))
 }
 
-/// What is said of a verdict. The only error is out of memory.
+/// Writes the line of a verdict, or with `all` a line for each stretch that differs. The only error is out of memory.
 fn text_of(
     alloc: Global,
     map: &PermissionMap,
@@ -54,14 +54,15 @@ fn text_of(
 ) -> Result<Vec<u8>, Memory>
     requires { IsVerdict mode (view_of_runs map.now) registers.now verdict.now }
 {
-    if !is_each(all, verdict) {
-        let text = text_of_line(alloc, &verdict_line(mode, fewest, registers, verdict))?;
+    let mut text = Vec::new(alloc);
+    if is_each(all, verdict) {
+        for stretch in differences_of(alloc, mode, map, registers)?.as_slice() {
+            text.extend_from_slice(stretch_line(stretch).as_slice())?;
+        }
         return Ok(text);
     }
-    let mut text = Vec::new(alloc);
-    for stretch in differences_of(alloc, mode, map, registers)?.as_slice() {
-        text.extend_from_slice(stretch_line(stretch).as_slice())?;
-    }
+    let line = verdict_line(mode, fewest, registers, verdict);
+    text.extend_from_slice(line.as_slice())?;
     Ok(text)
 }
 

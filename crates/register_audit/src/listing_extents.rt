@@ -6,8 +6,8 @@ ghost use Rattle.register_audit.specs.SecurityBits.{unknown_bit};
 ghost use Rattle.register_audit.specs.NoMeaning.{MeansNothing};
 
 use crate::listing::Listing;
-use crate::security_bits::unknown_bit;
 use crate::listing_texts::{reserved_line, unknown_bit_line};
+use crate::security_bits::unknown_bit;
 use pmp_match::{Extent, extents_of};
 use text_lines::Line;
 

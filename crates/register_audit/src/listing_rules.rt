@@ -6,8 +6,8 @@ ghost use Rattle.pmp_encoding.specs.declared.xlen.Xlen.{Xlen};
 ghost use Rattle.register_audit.specs.Listings.{IsRuled};
 
 use crate::rules::Rules;
-use pmp_encoding::Xlen;
 use crate::{Listing, ListingNotes, extents_in, listing_of, notes_of};
+use pmp_encoding::Xlen;
 use text_lines::Line;
 
 /// What a listing has.

@@ -21,12 +21,13 @@ use crate::fault::{ListingFault, MapOfFault, NoMapReason};
 use crate::map_texts::{below_line, cut_line, map_text};
 use crate::modes::given_by;
 use crate::pages::first_bytes;
-use crate::{Finding, compare};
+use crate::{
+    Finding, Listing, ListingNotes, compare, extents_in, listing_of, notes_of, text_of_line,
+};
 use byte_streams::{Sink, write_whole};
 use permission_map::Memory;
 use pmp_encoding::Xlen;
 use pmp_match::{Extent, Mode};
-use crate::{Listing, ListingNotes, extents_in, listing_of, notes_of, text_of_line};
 use std::alloc::Global;
 
 /// What is said of registers, and whether it is a map.

@@ -10,7 +10,8 @@ ghost use Rattle.register_audit.specs.Judgement.{RegistersJudge};
 use crate::decision::{allow, first_met};
 use pmp_encoding::SPACE_SIZE;
 use pmp_match::{
-    Access, Cause, Decider, Extent, Registers, ReservedAt, access_fault, extents_of, is_aligned, misaligned,
+    Access, Cause, Decider, Extent, Registers, ReservedAt, access_fault, extents_of, is_aligned,
+    misaligned,
 };
 use std::marker::Model;
 

@@ -18,7 +18,10 @@ pub(crate) fn stretch_line(stretch: &Stretch) -> Line {
     let wanted = letters(stretch.wanted);
     let given = letters(stretch.given);
     let mut words = Words::new();
-    let _ = write!(words, "differs 0x{first:016x} 0x{last:016x}: map {wanted}, ");
+    let _ = write!(
+        words,
+        "differs 0x{first:016x} 0x{last:016x}: map {wanted}, "
+    );
     let _ = match stretch.entry {
         Some(place) if place < ENTRIES => write!(words, "entry {place}"),
         _ => write!(words, "no entry"),
@@ -33,7 +36,11 @@ fn means_line(mode: Mode, fewest: u64, count: usize) -> Line {
     let mut words = Words::new();
     let _ = write!(words, "means the map: {count} {entries}");
     if mode != Mode::Machine {
-        let enough = if fewest == 1 { "is enough" } else { "are enough" };
+        let enough = if fewest == 1 {
+            "is enough"
+        } else {
+            "are enough"
+        };
         let _ = write!(words, " where {fewest} {enough}");
     }
     let _ = writeln!(words);

@@ -5,11 +5,11 @@ ghost use Rattle.hart_trace.specs.declared.event.Event.{Event};
 ghost use Rattle.trace_answers.specs.Reasons.{IsReason};
 ghost use Rattle.trace_answers.specs.Asked.{by_met, IsAsked, IsDeed};
 
+use crate::reasons::{Reason, reason_of};
 use hart_sim::{Event, Machine};
 use pmp_encoding::Bank;
 use pmp_match::Access;
 use sbi_decode::{Call, World};
-use crate::reasons::{Reason, reason_of};
 
 /// What an event asks.
 #[derive(Clone, Copy)]

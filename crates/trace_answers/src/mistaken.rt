@@ -76,7 +76,10 @@ fn written(word: &[u8]) -> &[u8] {
 
 /// Returns whether a word is the first of an answer after its number, in upper or lower case.
 fn is_kind(word: &[u8]) -> bool {
-    is_name(word, b"ok") || is_name(word, b"fault") || is_name(word, b"call") || is_name(word, b"irq")
+    is_name(word, b"ok")
+        || is_name(word, b"fault")
+        || is_name(word, b"call")
+        || is_name(word, b"irq")
 }
 
 /// Returns whether a word may introduce an expected answer.

@@ -67,7 +67,11 @@ impl fmt::Display for Reason {
                 let base = extent.base;
                 let last = extent.end.saturating_sub(1);
                 let perm = letters(extent.perm);
-                let part = if *is_whole { "" } else { ", which holds only a part" };
+                let part = if *is_whole {
+                    ""
+                } else {
+                    ", which holds only a part"
+                };
                 write!(f, "entry {number}: {base:#x}-{last:#x} {perm}{part}")
             }
         }

@@ -124,7 +124,10 @@ fn write_summary(text: &mut Text, tally: &Tally, machine: &Machine) -> fmt::Resu
     }
     let live = count_live(machine.table());
     let marked = count_marked(machine);
-    writeln!(text, "# at the end: enclaves live: {live}, harts marked: {marked}")
+    writeln!(
+        text,
+        "# at the end: enclaves live: {live}, harts marked: {marked}"
+    )
 }
 
 /// Prints the summary of a run: what the tally counted, and the live enclaves and marked harts of the machine after it.

@@ -40,7 +40,9 @@ fn kinds_of(subject: Subject) -> &'static [u64] {
         Subject::Events => &[0, 1, 2, 3],
         Subject::Faults => &[0, 1, 4, 5, 6, 7],
         Subject::Calls => &[0, 1, 2, 3, 4, 5, 6, 7],
-        Subject::Refusals => &[2, 101, 102, 103, 104, 105, 106, 107, 108, 109, 110, 111, 112],
+        Subject::Refusals => &[
+            2, 101, 102, 103, 104, 105, 106, 107, 108, 109, 110, 111, 112,
+        ],
     }
 }
 

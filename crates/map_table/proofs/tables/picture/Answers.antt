@@ -7,11 +7,3 @@ use Rattle.map_table.proofs.tables.picture.Goals as goal
 pub picture_of-requires : goal.picture_of-requires
 picture_of-requires c = rw (c.in_ok-tree.ensures, c.as_slice-2.ensures.value, c.as_slice.ensures.value, c.in_ok-extents.ensures)
     (rows_of (view_of_runs c.args.map.now) (matched_by c.args.entries.now) 0 (2 ^ 56) _ c.in_ok-all.ensures)
-
-pub returns : goal.returns
-returns c = record {
-  stretches = c.in_ok-all.all.items;
-  are_stretches = c.in_ok-all.ensures;
-  lines = rw (c.in_ok-tree.ensures, c.as_slice-2.ensures.value, c.as_slice.ensures.value, c.in_ok-extents.ensures, c.count_line-count.ensures) at
-      c.in_ok-text.ensures;
-}

@@ -12,4 +12,3 @@ unreachable-requires c =
 pub stretches-requires : goal.stretches-requires
 stretches-requires c = rw (c.as_slice.ensures.value, c.in_ok-given.ensures)
     (all_given c.args.registers.now c.args.mode _ (c.in-Ok.extents, c.in-Ok.ensures.extents, refl))
-

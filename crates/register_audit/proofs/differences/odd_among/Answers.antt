@@ -1,4 +1,4 @@
-use Rattle.std.proofs.Common.{[], ◌∷◌, ◌∙◌, ◌++◌, append_assoc, append-nil, subst, sym}
+use Rattle.std.proofs.Common.{[], ◌∷◌, append_assoc, append-nil, subst, sym}
 use Rattle.std.proofs.Math.ListN.{drop_of_length-le}
 use Rattle.register_audit.specs.Differences.{AreOdd, end}
 use Rattle.register_audit.proofs.Odd.{pass_it, take_it}
