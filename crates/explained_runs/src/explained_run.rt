@@ -9,7 +9,7 @@ ghost use Rattle.explained_runs.specs.Tallies.{HasAccount};
 use crate::asked::asked_of;
 use crate::comment::comment_on;
 use crate::tally::Tally;
-use byte_streams::{Sink, Source};
+use byte_streams::{LineSink, Source};
 use hart_sim::{Machine, push_reply};
 use text_lines::{Interpreter, Line, LineRefusal, RunFault, interpret_lines};
 use trace_answers::explain;
@@ -75,7 +75,11 @@ pub struct Ran {
 
 /// Runs a trace on a machine as `hart_sim::run` does, says after each answer what happened, and counts it. The text that
 /// names how many entries a refused view needs takes memory, and goes without the number where that is refused.
-pub fn explain_run<R: Source, W: Sink>(machine: Machine, source: &mut R, sink: &mut W) -> Ran
+pub fn explain_run<R: Source, M, W: LineSink<M>>(
+    machine: Machine,
+    source: &mut R,
+    sink: &mut W,
+) -> Ran
     ensures all { KeepsBanksRight machine
         → IfOk result.end (λ _. HasAccount result.machine result.tally (λ account.
         DoesAll ExplainsLine (opened machine) account (R.remaining source.old)
@@ -111,7 +115,7 @@ pub fn explain_run<R: Source, W: Sink>(machine: Machine, source: &mut R, sink: &
         machine,
         tally: Tally::new(),
     };
-    let end = interpret_lines(&mut lines, source, sink);
+    let end = interpret_lines::<_, R, M, W>(&mut lines, source, sink);
     Ran {
         machine: lines.machine,
         tally: lines.tally,
