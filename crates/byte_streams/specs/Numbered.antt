@@ -1,6 +1,6 @@
 -- A text after a number, in two arrays.
 use Rattle.std.specs.Prelude.{ℕ, List, ◌∷◌, ◌++◌, take}
-use Rattle.byte_streams.specs.declared.streams.Numbered.{Numbered}
+use Rattle.byte_streams.specs.declared.line_sink.Numbered.{Numbered}
 
 -- the first digits of the number, its last one, and the text
 abbrev pub numbered_text : Numbered → List ℕ

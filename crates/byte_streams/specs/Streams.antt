@@ -1,18 +1,17 @@
 -- What devices tell of their failures.
-use Rattle.std.specs.Prelude.{◌≡◌, ◌⊎◌, ℕ, ◌+◌, ◌-◌, ◌^◌, ◌%◌, ◌==◌, ◌&&◌, min, nat_lt}
+use Rattle.std.specs.Prelude.{◌≡◌, ◌⊎◌, ℕ, ◌+◌, ◌-◌, ◌^◌, ◌%◌, ◌<◌, ◌==◌, ◌&&◌, nat_lt}
 use Rattle.std.specs.Prelude.{if◌then◌else◌, List, length, Result, MatchResult}
 use Rattle.byte_streams.specs.declared.streams.Counted.{Counted}
 use Rattle.byte_streams.specs.declared.streams.DeviceFault.{DeviceFault}
 
--- one failure more, in 64 bits: the count stays at its greatest, so that no failures bring back a
--- count below it
-unfoldable pub one_failure_more : ℕ → ℕ
-one_failure_more n = min (n + 1) (2 ^ 64 - 1)
+-- a count grows by one, as long as 64 bits hold it
+unfoldable pub GrowsByOne : ℕ → ℕ → Type 0
+GrowsByOne before after = before < 2 ^ 64 - 1 → after ≡ before + 1
 
 -- a call that failed is counted, and no other
 abbrev pub CountsFailure : {X : Type 0} → Result X DeviceFault → ℕ → ℕ → Type 0
 CountsFailure result before after =
-    MatchResult result (λ _. after ≡ before) (λ _. after ≡ one_failure_more before)
+    MatchResult result (λ _. after ≡ before) (λ _. GrowsByOne before after)
 
 -- a count of 64 bits goes on
 abbrev pub one_more : ℕ → ℕ
@@ -27,7 +26,7 @@ CountsStall result offered before after =
 -- a write failed, or one took none of some bytes
 abbrev pub WriteFails : ℕ → ℕ → ℕ → ℕ → Type 0
 WriteFails failures failed stalls stalled =
-    ((failed ≡ one_failure_more failures) × (stalled ≡ stalls))
+    (GrowsByOne failures failed × (stalled ≡ stalls))
     ⊎ ((failed ≡ failures) × (stalled ≡ one_more stalls))
 
 -- the reader or writer in a device, and how often it has failed

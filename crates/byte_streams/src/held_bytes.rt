@@ -3,7 +3,7 @@
 ghost use Rattle.std.specs.Prelude.{◌≡◌, ◌+◌, ◌-◌, ◌<◌, ◌≤◌, ◌++◌, [], ◌∷◌, IfOk, length, take, drop};
 ghost use Rattle.byte_streams.specs.Numbered.{numbered_text};
 
-use crate::streams::{DIGITS_ROOM, Numbered, TEXT_ROOM};
+use crate::line_sink::{DIGITS_ROOM, Numbered, TEXT_ROOM};
 use std::alloc::{AllocError, Global};
 use std::marker::Model;
 

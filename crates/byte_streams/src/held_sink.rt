@@ -4,10 +4,12 @@ ghost use Rattle.std.specs.Prelude.{◌≡◌, ◌≤◌, ◌+◌, [], IfOk, len
 ghost use Rattle.std.specs.Io.KnownBytes.{Appends, Keeps, WriteAppends};
 ghost use Rattle.byte_streams.specs.HeldSink.{contents_of, held_in, failed_writes, stalled_writes, writer_of, TakesFront};
 ghost use Rattle.byte_streams.specs.Numbered.{numbered_text};
-ghost use Rattle.byte_streams.specs.Streams.{one_failure_more, CountsFailure, CountsStall};
+ghost use Rattle.byte_streams.specs.Streams.{CountsFailure, CountsStall, GrowsByOne};
+ghost use Rattle.byte_streams.specs.Writings.{writing, Prints};
 
 use crate::held_bytes::{COPIED, HELD, HeldBytes, MOST};
-use crate::streams::{DeviceFault, Numbered, Sink};
+use crate::line_sink::{Held, LineSink, Numbered, write_apart};
+use crate::streams::{DeviceFault, Sink};
 use std::alloc::{AllocError, Global};
 use std::io::Write;
 
@@ -24,9 +26,9 @@ pub struct HeldSink<T> {
 
 impl<T> HeldSink<T> {
     /// Counts a failure.
-    #[tactic(auto, unfolding(crate::specs::Streams::one_failure_more))]
+    #[tactic(auto, unfolding(crate::specs::Streams::GrowsByOne))]
     fn fault(&mut self) -> DeviceFault
-        ensures failures { failed_writes self.new ≡ one_failure_more (failed_writes self.old) }
+        ensures failures { GrowsByOne (failed_writes self.old) (failed_writes self.new) }
         ensures stalls { stalled_writes self.new ≡ stalled_writes self.old }
         ensures held { held_in self.new ≡ held_in self.old }
         ensures writer { writer_of self.new ≡ writer_of self.old }
@@ -173,25 +175,24 @@ impl<T: Write> Sink for HeldSink<T> {
         }
         self.write_past(buf)
     }
+}
 
+impl<T: Write> LineSink<Held> for HeldSink<T> {
     #[inline(always)]
-    fn take_numbered(&mut self, text: Numbered<'_>) -> bool
+    fn write_numbered(&mut self, text: Numbered<'_>) -> Result<(), DeviceFault>
         requires front { text.front_len ≤ 20 }
         requires text { text.text_len ≤ 128 }
-        ensures taken { result ≡ true
-            → Appends (contents_of T.contents self.old) (contents_of T.contents self.new)
-            (numbered_text text.entry) }
-        ensures untouched { result ≡ false → self.new ≡ self.old }
-        ensures failures { failed_writes self.new ≡ failed_writes self.old }
-        ensures stalls { stalled_writes self.new ≡ stalled_writes self.old }
+        ensures prints { Prints (numbered_text text.entry)
+            (writing (contents_of T.contents) failed_writes stalled_writes self.old self.new)
+            result }
         ensures room { text.entry.text_len ≤ 48 → length (held_in self.old) + 69 ≤ 32768
-            → result ≡ true }
+            → result ≡ Ok tt }
     {
         if text.text_len > COPIED || self.held.len() > HELD - MOST {
-            return false;
+            return write_apart(self, text);
         }
         self.held.push_numbered(text);
-        true
+        Ok(())
     }
 
     fn flush(&mut self) {

@@ -5,8 +5,9 @@
 //! has come of a source and is not yet used, and a [`HeldSink`] what a writer of std is to have. That takes 32 KiB of memory when
 //! it is made; nothing else here takes any.
 //!
-//! For the layer above: [`write_whole`] writes all of its bytes, or a beginning of them where the sink failed or took none.
-//! [`write_numbered`] does so for a short text after a number, which a [`HeldSink`] takes without a call.
+//! For the layer above: [`write_whole`] writes all of its bytes, or a beginning of them if the sink failed or took none.
+//! A [`LineSink`] does so for a short text after a number: a [`HeldSink`] without a call, and any other [`Sink`] by its
+//! `write`.
 //!
 //! ```text
 //! let mut out = Counted::new(stdout);
@@ -19,12 +20,11 @@ pub mod fakes;
 mod fault;
 mod held_bytes;
 mod held_sink;
+mod line_sink;
 mod streams;
 
 pub use buffer::Buffer;
 pub use fault::SourceFault;
 pub use held_sink::HeldSink;
-pub use streams::{
-    Counted, DIGITS_ROOM, DeviceFault, Numbered, Sink, Source, TEXT_ROOM, write_numbered,
-    write_whole,
-};
+pub use line_sink::{DIGITS_ROOM, Direct, Held, LineSink, Numbered, TEXT_ROOM};
+pub use streams::{Counted, DeviceFault, Sink, Source, write_whole};

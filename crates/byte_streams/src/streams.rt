@@ -2,34 +2,13 @@
 //! its failures, so that a contract can say what was read and written, and that a fault comes only
 //! where a device failed.
 
-ghost use Rattle.std.specs.Prelude.{◌≡◌, ℕ, ◌+◌, ◌<◌, ◌≤◌, ◌++◌, List, Option, Some, Ok, IfOk, IfErr, min, length, take, true, false};
-ghost use Rattle.arrayvec.specs.ArrayVec.{array_vec_len};
-ghost use Rattle.std.specs.Io.KnownBytes.{ReadConsumes, WriteAppends, Appends, Keeps};
+ghost use Rattle.std.specs.Prelude.{◌≡◌, ℕ, ◌≤◌, List, Option, Some, Ok, IfOk, min, length};
+ghost use Rattle.std.specs.Io.KnownBytes.{ReadConsumes, WriteAppends};
 ghost use Rattle.byte_streams.specs.Streams.{CountsFailure, CountsStall, inner_of, failures_of, stalls_of};
-ghost use Rattle.byte_streams.specs.Numbered.{numbered_text};
 ghost use Rattle.byte_streams.specs.Writings.{writing, Prints};
 
-use arrayvec::ArrayVec;
 use std::io::{Read, Write};
 use thiserror::Error;
-
-/// How many bytes the array of a short text has room for.
-pub const TEXT_ROOM: usize = 128;
-
-/// How many bytes the array of a number's first digits has room for.
-pub const DIGITS_ROOM: usize = 20;
-
-/// A short text after a number. The number's last digit is separate, and of both arrays only the first bytes count.
-#[derive(Clone, Copy)]
-pub struct Numbered<'a> {
-    /// The digits before the last one.
-    pub front: &'a [u8; DIGITS_ROOM],
-    pub front_len: usize,
-    pub last: u8,
-    /// What comes after the number.
-    pub text: &'a [u8; TEXT_ROOM],
-    pub text_len: usize,
-}
 
 /// A device did not read or write.
 #[derive(Clone, Copy, Debug, PartialEq, Eq, Error)]
@@ -41,7 +20,7 @@ pub trait Source {
     /// The bytes that are still to come, where they are known.
     ghost remaining: { Self → Option (List ℕ) };
 
-    /// How often a read has failed, in 64 bits: the count stays at its greatest.
+    /// The number of reads that have failed. Each failure adds one, as long as 64 bits hold the number.
     ghost failures: { Self → ℕ };
 
     /// Reads some bytes to the front of `buf`, and says how many. None into a buffer that is not
@@ -57,7 +36,7 @@ pub trait Sink {
     /// The bytes that it has taken, where they are known.
     ghost contents: { Self → Option (List ℕ) };
 
-    /// How often a write has failed, in 64 bits: the count stays at its greatest.
+    /// The number of writes that have failed. Each failure adds one, as long as 64 bits hold the number.
     ghost failures: { Self → ℕ };
 
     /// How often a write took none of some bytes, in 64 bits.
@@ -69,29 +48,6 @@ pub trait Sink {
         ensures bytes { WriteAppends (contents self.old) (contents self.new) result buf.now }
         ensures failures { CountsFailure result (failures self.old) (failures self.new) }
         ensures stalls { CountsStall result buf.now (stalls self.old) (stalls self.new) };
-
-    /// Takes a numbered text at once, where it holds bytes and has room for them, and says whether it did. It may copy more of the
-    /// arrays than it takes: a copy of a length that the compiler knows takes no call, and no branch.
-    #[inline(always)]
-    fn take_numbered(&mut self, text: Numbered<'_>) -> bool
-        requires front { text.front_len ≤ 20 }
-        requires text { text.text_len ≤ 128 }
-        ensures taken { result ≡ true
-            → Appends (contents self.old) (contents self.new) (numbered_text text.entry) }
-        ensures untouched { result ≡ false → self.new ≡ self.old }
-        ensures failures { failures self.new ≡ failures self.old }
-        ensures stalls { stalls self.new ≡ stalls self.old }
-    {
-        false
-    }
-
-    /// Hands on what it holds back, where it holds any. What can't be handed on now is still held: a later write says so, or
-    /// the end.
-    fn flush(&mut self)
-        ensures bytes { Keeps (contents self.old) (contents self.new) }
-        ensures failures { failures self.new ≡ failures self.old }
-        ensures stalls { stalls self.new ≡ stalls self.old }
-    {}
 }
 
 /// Bytes that are all there. No read of them fails.
@@ -153,7 +109,7 @@ impl<T: Read> Source for Counted<T> {
 
     ghost failures = { failures_of };
 
-    #[tactic(auto, unfolding(crate::specs::Streams::one_failure_more))]
+    #[tactic(auto, unfolding(crate::specs::Streams::GrowsByOne))]
     fn read(&mut self, buf: &mut [u8]) -> Result<usize, DeviceFault> {
         match self.inner.read(buf) {
             Ok(n) => Ok(n),
@@ -172,7 +128,7 @@ impl<T: Write> Sink for Counted<T> {
 
     ghost stalls = { stalls_of };
 
-    #[tactic(auto, unfolding(crate::specs::Streams::one_failure_more))]
+    #[tactic(auto, unfolding(crate::specs::Streams::GrowsByOne))]
     fn write(&mut self, buf: &[u8]) -> Result<usize, DeviceFault> {
         match self.inner.write(buf) {
             Ok(n) => {
@@ -186,10 +142,6 @@ impl<T: Write> Sink for Counted<T> {
                 Err(DeviceFault)
             }
         }
-    }
-
-    fn flush(&mut self) {
-        let _ = self.inner.flush();
     }
 }
 
@@ -226,58 +178,4 @@ pub fn write_whole<W: Sink>(sink: &mut W, bytes: &[u8]) -> Result<(), DeviceFaul
         return write_on(sink, &bytes[n..]);
     }
     Err(DeviceFault)
-}
-
-/// The bytes of a numbered text.
-type Joined = ArrayVec<u8, 160>;
-
-/// Appends bytes to those of a text that has room for them.
-fn append(text: &mut Joined, bytes: &[u8])
-    requires { array_vec_len text.old + length bytes.now ≤ 160 }
-    ensures items { text.new.items ≡ text.old.items ++ bytes.now }
-    ensures len { array_vec_len text.new ≡ array_vec_len text.old + length bytes.now }
-{
-    let Ok(()) = text.try_extend_from_slice(bytes) else {
-        unreachable!();
-    };
-}
-
-/// The bytes of a numbered text, one after the other.
-fn joined(text: Numbered<'_>) -> Joined
-    requires front { text.front_len ≤ 20 }
-    requires text { text.text_len ≤ 128 }
-    ensures { result.items ≡ numbered_text text.entry }
-{
-    let front = text.front;
-    let behind = text.text;
-    let mut bytes = ArrayVec::new();
-    append(&mut bytes, &front[..text.front_len]);
-    append(&mut bytes, &[text.last]);
-    append(&mut bytes, &behind[..text.text_len]);
-    bytes
-}
-
-/// Writes all of a numbered text, as [`write_whole`] does. It is not inlined, as nearly all are taken at once.
-#[inline(never)]
-fn write_apart<W: Sink>(sink: &mut W, text: Numbered<'_>) -> Result<(), DeviceFault>
-    requires front { text.front_len ≤ 20 }
-    requires text { text.text_len ≤ 128 }
-    ensures { Prints (numbered_text text.entry)
-        (writing W.contents W.failures W.stalls sink.old sink.new) result }
-{
-    write_whole(sink, joined(text).as_slice())
-}
-
-/// Writes all of a numbered text, as [`write_whole`] does.
-#[inline(always)]
-pub fn write_numbered<W: Sink>(sink: &mut W, text: Numbered<'_>) -> Result<(), DeviceFault>
-    requires front { text.front_len ≤ 20 }
-    requires text { text.text_len ≤ 128 }
-    ensures { Prints (numbered_text text.entry)
-        (writing W.contents W.failures W.stalls sink.old sink.new) result }
-{
-    if sink.take_numbered(text) {
-        return Ok(());
-    }
-    write_apart(sink, text)
 }

@@ -5,7 +5,7 @@ use Rattle.std.specs.Prelude.{MatchResult}
 use Rattle.std.specs.Io.KnownBytes.{Consumes, IsAtEnd}
 use Rattle.std.proofs.lemmas.Bool.Decides.{nat_tests}
 use Rattle.std.proofs.lemmas.Grind.{common_steps}
-use Rattle.byte_streams.specs.Streams.{one_failure_more}
+use Rattle.byte_streams.specs.Streams.{GrowsByOne}
 use Rattle.byte_streams.specs.declared.fault.SourceFault.TheVariants as faults
 use Rattle.certificate_check.specs.declared.refusal.CheckRefusal.{CheckRefusal}
 use Rattle.certificate_format.specs.declared.header.Header.{Header}
@@ -54,7 +54,7 @@ large_as AtEnd n at h is = absurd (cc)
 large_as TooLarge n at h is = (h.1, h.2)
 large_as Failed n at h is = absurd (cc)
 
-failed_as : (i : Inflow) (n : ℕ) (at : WindowState) → IsSoundAs i n at → fault_of i ≡ Some faults.Read → at.failures ≡ one_failure_more n
+failed_as : (i : Inflow) (n : ℕ) (at : WindowState) → IsSoundAs i n at → fault_of i ≡ Some faults.Read → GrowsByOne n at.failures
 failed_as Open n at h is = absurd (cc)
 failed_as AtEnd n at h is = absurd (cc)
 failed_as TooLarge n at h is = absurd (cc)
@@ -98,7 +98,7 @@ large_from old new most P read fresh is =
 
 pub failed_from :
     (old new : WindowState) (most : ℕ) (P : List ℕ → List ℕ → Type 0) → Reads old new P → IsFresh old most → fault_of new.window.inflow ≡ Some faults.Read
-    → new.failures ≡ one_failure_more old.failures
+    → GrowsByOne old.failures new.failures
 failed_from old new most P read fresh is = failed_as new.window.inflow old.failures new (read.sound old.failures (fresh_sound old most fresh)) is
 
 pub well_from :

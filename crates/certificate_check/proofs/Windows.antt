@@ -9,7 +9,7 @@ use Rattle.std.proofs.lemmas.List.{append-nil}
 use Rattle.std.proofs.lemmas.Bool.{eqb-true, eq-eqb}
 use Rattle.std.proofs.lemmas.Bool.Decides.{nat_tests}
 use Rattle.std.proofs.lemmas.Grind.{common_steps}
-use Rattle.byte_streams.specs.Streams.{one_failure_more}
+use Rattle.byte_streams.specs.Streams.{GrowsByOne}
 use Rattle.certificate_format.specs.declared.fault.ReadFault.{ReadFault}
 use Rattle.certificate_check.specs.declared.refusal.CheckRefusal.{CheckRefusal}
 use Rattle.certificate_check.specs.declared.stop.Stop.{Stop}
@@ -197,8 +197,8 @@ reads_thrice a b c d P Q R S first second third all = record {
 
 -- ---- bytes that are all there
 
-never_none : 0 ≡ one_failure_more 0 → ⊥
-unfolding one_failure_more
+never_none : GrowsByOne 0 0 → ⊥
+unfolding GrowsByOne
 never_none e = omega (arith, e)
 
 -- what is left of a slice

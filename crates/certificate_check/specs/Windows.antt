@@ -2,7 +2,7 @@
 use Rattle.std.specs.Prelude.{◌≡◌, ◌≢◌, ℕ, ◌+◌, ◌-◌, ◌^◌, ◌<◌, ◌≤◌, min, List, [], ◌++◌, length}
 use Rattle.std.specs.Prelude.{Option, None, Some, Result, Ok, Err}
 use Rattle.std.specs.Io.KnownBytes.{Consumes, IsAtEnd}
-use Rattle.byte_streams.specs.Streams.{one_failure_more}
+use Rattle.byte_streams.specs.Streams.{GrowsByOne}
 use Rattle.certificate_format.specs.declared.header.Header.{Header}
 use Rattle.byte_streams.specs.declared.fault.SourceFault.{SourceFault}
 use Rattle.byte_streams.specs.declared.fault.SourceFault.TheVariants as faults
@@ -46,7 +46,7 @@ IsSoundAs AtEnd failures at = (at.failures ≡ failures) × (at.window.came ≤ 
     × IsAtEnd at.remaining
 IsSoundAs TooLarge failures at = (at.failures ≡ failures) × (at.window.most < at.window.came)
     × (at.window.came < 2 ^ 64)
-IsSoundAs Failed failures at = at.failures ≡ one_failure_more failures
+IsSoundAs Failed failures at = GrowsByOne failures at.failures
 
 abbrev pub IsSound : ℕ → WindowState → Type 0
 IsSound failures at = IsSoundAs at.window.inflow failures at

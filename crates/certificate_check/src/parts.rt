@@ -106,7 +106,8 @@ fn costs_in(bytes: &[u8]) -> Result<SixCosts, ReadFault>
         × ((perm : Perm) → cost_of costs perm < 2 ^ 32)) (ShortFault 24 bytes.now) }
 {
     let mut reader = Reader::new(bytes);
-    reader.costs()
+    let costs = reader.costs()?;
+    Ok(costs.six())
 }
 
 /// The six costs of a branch.

@@ -2,7 +2,7 @@
 
 ghost use Rattle.std.specs.Prelude.{◌≡◌, ◌≢◌, ℕ, ◌<◌, ◌≤◌, ◌^◌, List, IfOk, Some, MatchResult, Ok, Err, length};
 ghost use Rattle.std.specs.Io.KnownBytes.{Consumes, IsAtEnd};
-ghost use Rattle.byte_streams.specs.Streams.{one_failure_more};
+ghost use Rattle.byte_streams.specs.Streams.{GrowsByOne};
 ghost use Rattle.pmp_encoding.specs.declared.region.Entry.{Entry};
 ghost use Rattle.certificate_format.specs.Spelling.{SpellsEntries};
 ghost use Rattle.permission_map.specs.Runs.{view_of_runs};
@@ -130,7 +130,7 @@ pub fn check_source<R: Source>(
         → (bytes : List ℕ) × Consumes (R.remaining source.old) (R.remaining source.new) bytes
         × ClaimFitsFile most bytes }
     ensures failed { result ≡ Err SourceFault.Read
-        → R.failures source.new ≡ one_failure_more (R.failures source.old) }
+        → GrowsByOne (R.failures source.old) (R.failures source.new) }
     ensures well { result ≢ Err SourceFault.Read
         → R.failures source.new ≡ R.failures source.old }
 {

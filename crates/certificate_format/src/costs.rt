@@ -2,6 +2,7 @@
 
 use byteorder::{ByteOrder, LittleEndian};
 use pmp_encoding::Perm;
+use std::marker::Model;
 
 /// A number for each permission: how many entries a block costs at least, where that permission surrounds it.
 #[derive(Clone, Copy)]
@@ -17,7 +18,7 @@ pub struct SixCosts {
 ghost use Rattle.std.specs.Prelude.{◌≡◌, ◌+◌, ◌^◌, ◌<◌, ◌≤◌, drop, length};
 ghost use Rattle.byteorder.specs.Endian.{little_number};
 ghost use Rattle.pmp_encoding.specs.declared.perm.Perm.{Perm};
-ghost use Rattle.certificate_format.specs.Costs.{cost_of, costs_in};
+ghost use Rattle.certificate_format.specs.Costs.{cost_of};
 ghost use Rattle.certificate_format.specs.Spelling.{costs_bytes};
 
 /// The four bytes from a place on, the lowest first.
@@ -28,22 +29,32 @@ fn number_at(bytes: &[u8], place: usize) -> u32
     LittleEndian::read_u32(&bytes[place..])
 }
 
-impl SixCosts {
-    /// The costs in twenty-four bytes, in the order none, R, RW, X, RX, RWX.
-    pub(crate) fn of(bytes: &[u8]) -> SixCosts
+/// The twenty-four bytes of the costs of a branch: six numbers of four bytes each, the lowest byte first, in the order none,
+/// R, RW, X, RX, RWX.
+#[derive(Drop)]
+pub struct BranchCosts<'a> {
+    bytes: &'a [u8],
+}
+
+impl<'a> Model for BranchCosts<'a> {
+    ghost use Rattle.std.specs.Prelude.{◌≡◌, length};
+    ghost use Rattle.certificate_format.specs.declared.costs.SixCosts.{SixCosts};
+    ghost use Rattle.certificate_format.specs.Costs.{costs_in};
+
+    ghost Value = { SixCosts };
+
+    ghost view = { λ c. costs_in c.bytes.now };
+
+    ghost invariant = { λ c. length c.bytes.now ≡ 24 };
+}
+
+impl<'a> BranchCosts<'a> {
+    pub(crate) fn of(bytes: &'a [u8]) -> BranchCosts<'a>
         requires { length bytes.now ≡ 24 }
-        ensures costs { result ≡ costs_in bytes.now }
-        ensures spelled { bytes.now ≡ costs_bytes (cost_of result) }
+        ensures spelled { bytes.entry.now ≡ costs_bytes (cost_of result) }
         ensures fits { (perm : Perm) → cost_of result perm < 2 ^ 32 }
     {
-        SixCosts {
-            no_access: number_at(bytes, 0),
-            read: number_at(bytes, 4),
-            read_write: number_at(bytes, 8),
-            execute: number_at(bytes, 12),
-            read_execute: number_at(bytes, 16),
-            read_write_execute: number_at(bytes, 20),
-        }
+        BranchCosts { bytes }
     }
 
     /// The cost where this permission surrounds the block.
@@ -51,12 +62,28 @@ impl SixCosts {
         ensures { result ≡ cost_of self.now perm }
     {
         match perm {
-            Perm::NoAccess => self.no_access,
-            Perm::Read => self.read,
-            Perm::ReadWrite => self.read_write,
-            Perm::Execute => self.execute,
-            Perm::ReadExecute => self.read_execute,
-            Perm::ReadWriteExecute => self.read_write_execute,
+            Perm::NoAccess => number_at(self.bytes, 0),
+            Perm::Read => number_at(self.bytes, 4),
+            Perm::ReadWrite => number_at(self.bytes, 8),
+            Perm::Execute => number_at(self.bytes, 12),
+            Perm::ReadExecute => number_at(self.bytes, 16),
+            Perm::ReadWriteExecute => number_at(self.bytes, 20),
+        }
+    }
+
+    /// All six costs.
+    #[inline(always)]
+    pub fn six(&self) -> SixCosts
+        ensures { result ≡ self.now }
+    {
+        let bytes = self.bytes;
+        SixCosts {
+            no_access: number_at(bytes, 0),
+            read: number_at(bytes, 4),
+            read_write: number_at(bytes, 8),
+            execute: number_at(bytes, 12),
+            read_execute: number_at(bytes, 16),
+            read_write_execute: number_at(bytes, 20),
         }
     }
 }

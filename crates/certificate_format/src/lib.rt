@@ -23,7 +23,7 @@ mod header;
 mod parts;
 mod reader;
 
-pub use costs::SixCosts;
+pub use costs::{BranchCosts, SixCosts};
 pub use fault::ReadFault;
 pub use header::{Header, Version};
 pub use parts::EntryBytes;

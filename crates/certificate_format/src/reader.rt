@@ -11,7 +11,7 @@ ghost use Rattle.certificate_format.specs.Spelling.{magic, version_bytes, u32_by
 ghost use Rattle.certificate_format.specs.Tags.{tag_byte};
 ghost use Rattle.certificate_format.specs.Faults.{ShortFault, MagicFault, VersionFault, HeaderFault, TagFault, PermFault};
 
-use crate::costs::SixCosts;
+use crate::costs::BranchCosts;
 use crate::fault::ReadFault;
 use crate::header::{Header, Version};
 use crate::parts::EntryBytes;
@@ -175,8 +175,8 @@ impl<'a> Reader<'a> {
         Ok(perm)
     }
 
-    /// The six costs of a branch. Answers `Truncated` where fewer than twenty-four bytes are left.
-    pub fn costs(&mut self) -> Result<SixCosts, ReadFault>
+    /// The bytes of the six costs of a branch, whatever they say. Answers `Truncated` where fewer than twenty-four bytes are left.
+    pub fn costs(&mut self) -> Result<BranchCosts<'a>, ReadFault>
         ensures read { IfOk result (λ costs.
             self.old ≡ costs_bytes (cost_of costs) ++ self.new) }
         ensures fits { IfOk result (λ costs. (perm : Perm) → cost_of costs perm < 2 ^ 32) }
@@ -191,6 +191,6 @@ impl<'a> Reader<'a> {
             return Err(ReadFault::Truncated);
         };
         *self = Reader::new(rest);
-        Ok(SixCosts::of(bytes))
+        Ok(BranchCosts::of(bytes))
     }
 }

@@ -2,7 +2,7 @@
 use Rattle.std.proofs.Common.{ℕ, ◌≡◌, ◌≢◌, ◌<◌, ◌^◌, ◌⊎◌, inl, inr, List, Result, Ok, Err, IfOk, IfErr, length, refl}
 use Rattle.std.specs.Borrow.{Bor}
 use Rattle.std.specs.Io.KnownBytes.{Consumes}
-use Rattle.byte_streams.specs.Streams.{one_failure_more}
+use Rattle.byte_streams.specs.Streams.{GrowsByOne}
 use Rattle.map_text.specs.declared.map_file.MapFileFault.{MapFileFault}
 use Rattle.map_text.specs.declared.map_file.MapFileFault.TheVariants as maps
 use Rattle.map_text.specs.MapFile.{FaultAt, IsUnknown, Makes, MakesFirst, MakesTooMany}
@@ -22,7 +22,7 @@ use Rattle.command_inputs.specs.Troubles.{map_trouble, source_trouble}
 pub no_bytes :
     {R : Type 0} (most : ℕ) (file : Bor (List ℕ)) (source : Reading R) (fault : SourceFault)
     → (fault ≡ whole.TooLarge → (bytes : List ℕ) × Consumes source.before source.after bytes × (most < length bytes))
-    → (fault ≡ whole.Read → source.failed ≡ one_failure_more source.failures)
+    → (fault ≡ whole.Read → GrowsByOne source.failures source.failed)
     → (fault ≢ whole.Read → source.failed ≡ source.failures)
     → HasNoBytes most file source (source_trouble file fault)
 no_bytes most file source whole.TooLarge large failed well = let b = large refl in too_large b.0 b.1 b.2

@@ -2,7 +2,7 @@
 use Rattle.std.specs.Prelude.{◌≡◌, ℕ, ◌^◌, ◌<◌, ◌≤◌, List, Option, length}
 use Rattle.std.specs.Borrow.{Bor}
 use Rattle.std.specs.Io.KnownBytes.{Consumes, IsAtEnd}
-use Rattle.byte_streams.specs.Streams.{one_failure_more}
+use Rattle.byte_streams.specs.Streams.{GrowsByOne}
 use Rattle.permission_map.specs.declared.runs.Run.{Run}
 use Rattle.map_text.specs.declared.map_file.MapFileFault.{MapFileFault}
 use Rattle.map_text.specs.declared.map_file.MapFileFault.TheVariants as maps
@@ -50,7 +50,7 @@ pub data HasNoBytes {R : Type 0} (most : ℕ) (file : Bor (List ℕ)) (source : 
     → Type 0 where
   too_large : (bytes : List ℕ) → Consumes source.before source.after bytes → most < length bytes
       → HasNoBytes most file source (TooLarge file)
-  cannot_read : source.failed ≡ one_failure_more source.failures
+  cannot_read : GrowsByOne source.failures source.failed
       → HasNoBytes most file source (CannotRead file)
   memory : source.failed ≡ source.failures → HasNoBytes most file source Memory
 

@@ -3,7 +3,7 @@ use Rattle.std.specs.Prelude.{◌≡◌, ◌≢◌, ℕ, ◌*◌, ◌^◌, ◌<�
 use Rattle.std.specs.Prelude.{length}
 use Rattle.std.specs.Borrow.{Bor}
 use Rattle.std.specs.Io.KnownBytes.{Appends}
-use Rattle.byte_streams.specs.Streams.{one_failure_more}
+use Rattle.byte_streams.specs.Streams.{GrowsByOne}
 use Rattle.byte_streams.specs.Writings.{Breaks, IsUnwritten, TakesAll, Writing, writing}
 use Rattle.pmp_encoding.specs.declared.bank.Bank.{Bank}
 use Rattle.pmp_encoding.specs.declared.limit.Limit.{Limit}
@@ -82,7 +82,7 @@ pub data CertificateNotWritten {C : Type 0} (bytes : List ℕ) (cert : Placing C
   not_written : Breaks bytes cert.sink → KeepsOldFile cert → CertificateNotWritten bytes cert
   not_moved :
       Appends cert.sink.before cert.sink.after bytes
-      → cert.sink.failed ≡ one_failure_more cert.sink.failures
+      → GrowsByOne cert.sink.failures cert.sink.failed
       → cert.sink.stalled ≡ cert.sink.stalls → KeepsOldFile cert
       → CertificateNotWritten bytes cert
 

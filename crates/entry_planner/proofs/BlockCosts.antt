@@ -15,7 +15,8 @@ use Rattle.prefix_tree.specs.Chains.{chained}
 use Rattle.prefix_tree.proofs.Nested.{splits-chained}
 use Rattle.entry_planner.specs.Best.{any_of, is_best, least_cost}
 use Rattle.entry_planner.specs.PermSets.{set_of}
-use Rattle.entry_planner.specs.Plans.{as_block, block_cost, costs_in, split_cost}
+use Rattle.entry_planner.specs.PackedCosts.{as_block, split_cost, splits_in}
+use Rattle.entry_planner.specs.Plans.{block_cost}
 use Rattle.entry_planner.proofs.Sets.{bit_and-sets, bit_or-sets, set_of-empty, set_of-most}
 
 -- a split block's cost, from those of its halves, where it is known whether their sets meet
@@ -97,14 +98,14 @@ added_both old low high x =
 
 -- so for the costs of a split block
 pub costs_added :
-    (tree low high : PermTree) (old mid items all : List SplitCost) → tree ≡ Split low high → mid ≡ old ++ reverse (costs_in high)
-    → items ≡ mid ++ reverse (costs_in low)
-    → all ≡ items ++ split_cost low high ∷ [] → all ≡ old ++ reverse (costs_in tree)
+    (tree low high : PermTree) (old mid items all : List SplitCost) → tree ≡ Split low high → mid ≡ old ++ reverse (splits_in high)
+    → items ≡ mid ++ reverse (splits_in low)
+    → all ≡ items ++ split_cost low high ∷ [] → all ≡ old ++ reverse (splits_in tree)
 costs_added tree low high old mid items all split m i a =
     a
-    ∙ ap (λ l. l ++ split_cost low high ∷ []) (i ∙ ap (λ l. l ++ reverse (costs_in low)) m)
-    ∙ added_both old (costs_in low) (costs_in high) (split_cost low high)
-    ∙ ap (λ t. old ++ reverse (costs_in t)) (sym split)
+    ∙ ap (λ l. l ++ split_cost low high ∷ []) (i ∙ ap (λ l. l ++ reverse (splits_in low)) m)
+    ∙ added_both old (splits_in low) (splits_in high) (split_cost low high)
+    ∙ ap (λ t. old ++ reverse (splits_in t)) (sym split)
 
 -- the number of a tree that is not too large fits its type, and one more does
 pub least_small : (tree : PermTree) (c : BlockCost) → splits tree + 1 < 2 ^ 32 → c ≡ block_cost tree → c.least + 1 < 2 ^ 32

@@ -6,7 +6,8 @@ use Rattle.prefix_tree.specs.Chains.{nested, chained}
 use Rattle.prefix_tree.proofs.Nested.{nested_lower, nested_upper}
 use Rattle.entry_planner.specs.declared.costs.BlockCost.{BlockCost}
 use Rattle.entry_planner.specs.declared.costs.SplitCost.{SplitCost}
-use Rattle.entry_planner.specs.Plans.{block_cost, costs_in, split_cost}
+use Rattle.entry_planner.specs.PackedCosts.{split_cost, splits_in}
+use Rattle.entry_planner.specs.Plans.{block_cost}
 use Rattle.entry_planner.proofs.BlockCosts.{added_first, added_low}
 
 -- what is known once the blocks of up to 2 ^ level times the smallest one's pages are done: `low` blocks of its size come before it in the largest of them
@@ -16,8 +17,8 @@ pub record IsRaised (chain : Chain) (rest level : ℕ) (smallest cost : BlockCos
   pub place : chain.place ≡ rest * 2 ^ level + low
   pub few : cost.least ≤ smallest.least + level
   pub own : (tree : PermTree) → smallest ≡ block_cost tree → cost ≡ block_cost (nested level low chain.before chain.behind tree)
-  pub costs_are : (tree : PermTree) (first : List SplitCost) → smallest ≡ block_cost tree → costs0 ≡ first ++ reverse (costs_in tree)
-      → costs ≡ first ++ reverse (costs_in (nested level low chain.before chain.behind tree))
+  pub costs_are : (tree : PermTree) (first : List SplitCost) → smallest ≡ block_cost tree → costs0 ≡ first ++ reverse (splits_in tree)
+      → costs ≡ first ++ reverse (splits_in (nested level low chain.before chain.behind tree))
 
 pub begun : (chain : Chain) (smallest : BlockCost) (costs : List SplitCost) → IsRaised chain chain.place 0 smallest smallest costs costs
 begun chain smallest costs = record {
@@ -63,8 +64,8 @@ raised_upper chain rest q level before smallest cost next costs0 costs new odd i
           λ t first e before_all.
           all (Uniform chain.before) (half t) is (r.own t e)
           ∙ ap (λ l. l ++ split_cost (Uniform chain.before) (half t) ∷ []) (r.costs_are t first e before_all)
-          ∙ added_first first (costs_in (half t)) (split_cost (Uniform chain.before) (half t))
-          ∙ ap (λ x. first ++ reverse (costs_in x)) (sym (split t));
+          ∙ added_first first (splits_in (half t)) (split_cost (Uniform chain.before) (half t))
+          ∙ ap (λ x. first ++ reverse (splits_in x)) (sym (split t));
     })
 
 -- the lower half
@@ -93,8 +94,8 @@ raised_lower chain rest q level behind smallest cost next costs0 costs new even 
           λ t first e before_all.
           all (half t) (Uniform chain.behind) (r.own t e) is
           ∙ ap (λ l. l ++ split_cost (half t) (Uniform chain.behind) ∷ []) (r.costs_are t first e before_all)
-          ∙ added_low first (costs_in (half t)) (split_cost (half t) (Uniform chain.behind))
-          ∙ ap (λ x. first ++ reverse (costs_in x)) (sym (split t));
+          ∙ added_low first (splits_in (half t)) (split_cost (half t) (Uniform chain.behind))
+          ∙ ap (λ x. first ++ reverse (splits_in x)) (sym (split t));
     })
 
 none_left : (n m low place : ℕ) → place ≡ n * m + low → place < m → low ≡ place

@@ -15,7 +15,7 @@ use Rattle.entry_planner.specs.declared.costs.SplitCost.{SplitCost}
 use Rattle.entry_planner.specs.Best.{is_best}
 use Rattle.entry_planner.specs.Choice.{AddsChosen, IsChosenAt, handed_on}
 use Rattle.entry_planner.specs.Placement.{ArePages, IsOwn}
-use Rattle.entry_planner.specs.Plans.{costs_in, split_cost}
+use Rattle.entry_planner.specs.PackedCosts.{split_cost, splits_in}
 use Rattle.entry_planner.proofs.Choices.{kept_handed}
 use Rattle.entry_planner.proofs.SamePerm.{perm_eq-same}
 use Rattle.entry_planner.proofs.Sets.{has-set_of}
@@ -143,7 +143,7 @@ inside_pages k n j first place height inside pages =
 
 larger_costs :
     (n place : ℕ) (before behind : Perm) (tree : PermTree)
-    → (larger : List SplitCost) × (costs_in (nested n place before behind tree) ≡ larger ++ costs_in tree) × (length larger ≡ n)
+    → (larger : List SplitCost) × (splits_in (nested n place before behind tree) ≡ larger ++ splits_in tree) × (length larger ≡ n)
 larger_costs zero place before behind tree = ([], refl, refl)
 larger_costs (suc n) place before behind tree =
     ⊎_elim
@@ -152,7 +152,7 @@ larger_costs (suc n) place before behind tree =
     let r = larger_costs n place before behind tree in
     let own : SplitCost = split_cost half (Uniform behind) in (
       own ∷ r.0,
-      ap costs_in (nested_lower n place before behind tree low) ∙ ap (λ l. own ∷ l) (append-nil (costs_in half) ∙ r.1),
+      ap splits_in (nested_lower n place before behind tree low) ∙ ap (λ l. own ∷ l) (append-nil (splits_in half) ∙ r.1),
       omega (arith, r.2),
     ))
     (λ high.
@@ -160,7 +160,7 @@ larger_costs (suc n) place before behind tree =
     let r = larger_costs n (place - 2 ^ n) before behind tree in
     let own : SplitCost = split_cost (Uniform before) half in (
       own ∷ r.0,
-      ap costs_in (nested_upper n place before behind tree high) ∙ ap (λ l. own ∷ l) r.1,
+      ap splits_in (nested_upper n place before behind tree high) ∙ ap (λ l. own ∷ l) r.1,
       omega (arith, r.2),
     ))
     (cases_lt place (2 ^ n))
@@ -169,18 +169,18 @@ larger_costs (suc n) place before behind tree =
 pub record AreSmallest (costs : List SplitCost) (n : ℕ) (shape tree : PermTree) : Type 0 where
   pub levels : n ≤ length costs
   pub ends : EndsWith (take (length costs - n) costs) tree
-  pub back : (rest : List SplitCost) → take (length costs - n) costs ≡ rest ++ reverse (costs_in tree) → costs ≡ rest ++ reverse (costs_in shape)
+  pub back : (rest : List SplitCost) → take (length costs - n) costs ≡ rest ++ reverse (splits_in tree) → costs ≡ rest ++ reverse (splits_in shape)
 
 pub smallest_costs : (costs : List SplitCost) (chain : Chain) (shape tree : PermTree) → shape ≡ chained chain tree → EndsWith costs shape
     → AreSmallest costs chain.levels shape tree
 smallest_costs costs chain shape tree is ends =
     let larger = larger_costs chain.levels chain.place chain.before chain.behind tree in
-    let front : List SplitCost = ends.0 ++ reverse (costs_in tree) in
+    let front : List SplitCost = ends.0 ++ reverse (splits_in tree) in
     let last : List SplitCost = reverse larger.0 in
-    let apart : (rest : List SplitCost) → rest ++ reverse (costs_in shape) ≡ (rest ++ reverse (costs_in tree)) ++ last =
+    let apart : (rest : List SplitCost) → rest ++ reverse (splits_in shape) ≡ (rest ++ reverse (splits_in tree)) ++ last =
     λ rest.
-    ap (λ l. rest ++ reverse l) (ap costs_in is ∙ larger.1) ∙ ap (λ l. rest ++ l) (reverse-append larger.0 (costs_in tree))
-    ∙ sym (append_assoc rest (reverse (costs_in tree)) last) in
+    ap (λ l. rest ++ reverse l) (ap splits_in is ∙ larger.1) ∙ ap (λ l. rest ++ l) (reverse-append larger.0 (splits_in tree))
+    ∙ sym (append_assoc rest (reverse (splits_in tree)) last) in
     let parts : costs ≡ front ++ last = ends.1 ∙ apart ends.0 in
     let count : length costs ≡ length front + chain.levels = ap length parts ∙ length-append front last
     ∙ ap (λ n. length front + n) (length-reverse larger.0 ∙ larger.2) in

@@ -12,7 +12,7 @@ use Rattle.prefix_tree.proofs.Nested.{nested_lower, nested_upper}
 use Rattle.entry_planner.specs.declared.costs.SplitCost.{SplitCost}
 use Rattle.entry_planner.specs.Choice.{AddsChosen, AddsOwn, handed_on}
 use Rattle.entry_planner.specs.Placement.{place_at}
-use Rattle.entry_planner.specs.Plans.{costs_in}
+use Rattle.entry_planner.specs.PackedCosts.{splits_in}
 use Rattle.entry_planner.proofs.ChainPlaced.{Completes, begun, completed, went_down, went_up}
 use Rattle.entry_planner.proofs.Walked.{halves_fit_in, some_left}
 
@@ -75,7 +75,7 @@ split_at_lower chain tree depth some even = split_lower chain tree (chain.levels
 -- and has its cost in the list
 pub cost_left :
     (costs : List SplitCost) (chain : Chain) (tree : PermTree) (depth : ℕ) → depth < chain.levels
-    → (rest : List SplitCost) × (costs ≡ rest ++ reverse (costs_in (left_at chain depth tree))) → 1 ≤ length costs
+    → (rest : List SplitCost) × (costs ≡ rest ++ reverse (splits_in (left_at chain depth tree))) → 1 ≤ length costs
 cost_left costs chain tree depth some ends =
     ⊎_elim (λ even. some_left costs (left_at chain depth tree) _ _ (split_at_lower chain tree depth some even) ends)
     (λ odd. some_left costs (left_at chain depth tree) _ _ (split_at_upper chain tree depth some (omega (arith, odd))) ends)
@@ -134,11 +134,11 @@ pub record WalkedTo (top root : ℕ) (p : Perm) (chain : Chain) (tree : PermTree
 
 pub all_costs :
     (costs : List SplitCost) (chain : Chain) (tree : PermTree) → chain.place < 2 ^ chain.levels
-    → ((rest : List SplitCost) → costs ≡ rest ++ reverse (costs_in (left_at chain 0 tree)) → costs ≡ rest ++ reverse (costs_in (chained chain tree)))
-    × ((rest : List SplitCost) → costs ≡ rest ++ reverse (costs_in (chained chain tree)) → costs ≡ rest ++ reverse (costs_in (left_at chain 0 tree)))
+    → ((rest : List SplitCost) → costs ≡ rest ++ reverse (splits_in (left_at chain 0 tree)) → costs ≡ rest ++ reverse (splits_in (chained chain tree)))
+    × ((rest : List SplitCost) → costs ≡ rest ++ reverse (splits_in (chained chain tree)) → costs ≡ rest ++ reverse (splits_in (left_at chain 0 tree)))
 all_costs costs chain tree small = (
-  λ rest e. e ∙ ap (λ t. rest ++ reverse (costs_in t)) (whole chain tree small),
-  λ rest e. e ∙ ap (λ t. rest ++ reverse (costs_in t)) (sym (whole chain tree small)),
+  λ rest e. e ∙ ap (λ t. rest ++ reverse (splits_in t)) (whole chain tree small),
+  λ rest e. e ∙ ap (λ t. rest ++ reverse (splits_in t)) (sym (whole chain tree small)),
 )
 
 pub begun_at :

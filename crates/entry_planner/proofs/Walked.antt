@@ -12,7 +12,7 @@ use Rattle.prefix_tree.specs.Joined.{one_perm}
 use Rattle.entry_planner.specs.declared.costs.SplitCost.{SplitCost}
 use Rattle.entry_planner.specs.Choice.{AddsChosen, AddsOwn, AreChosen, IsChosenAt, handed_on}
 use Rattle.entry_planner.specs.Placement.{ArePages, IsOwn}
-use Rattle.entry_planner.specs.Plans.{costs_in, split_cost}
+use Rattle.entry_planner.specs.PackedCosts.{split_cost, splits_in}
 use Rattle.entry_planner.proofs.Added.{both_added}
 use Rattle.entry_planner.proofs.BlockCosts.{added_both}
 use Rattle.entry_planner.proofs.BlockPages.{lower_pages, upper_pages}
@@ -41,7 +41,7 @@ upper_are_pages k j first height pages =
 -- ---- what the list of costs has
 
 abbrev pub EndsWith : List SplitCost → PermTree → Type 0
-EndsWith costs tree = (rest : List SplitCost) × (costs ≡ rest ++ reverse (costs_in tree))
+EndsWith costs tree = (rest : List SplitCost) × (costs ≡ rest ++ reverse (splits_in tree))
 
 -- the block's own comes last
 last_apart : {X : Type 0} (xs ys : List X) (x d : X) → xs ≡ ys ++ x ∷ [] → (get_or xs (length xs - 1) d ≡ x) × (take (length xs - 1) xs ≡ ys)
@@ -55,53 +55,53 @@ last_apart xs ys x d is = rw is (last ys, before ys)
 
 halves_apart :
     (tree low high : PermTree) (rest : List SplitCost) → tree ≡ Split low high
-    → rest ++ reverse (costs_in tree) ≡ ((rest ++ reverse (costs_in high)) ++ reverse (costs_in low)) ++ split_cost low high ∷ []
+    → rest ++ reverse (splits_in tree) ≡ ((rest ++ reverse (splits_in high)) ++ reverse (splits_in low)) ++ split_cost low high ∷ []
 halves_apart tree low high rest split =
-    ap (λ t. rest ++ reverse (costs_in t)) split ∙ sym (added_both rest (costs_in low) (costs_in high) (split_cost low high))
+    ap (λ t. rest ++ reverse (splits_in t)) split ∙ sym (added_both rest (splits_in low) (splits_in high) (split_cost low high))
 
 pub some_left : (costs : List SplitCost) (tree low high : PermTree) → tree ≡ Split low high → EndsWith costs tree → 1 ≤ length costs
 some_left costs tree low high split ends =
-    let before = (ends.0 ++ reverse (costs_in high)) ++ reverse (costs_in low) in
+    let before = (ends.0 ++ reverse (splits_in high)) ++ reverse (splits_in low) in
     omega (arith, ap length (ends.1 ∙ halves_apart tree low high ends.0 split), length-append before (split_cost low high ∷ []))
 
 pub last_is :
     (costs : List SplitCost) (tree low high : PermTree) (d : SplitCost) → tree ≡ Split low high → EndsWith costs tree
     → get_or costs (length costs - 1) d ≡ split_cost low high
 last_is costs tree low high d split ends =
-    (last_apart costs ((ends.0 ++ reverse (costs_in high)) ++ reverse (costs_in low)) (split_cost low high) d
+    (last_apart costs ((ends.0 ++ reverse (splits_in high)) ++ reverse (splits_in low)) (split_cost low high) d
     (ends.1 ∙ halves_apart tree low high ends.0 split)).0
 
 others_are :
     (costs : List SplitCost) (tree low high : PermTree) → tree ≡ Split low high → (ends : EndsWith costs tree)
-    → take (length costs - 1) costs ≡ (ends.0 ++ reverse (costs_in high)) ++ reverse (costs_in low)
+    → take (length costs - 1) costs ≡ (ends.0 ++ reverse (splits_in high)) ++ reverse (splits_in low)
 others_are costs tree low high split ends =
-    (last_apart costs ((ends.0 ++ reverse (costs_in high)) ++ reverse (costs_in low)) (split_cost low high) (split_cost low high)
+    (last_apart costs ((ends.0 ++ reverse (splits_in high)) ++ reverse (splits_in low)) (split_cost low high) (split_cost low high)
     (ends.1 ∙ halves_apart tree low high ends.0 split)).1
 
 pub lower_ends :
     (costs : List SplitCost) (tree low high : PermTree) → tree ≡ Split low high → EndsWith costs tree → EndsWith (take (length costs - 1) costs) low
-lower_ends costs tree low high split ends = (ends.0 ++ reverse (costs_in high), others_are costs tree low high split ends)
+lower_ends costs tree low high split ends = (ends.0 ++ reverse (splits_in high), others_are costs tree low high split ends)
 
 -- what is left once those of the lower half are taken
 left : (costs rest : List SplitCost) (tree low high : PermTree) → tree ≡ Split low high → (ends : EndsWith costs tree)
-    → take (length costs - 1) costs ≡ rest ++ reverse (costs_in low) → rest ≡ ends.0 ++ reverse (costs_in high)
+    → take (length costs - 1) costs ≡ rest ++ reverse (splits_in low) → rest ≡ ends.0 ++ reverse (splits_in high)
 left costs rest tree low high split ends same =
-    append_cancel_right rest (ends.0 ++ reverse (costs_in high)) (reverse (costs_in low)) (sym same ∙ others_are costs tree low high split ends)
+    append_cancel_right rest (ends.0 ++ reverse (splits_in high)) (reverse (splits_in low)) (sym same ∙ others_are costs tree low high split ends)
 
 pub upper_ends :
     (costs rest : List SplitCost) (tree low high : PermTree) → tree ≡ Split low high → EndsWith costs tree
-    → take (length costs - 1) costs ≡ rest ++ reverse (costs_in low) → EndsWith rest high
+    → take (length costs - 1) costs ≡ rest ++ reverse (splits_in low) → EndsWith rest high
 upper_ends costs rest tree low high split ends same = (ends.0, left costs rest tree low high split ends same)
 
 -- and once those of the upper half are taken, too
 pub rest_is :
     (costs rest before : List SplitCost) (tree low high : PermTree) → tree ≡ Split low high → EndsWith costs tree
-    → take (length costs - 1) costs ≡ rest ++ reverse (costs_in low) → rest ≡ before ++ reverse (costs_in high)
-    → costs ≡ before ++ reverse (costs_in tree)
+    → take (length costs - 1) costs ≡ rest ++ reverse (splits_in low) → rest ≡ before ++ reverse (splits_in high)
+    → costs ≡ before ++ reverse (splits_in tree)
 rest_is costs rest before tree low high split ends lower upper =
     let same : before ≡ ends.0 =
-    append_cancel_right before ends.0 (reverse (costs_in high)) (sym upper ∙ left costs rest tree low high split ends lower) in
-    ends.1 ∙ ap (λ l. l ++ reverse (costs_in tree)) (sym same)
+    append_cancel_right before ends.0 (reverse (splits_in high)) (sym upper ∙ left costs rest tree low high split ends lower) in
+    ends.1 ∙ ap (λ l. l ++ reverse (splits_in tree)) (sym same)
 
 -- ---- the entries that are added
 

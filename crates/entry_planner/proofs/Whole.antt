@@ -1,9 +1,9 @@
 -- The entries that are placed in the whole space, in order, are fewest, and the costs are the bound that shows it.
-use Rattle.std.proofs.Common.{◌≡◌, ℕ, zero, suc, ◌+◌, ◌^◌, ◌<◌, ◌≤◌, List, [], ◌∷◌, ◌++◌, length, All, Bool, true, false, if◌then◌else◌, IsPermutation, reverse}
+use Rattle.std.proofs.Common.{◌≡◌, ℕ, zero, suc, ◌+◌, ◌^◌, ◌<◌, ◌≤◌, List, [], ◌∷◌, ◌++◌, length, All, Bool, true, false, if◌then◌else◌, IsPermutation, map, reverse}
 use Rattle.std.proofs.Common.{refl, sym, ap, subst, ◌∙◌, arith, append_assoc, length-append}
 use Rattle.std.specs.List.{AllByRecursion}
 use Rattle.std.proofs.Math.Path.{ap₂}
-use Rattle.std.proofs.lemmas.List.{append-nil, reverse-reverse}
+use Rattle.std.proofs.lemmas.List.{append-nil, map-append, reverse-reverse}
 use Rattle.std.proofs.lemmas.List.Elements.{All-from_recursion}
 use Rattle.std.proofs.lemmas.List.Sorted.{All-permutation, length_permutation}
 use Rattle.pmp_encoding.specs.declared.perm.Perm.{Perm}
@@ -14,12 +14,14 @@ use Rattle.pmp_match.specs.Meaning.{View, Means, IsFewest}
 use Rattle.pmp_match.proofs.Meant.{least}
 use Rattle.prefix_tree.specs.Counts.{splits}
 use Rattle.prefix_tree.specs.Trees.{PermTree, Uniform, Split, TreeMeansAt, TreeMeans}
+use Rattle.entry_planner.specs.declared.costs.BlockCost.{BlockCost}
 use Rattle.entry_planner.specs.declared.costs.SplitCost.{SplitCost}
 use Rattle.entry_planner.specs.Best.{is_best, least_cost}
 use Rattle.entry_planner.specs.Costs.{cost, bounds_of}
 use Rattle.entry_planner.specs.Choice.{AreChosen}
 use Rattle.entry_planner.specs.Order.{AreInOrder}
-use Rattle.entry_planner.specs.Plans.{AreSmall, CostsAre, IsMade, Planned, as_block, block_cost, cost_in, cost_of, costed, costs_in, split_cost}
+use Rattle.entry_planner.specs.PackedCosts.{as_block, splits_in}
+use Rattle.entry_planner.specs.Plans.{AreSmall, CostsAre, IsMade, Planned, block_cost, cost_in, cost_of, costed, costs_in}
 use Rattle.entry_planner.proofs.BestCosts.{cost_is}
 use Rattle.entry_planner.proofs.BlockCosts.{least_le_branches, split_as_block}
 use Rattle.entry_planner.proofs.Choices.{chosen_placed}
@@ -60,10 +62,10 @@ listed_pages tree entries listed =
 
 -- ---- the numbers fit their types
 
-abbrev IsSmall : SplitCost → Type 0
+abbrev IsSmall : BlockCost → Type 0
 IsSmall c = c.least + 1 < 2 ^ 32
 
-both_small : (a b : List SplitCost) → AllByRecursion IsSmall a → AllByRecursion IsSmall b → AllByRecursion IsSmall (a ++ b)
+both_small : (a b : List BlockCost) → AllByRecursion IsSmall a → AllByRecursion IsSmall b → AllByRecursion IsSmall (a ++ b)
 both_small [] b h k = k
 both_small (c ∷ a) b h k = (h.0, both_small a b h.1 k)
 
@@ -75,12 +77,12 @@ costs_small (Split lower upper) few = (
 )
 
 pub are_small :
-    (tree : PermTree) (entries : List Entry) (costs : List SplitCost) → splits tree + 1 < 2 ^ 32 → AreListed tree entries → costs ≡ costs_in tree
+    (tree : PermTree) (entries : List Entry) (costs : List BlockCost) → splits tree + 1 < 2 ^ 32 → AreListed tree entries → costs ≡ costs_in tree
     → AreSmall (record { entries = entries; costs = costs })
 are_small tree entries costs few listed are =
     record {
       entries = omega (arith, listed_count tree entries listed, cost_is tree NoAccess, one (is_best tree NoAccess), least_le_branches tree);
-      costs = (let P : List SplitCost → Type 0 = λ l. All IsSmall l in subst P (sym are) (All-from_recursion IsSmall (costs_in tree) (costs_small tree few)));
+      costs = (let P : List BlockCost → Type 0 = λ l. All IsSmall l in subst P (sym are) (All-from_recursion IsSmall (costs_in tree) (costs_small tree few)));
     }
   where
     one : (b : Bool) → (if b then 0 else 1) ≤ 1
@@ -102,15 +104,15 @@ cost_of-block_cost tree p = ap (λ t. least_cost tree + unless t) (has-set_of (i
     unless t = if t then 0 else 1
 
 -- the list has the costs of the tree's split blocks from the i-th on
-record StandsAt (costs : List SplitCost) (i : ℕ) (tree : PermTree) : Type 0 where
-  before : List SplitCost
-  after : List SplitCost
+record StandsAt (costs : List BlockCost) (i : ℕ) (tree : PermTree) : Type 0 where
+  before : List BlockCost
+  after : List BlockCost
   split : costs ≡ before ++ (costs_in tree ++ after)
   place : length before ≡ i
 
-lower_stands : (costs : List SplitCost) (i : ℕ) (lower upper : PermTree) → StandsAt costs i (Split lower upper) → StandsAt costs (i + 1) lower
+lower_stands : (costs : List BlockCost) (i : ℕ) (lower upper : PermTree) → StandsAt costs i (Split lower upper) → StandsAt costs (i + 1) lower
 lower_stands costs i lower upper s =
-    let own : SplitCost = split_cost lower upper in
+    let own : BlockCost = block_cost (Split lower upper) in
     record {
       before = s.before ++ own ∷ [];
       after = costs_in upper ++ s.after;
@@ -121,7 +123,7 @@ lower_stands costs i lower upper s =
       place = length-append s.before (own ∷ []) ∙ ap (λ n. n + 1) s.place;
     }
 
-upper_stands : (costs : List SplitCost) (i : ℕ) (lower upper : PermTree) → StandsAt costs i (Split lower upper) → StandsAt costs (i + 1 + splits lower) upper
+upper_stands : (costs : List BlockCost) (i : ℕ) (lower upper : PermTree) → StandsAt costs i (Split lower upper) → StandsAt costs (i + 1 + splits lower) upper
 unfolding lower_stands
 upper_stands costs i lower upper s =
     let low = lower_stands costs i lower upper s in
@@ -132,24 +134,23 @@ upper_stands costs i lower upper s =
       place = length-append low.before (costs_in lower) ∙ ap₂ (λ m n. m + n) low.place (length-costs_in lower);
     }
 
-cost_in-stands : (costs : List SplitCost) (i : ℕ) (lower upper : PermTree) (p : Perm) → StandsAt costs i (Split lower upper)
+cost_in-stands : (costs : List BlockCost) (i : ℕ) (lower upper : PermTree) (p : Perm) → StandsAt costs i (Split lower upper)
     → cost_in costs i p ≡ cost (Split lower upper) p
 cost_in-stands costs i lower upper p s =
     ap₂ (λ l n. cost_in l n p) s.split (sym s.place)
-    ∙ at s.before (split_cost lower upper) (costs_in lower ++ costs_in upper ++ s.after)
-    ∙ ap (λ b. cost_of b p) (split_as_block lower upper)
+    ∙ at s.before (block_cost (Split lower upper)) (costs_in lower ++ costs_in upper ++ s.after)
     ∙ cost_of-block_cost (Split lower upper) p
   where
-    at : (before : List SplitCost) (c : SplitCost) (after : List SplitCost) → cost_in (before ++ c ∷ after) (length before) p ≡ cost_of (as_block c) p
+    at : (before : List BlockCost) (c : BlockCost) (after : List BlockCost) → cost_in (before ++ c ∷ after) (length before) p ≡ cost_of c p
     at [] c after = refl
     at (d ∷ before) c after = at before c after
 
-bound_of-costed : (costs : List SplitCost) (i : ℕ) (tree : PermTree) (p : Perm) → StandsAt costs i tree → bound_of (costed costs i tree) p ≡ cost tree p
+bound_of-costed : (costs : List BlockCost) (i : ℕ) (tree : PermTree) (p : Perm) → StandsAt costs i tree → bound_of (costed costs i tree) p ≡ cost tree p
 bound_of-costed costs i (Uniform q) p s = refl
 bound_of-costed costs i (Split lower upper) p s = cost_in-stands costs i lower upper p s
 
 costed_sound :
-    (view : View) (costs : List SplitCost) (i : ℕ) (tree : PermTree) (k first : ℕ) → StandsAt costs i tree → TreeMeansAt view k first tree
+    (view : View) (costs : List BlockCost) (i : ℕ) (tree : PermTree) (k first : ℕ) → StandsAt costs i tree → TreeMeansAt view k first tree
     → IsSoundAt view k first (costed costs i tree)
 costed_sound view costs i (Uniform q) k first s means = means
 costed_sound view costs i (Split lower upper) zero first s means = absurd means
@@ -177,7 +178,7 @@ costed_sound view costs i (Split lower upper) (suc k) first s means =
           )),
     )
 
-costs_stand : (costs : List SplitCost) (i : ℕ) (tree : PermTree) → StandsAt costs i tree → CostsAre costs i tree
+costs_stand : (costs : List BlockCost) (i : ℕ) (tree : PermTree) → StandsAt costs i tree → CostsAre costs i tree
 costs_stand costs i (Uniform q) s = tt
 costs_stand costs i (Split lower upper) s = (
   (λ p. cost_in-stands costs i lower upper p s),
@@ -185,33 +186,41 @@ costs_stand costs i (Split lower upper) s = (
   costs_stand costs (i + 1 + splits lower) upper (upper_stands costs i lower upper s),
 )
 
-whole_stands : (tree : PermTree) (costs : List SplitCost) → costs ≡ costs_in tree → StandsAt costs 0 tree
+whole_stands : (tree : PermTree) (costs : List BlockCost) → costs ≡ costs_in tree → StandsAt costs 0 tree
 whole_stands tree costs are = record { before = []; after = []; split = are ∙ sym (append-nil (costs_in tree)); place = refl }
 
-pub whole_costs : (tree : PermTree) (costs : List SplitCost) → costs ≡ costs_in tree → CostsAre costs 0 tree
+pub whole_costs : (tree : PermTree) (costs : List BlockCost) → costs ≡ costs_in tree → CostsAre costs 0 tree
 whole_costs tree costs are = costs_stand costs 0 tree (whole_stands tree costs are)
 
-pub whole_sound : (view : View) (tree : PermTree) (costs : List SplitCost) → TreeMeans view tree → costs ≡ costs_in tree
+pub whole_sound : (view : View) (tree : PermTree) (costs : List BlockCost) → TreeMeans view tree → costs ≡ costs_in tree
     → IsSoundAt view 44 0 (costed costs 0 tree)
 whole_sound view tree costs means are = costed_sound view costs 0 tree 44 0 (whole_stands tree costs are) means
 
 pub whole_root :
-    (tree : PermTree) (entries : List Entry) (costs : List SplitCost) → costs ≡ costs_in tree → AreListed tree entries
+    (tree : PermTree) (entries : List Entry) (costs : List BlockCost) → costs ≡ costs_in tree → AreListed tree entries
     → bound_of (costed costs 0 tree) NoAccess ≡ length entries
 whole_root tree entries costs are listed =
     bound_of-costed costs 0 tree NoAccess (whole_stands tree costs are) ∙ sym (listed_count tree entries listed)
 
 -- ---- the plan
 
+as_blocks : (tree : PermTree) → map as_block (splits_in tree) ≡ costs_in tree
+as_blocks (Uniform q) = refl
+as_blocks (Split lower upper) =
+    ap₂ (λ c l. c ∷ l) (split_as_block lower upper)
+    (map-append as_block (splits_in lower) (splits_in upper) ∙ ap₂ (λ a b. a ++ b) (as_blocks lower) (as_blocks upper))
+
 pub made :
     (tree : PermTree) (entries : List Entry) (none costs : List SplitCost) → AreChosen tree entries → AreInOrder entries → none ≡ []
-    → costs ≡ none ++ reverse (costs_in tree)
-    → IsMade tree (record { entries = entries; costs = reverse costs })
+    → costs ≡ none ++ reverse (splits_in tree)
+    → IsMade tree (record { entries = entries; costs = map as_block (reverse costs) })
 made tree entries none costs chosen order empty are = record {
   chosen = chosen;
   order = order;
-  costs = ap reverse
-      (are ∙ ap (λ l. l ++ reverse (costs_in tree)) empty) ∙ reverse-reverse (costs_in tree);
+  costs =
+      ap (λ l. map as_block (reverse l)) (are ∙ ap (λ l. l ++ reverse (splits_in tree)) empty)
+      ∙ ap (map as_block) (reverse-reverse (splits_in tree))
+      ∙ as_blocks tree;
 }
 
 pub made_is : (tree : PermTree) (made plan : Planned) → plan ≡ made → IsMade tree made → IsMade tree plan

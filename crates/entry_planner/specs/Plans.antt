@@ -1,12 +1,11 @@
--- What a plan keeps of each split block: its least number, and the permissions that are best for
--- both of its halves and for either.
+-- A plan: its entries, and what each split block of the tree costs, which is its least number and
+-- the permissions under which it costs that.
 use Rattle.std.specs.Prelude.{◌≡◌, ℕ, zero, suc, ◌+◌, ◌^◌, ◌<◌, List, [], ◌∷◌, ◌++◌, length, All}
-use Rattle.std.specs.Prelude.{◌&&◌, ◌||◌, ◌==◌, if◌then◌else◌}
+use Rattle.std.specs.Prelude.{if◌then◌else◌}
 use Rattle.pmp_encoding.specs.declared.perm.Perm.{Perm}
 use Rattle.pmp_encoding.specs.declared.region.Entry.{Entry}
 use Rattle.pmp_match.specs.Bounds.{BoundTree, Leaf, Branch}
 use Rattle.entry_planner.specs.declared.costs.BlockCost.{BlockCost}
-use Rattle.entry_planner.specs.declared.costs.SplitCost.{SplitCost}
 use Rattle.prefix_tree.specs.Trees.{PermTree, Uniform, Split}
 use Rattle.prefix_tree.specs.Counts.{splits}
 use Rattle.entry_planner.specs.Best.{is_best, least_cost}
@@ -15,10 +14,14 @@ use Rattle.entry_planner.specs.Costs.{cost}
 use Rattle.entry_planner.specs.Order.{AreInOrder}
 use Rattle.entry_planner.specs.PermSets.{has, set_of}
 
--- a list of entries, and what each split block of a tree costs, in preorder
-pub record Planned : Type 0 where
-  pub entries : List Entry
-  pub costs : List SplitCost
+-- a list of entries of one form, and what each split block of a tree costs, in preorder
+pub record PlanOf (E : Type 0) : Type 0 where
+  pub entries : List E
+  pub costs : List BlockCost
+
+-- the plan as contracts see it, however it keeps its entries
+abbrev pub Planned : Type 0
+Planned = PlanOf Entry
 
 -- the numbers that a plan answers fit 32 bits
 pub record AreSmall (plan : Planned) : Type 0 where
@@ -29,48 +32,30 @@ pub record AreSmall (plan : Planned) : Type 0 where
 abbrev pub block_cost : PermTree → BlockCost
 block_cost tree = record { least = least_cost tree; best = record { bits = set_of (is_best tree) } }
 
--- a split block's least number, and the permissions that are best for both of its halves, and for
--- either
-abbrev pub split_cost : PermTree → PermTree → SplitCost
-split_cost lower upper =
-    record {
-      least = least_cost (Split lower upper);
-      both = record { bits = set_of (λ p. is_best lower p && is_best upper p) };
-      either = record { bits = set_of (λ p. is_best lower p || is_best upper p) };
-    }
-
--- what it costs as a block: the best for both halves are its best, or, where there is none, the
--- best for either
-abbrev pub as_block : SplitCost → BlockCost
-as_block c = record {
-  least = c.least;
-  best = record { bits = if c.both.bits == 0 then c.either.bits else c.both.bits };
-}
-
--- those of the split blocks in preorder: the block, its lower half's, its upper half's
-abbrev pub costs_in : PermTree → List SplitCost
+-- the costs of the split blocks in preorder: the block, its lower half's, its upper half's
+abbrev pub costs_in : PermTree → List BlockCost
 costs_in (Uniform q) = []
-costs_in (Split lower upper) = split_cost lower upper ∷ (costs_in lower ++ costs_in upper)
+costs_in (Split lower upper) = block_cost (Split lower upper) ∷ (costs_in lower ++ costs_in upper)
 
 -- what a block costs where it inherits p
 abbrev pub cost_of : BlockCost → Perm → ℕ
 cost_of c p = c.least + (if has c.best.bits p then 0 else 1)
 
 -- what the i-th block of the list costs
-abbrev pub cost_in : List SplitCost → ℕ → Perm → ℕ
+abbrev pub cost_in : List BlockCost → ℕ → Perm → ℕ
 cost_in [] i p = 0
-cost_in (c ∷ costs) zero p = cost_of (as_block c) p
+cost_in (c ∷ costs) zero p = cost_of c p
 cost_in (c ∷ costs) (suc i) p = cost_in costs i p
 
 -- the tree with the costs of a list that has its split blocks in preorder from the i-th on
-abbrev pub costed : List SplitCost → ℕ → PermTree → BoundTree
+abbrev pub costed : List BlockCost → ℕ → PermTree → BoundTree
 costed costs i (Uniform q) = Leaf q
 costed costs i (Split lower upper) =
     Branch (cost_in costs i) (costed costs (i + 1) lower)
     (costed costs (i + 1 + splits lower) upper)
 
 -- the split blocks of the tree, in preorder from the i-th of the list on, cost what they cost
-abbrev pub CostsAre : List SplitCost → ℕ → PermTree → Type 0
+abbrev pub CostsAre : List BlockCost → ℕ → PermTree → Type 0
 CostsAre costs i (Uniform q) = Unit {0}
 CostsAre costs i (Split lower upper) =
     ((p : Perm) → cost_in costs i p ≡ cost (Split lower upper) p) × CostsAre costs (i + 1) lower

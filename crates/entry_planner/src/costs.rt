@@ -29,7 +29,8 @@ ghost use Rattle.entry_planner.specs.declared.costs.BlockCost.{BlockCost};
 ghost use Rattle.entry_planner.specs.declared.costs.SplitCost.{SplitCost};
 ghost use Rattle.entry_planner.specs.Best.{least_cost};
 ghost use Rattle.entry_planner.specs.PermSets.{has};
-ghost use Rattle.entry_planner.specs.Plans.{as_block, block_cost, cost_of, costs_in, split_cost};
+ghost use Rattle.entry_planner.specs.PackedCosts.{as_block, split_cost, splits_in};
+ghost use Rattle.entry_planner.specs.Plans.{block_cost, cost_of};
 ghost use Rattle.prefix_tree.specs.Counts.{splits};
 ghost use Rattle.prefix_tree.specs.Chains.{IsChain, chained};
 ghost use Rattle.prefix_tree.specs.Trees.{PermTree, Uniform, Split};
@@ -206,8 +207,8 @@ fn add_chain_costs(
         (tree : PermTree) → smallest ≡ block_cost tree → cost ≡ block_cost (chained chain tree)) }
     ensures costs { OnOk result ((tree : PermTree) (first : List SplitCost)
         → smallest ≡ block_cost tree
-        → costs.old.items ≡ first ++ reverse (costs_in tree)
-        → costs.new.items ≡ first ++ reverse (costs_in (chained chain tree))) }
+        → costs.old.items ≡ first ++ reverse (splits_in tree)
+        → costs.new.items ≡ first ++ reverse (splits_in (chained chain tree))) }
 {
     let before = cost_of_uniform(chain.before);
     let behind = cost_of_uniform(chain.behind);
@@ -229,7 +230,7 @@ pub fn add_costs<H: Halving>(
     requires { splits (H.shape block.now) < 2 ^ 20 }
     ensures own { IfOk result (λ cost. cost ≡ block_cost (H.shape block.now)) }
     ensures costs { OnOk result (costs.new.items ≡ costs.old.items
-        ++ reverse (costs_in (H.shape block.now))) }
+        ++ reverse (splits_in (H.shape block.now))) }
 {
     if let Some(perm) = block.one_perm() {
         return Ok(cost_of_uniform(perm));

@@ -22,7 +22,7 @@ ghost use Rattle.prefix_tree.specs.Trees.{PermTree, Fits};
 ghost use Rattle.entry_planner.specs.declared.costs.SplitCost.{SplitCost};
 ghost use Rattle.entry_planner.specs.Choice.{AddsChosen, AddsOwn, handed_on};
 ghost use Rattle.entry_planner.specs.Placement.{ArePages, IsBlockOf, IsOwn, place_at};
-ghost use Rattle.entry_planner.specs.Plans.{costs_in, split_cost};
+ghost use Rattle.entry_planner.specs.PackedCosts.{split_cost, splits_in};
 ghost use Rattle.entry_planner.specs.Shelves.{is_free};
 
 impl PageBlock {
@@ -184,9 +184,9 @@ fn place_chain<'a, H: Halving>(
     requires fits { Fits pages.log2 (chained chain (H.shape smallest.now)) }
     requires pages { ArePages pages.log2 pages.first }
     requires costs { (rest : List SplitCost)
-        × (costs.now ≡ rest ++ reverse (costs_in (chained chain (H.shape smallest.now)))) }
+        × (costs.now ≡ rest ++ reverse (splits_in (chained chain (H.shape smallest.now)))) }
     ensures rest { IfOk result (λ rest.
-        costs.now ≡ rest.now ++ reverse (costs_in (chained chain (H.shape smallest.now)))) }
+        costs.now ≡ rest.now ++ reverse (splits_in (chained chain (H.shape smallest.now)))) }
     ensures placed { OnOk result
         (AddsChosen pages.log2 pages.first inherited (chained chain (H.shape smallest.now))
         entries.old entries.new) }
@@ -229,9 +229,9 @@ pub fn place_entries<'a, H: Halving>(
     requires fits { Fits pages.log2 (H.shape block.now) }
     requires pages { ArePages pages.log2 pages.first }
     requires costs { (rest : List SplitCost)
-        × (costs.now ≡ rest ++ reverse (costs_in (H.shape block.now))) }
+        × (costs.now ≡ rest ++ reverse (splits_in (H.shape block.now))) }
     ensures rest { IfOk result (λ rest. costs.now ≡ rest.now
-        ++ reverse (costs_in (H.shape block.now))) }
+        ++ reverse (splits_in (H.shape block.now))) }
     ensures placed { OnOk result (AddsChosen pages.log2 pages.first inherited (H.shape block.now)
         entries.old entries.new) }
 {

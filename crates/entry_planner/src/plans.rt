@@ -9,14 +9,14 @@ ghost use Rattle.prefix_tree.specs.Counts.{splits};
 ghost use Rattle.prefix_tree.specs.Trees.{Fits, view_of_tree};
 ghost use Rattle.entry_planner.specs.Order.{AreInOrder};
 ghost use Rattle.entry_planner.specs.Choice.{AreChosen};
-ghost use Rattle.entry_planner.specs.Plans.{CostsAre, IsMade, costed, costs_in};
+ghost use Rattle.entry_planner.specs.PackedCosts.{splits_in};
+ghost use Rattle.entry_planner.specs.Plans.{CostsAre, IsMade, costed};
 ghost use Rattle.permission_map.specs.Runs.{view_of_runs};
 ghost use Rattle.prefix_tree.specs.TreeOf.{tree_of};
 
 use crate::costs::add_costs;
 use crate::order::in_order;
 use crate::packed_cost::PackedCost;
-use crate::packed_plan::PackedPlan;
 use crate::placement::{PageBlock, place_entries};
 use crate::planned::Plan;
 use crate::shelves::Shelves;
@@ -33,7 +33,7 @@ fn entries_of<H: Halving>(
     costs: &[PackedCost],
 ) -> Result<Vec<PackedEntry>, Memory>
     requires fits { Fits 44 (H.shape root.now) }
-    requires costs { costs.now ≡ reverse (costs_in (H.shape root.now)) }
+    requires costs { costs.now ≡ reverse (splits_in (H.shape root.now)) }
     ensures chosen { IfOk result (λ v. AreChosen (H.shape root.now) v.items) }
     ensures order { IfOk result (λ v. AreInOrder v.items) }
 {
@@ -72,7 +72,7 @@ pub fn plan(alloc: Global, tree: &Tree) -> Result<Plan, Memory>
 
 /// The plan of a map, as [`plan`] has it for the canonical tree of its view. That tree has at most 44 split blocks for
 /// each of the two ends of a run, and is not made. The entries are kept packed.
-pub fn plan_map(alloc: Global, map: &PermissionMap) -> Result<PackedPlan, Memory>
+pub fn plan_map(alloc: Global, map: &PermissionMap) -> Result<Plan<PackedEntry>, Memory>
     ensures fewest { IfOk result (λ plan. IsFewest (view_of_runs map.now) plan.entries) }
     ensures pages { IfOk result (λ plan. All (λ e. 12 ≤ e.region.log2) plan.entries) }
     ensures order { IfOk result (λ plan. AreInOrder plan.entries) }
@@ -95,7 +95,7 @@ pub fn plan_map(alloc: Global, map: &PermissionMap) -> Result<PackedPlan, Memory
 }
 
 /// The plan of the space, of which at most that many blocks are split.
-fn plan_of<H: Halving>(alloc: Global, root: &H, most: usize) -> Result<PackedPlan, Memory>
+fn plan_of<H: Halving>(alloc: Global, root: &H, most: usize) -> Result<Plan<PackedEntry>, Memory>
     requires fits { Fits 44 (H.shape root.now) }
     requires splits { splits (H.shape root.now) ≤ most }
     requires most { most ≤ 88 * 4096 }
@@ -104,5 +104,5 @@ fn plan_of<H: Halving>(alloc: Global, root: &H, most: usize) -> Result<PackedPla
     let mut costs = Vec::with_capacity(alloc, most)?;
     let cost = add_costs(root, &mut costs)?;
     let entries = entries_of(alloc, root, cost.least + 1, costs.as_slice())?;
-    Ok(PackedPlan::new(entries, costs))
+    Ok(Plan::<PackedEntry>::new(entries, costs))
 }

@@ -1,6 +1,7 @@
 //! What the split blocks of a tree cost, as a plan keeps it.
 
-ghost use Rattle.std.specs.Prelude.{◌≡◌, ◌+◌, ◌^◌, ◌<◌, All, length, reverse};
+ghost use Rattle.std.specs.Prelude.{◌≡◌, ◌+◌, ◌^◌, ◌<◌, All, length, map, reverse};
+ghost use Rattle.entry_planner.specs.PackedCosts.{as_block};
 ghost use Rattle.entry_planner.specs.Plans.{cost_in};
 
 use crate::packed_cost::PackedCost;
@@ -16,21 +17,23 @@ pub struct SplitCosts {
 }
 
 impl Model for SplitCosts {
-    ghost use Rattle.std.specs.Prelude.{◌+◌, ◌^◌, ◌<◌, All, List, reverse};
-    ghost use Rattle.entry_planner.specs.declared.costs.SplitCost.{SplitCost};
+    ghost use Rattle.std.specs.Prelude.{◌+◌, ◌^◌, ◌<◌, All, List, map, reverse};
+    ghost use Rattle.entry_planner.specs.declared.costs.BlockCost.{BlockCost};
+    ghost use Rattle.entry_planner.specs.PackedCosts.{as_block};
 
-    ghost Value = { List SplitCost };
+    ghost Value = { List BlockCost };
 
-    ghost view = { λ c. reverse c.costs.items };
+    ghost view = { λ c. map as_block (reverse c.costs.items) };
 
-    ghost invariant = { λ c. All (λ d. d.least + 1 < 2 ^ 32) (reverse c.costs.items) };
+    ghost invariant = { λ c.
+        All (λ d. d.least + 1 < 2 ^ 32) (map as_block (reverse c.costs.items)) };
 }
 
 impl SplitCosts {
     /// These costs, the last in preorder first.
     pub(crate) fn new(costs: Vec<PackedCost>) -> SplitCosts
-        requires { All (λ d. d.least + 1 < 2 ^ 32) (reverse costs.items) }
-        ensures { result ≡ reverse costs.items }
+        requires { All (λ d. d.least + 1 < 2 ^ 32) (map as_block (reverse costs.items)) }
+        ensures { result ≡ map as_block (reverse costs.items) }
     {
         SplitCosts { costs }
     }

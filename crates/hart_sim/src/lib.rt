@@ -63,4 +63,4 @@ pub use laws::{
 pub use machine::Machine;
 pub use memory::Memory;
 pub use text_lines::{NotUnderstood, RunFault};
-pub use trace_run::run;
+pub use trace_run::{run, run_lines};

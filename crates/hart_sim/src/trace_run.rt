@@ -11,7 +11,7 @@ ghost use Rattle.hart_sim.specs.Reports.{DoesLine, RefusesLine, StarvesLine, Goe
 
 use crate::machine::Machine;
 use arrayvec::ArrayVec;
-use byte_streams::{Sink, Source};
+use byte_streams::{Direct, LineSink, Sink, Source};
 use hart_trace::{
     Event, access_ahead, call_ahead, interrupt_ahead, parse_line, push_reply, setting_ahead,
 };
@@ -149,7 +149,45 @@ impl Interpreter for Machine {
 /// Runs a trace on a machine: each line's event happens, and its reply is written before the next line is read. A line
 /// that is not understood ends it, as do more than 2^40 bytes, a device that fails, and a store that wants memory which
 /// is refused. The lines that were done are a run of their events from the state in which the machine was lent, and what
-/// was written is the text of its replies.
+/// was written is the text of its replies. Before a read that may have to wait, the sink hands on the lines that it holds.
+pub fn run_lines<R: Source, M, W: LineSink<M>>(
+    machine: &mut Machine,
+    source: &mut R,
+    sink: &mut W,
+) -> Result<(), RunFault>
+    ensures all { KeepsBanksRight machine.old
+        → IfOk result (λ _.
+        DoesAll DoesLine machine.old machine.new (R.remaining source.old)
+        (R.remaining source.new) (W.contents sink.old) (W.contents sink.new)) }
+    ensures line { KeepsBanksRight machine.old → (n : ℕ) → result ≡ Err (RunFault.Line n)
+        → StopsAt n DoesLine RefusesLine machine.old machine.new (R.remaining source.old)
+        (R.remaining source.new) (W.contents sink.old) (W.contents sink.new) }
+    ensures too_long { KeepsBanksRight machine.old → result ≡ Err RunFault.TooLong
+        → StopsTooLong DoesLine machine.old machine.new (R.remaining source.old)
+        (R.remaining source.new) (W.contents sink.old) (W.contents sink.new) }
+    ensures read { KeepsBanksRight machine.old → result ≡ Err RunFault.Read
+        → StopsReading DoesLine machine.old machine.new (R.remaining source.old)
+        (R.remaining source.new) (W.contents sink.old) (W.contents sink.new) }
+    ensures write { KeepsBanksRight machine.old → result ≡ Err RunFault.Write
+        → StopsWriting DoesLine machine.old machine.new (R.remaining source.old)
+        (R.remaining source.new) (W.contents sink.old) (W.contents sink.new) }
+    ensures memory { KeepsBanksRight machine.old → result ≡ Err RunFault.Memory
+        → StopsForMemory DoesLine StarvesLine machine.old machine.new (R.remaining source.old)
+        (R.remaining source.new) (W.contents sink.old) (W.contents sink.new) }
+    ensures kept { KeepsBanksRight machine.old → KeepsBanksRight machine.new }
+    ensures after { (platform : PlatformLayout) (events : List (ℕ × Event))
+        (replies : List Reply)
+        → After platform events replies machine.old
+        → GoesOn platform events replies result machine.old machine.new
+        (R.remaining source.old) (R.remaining source.new) }
+    ensures reads { CountsReads result (R.failures source.old) (R.failures source.new) }
+    ensures writes { CountsWrites result (W.failures sink.old)
+        (W.failures sink.new) (W.stalls sink.old) (W.stalls sink.new) }
+{
+    interpret_lines::<_, R, M, W>(machine, source, sink)
+}
+
+/// Runs a trace on a machine as [`run_lines`] does, over any sink.
 pub fn run<R: Source, W: Sink>(
     machine: &mut Machine,
     source: &mut R,
@@ -184,5 +222,5 @@ pub fn run<R: Source, W: Sink>(
     ensures writes { CountsWrites result (W.failures sink.old)
         (W.failures sink.new) (W.stalls sink.old) (W.stalls sink.new) }
 {
-    interpret_lines(machine, source, sink)
+    run_lines::<R, Direct, W>(machine, source, sink)
 }

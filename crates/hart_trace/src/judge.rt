@@ -8,7 +8,7 @@ ghost use Rattle.hart_trace.specs.Answers.{access_on, answered_by, is_no_access,
 use crate::access_judge::AccessJudge;
 use crate::answers::push_answer;
 use crate::{Event, access_ahead, is_wordless, parse_by_words, spaced_access};
-use byte_streams::{Sink, Source};
+use byte_streams::{Direct, LineSink, Sink, Source};
 use pmp_encoding::Bank;
 use pmp_match::{Access, Segments};
 use text_lines::{Interpreter, Line, LineRefusal, NotUnderstood, RunFault, interpret_lines};
@@ -97,7 +97,7 @@ impl<J: AccessJudge> Interpreter for LineJudge<'_, J> {
 
 /// Judges the accesses of a trace: the first three forms of trace lines alone, without `@H`. A store changes nothing. The
 /// answer to each line is written before the next line is read. It takes no memory.
-pub fn judge_lines<J: AccessJudge, R: Source, W: Sink>(
+pub fn judge_lines<J: AccessJudge, R: Source, M, W: LineSink<M>>(
     by: &J,
     source: &mut R,
     sink: &mut W,
@@ -124,7 +124,7 @@ pub fn judge_lines<J: AccessJudge, R: Source, W: Sink>(
         (W.failures sink.new) (W.stalls sink.old) (W.stalls sink.new) }
 {
     let mut lines = LineJudge { by };
-    interpret_lines(&mut lines, source, sink)
+    interpret_lines::<_, R, M, W>(&mut lines, source, sink)
 }
 
 /// Judges the accesses of a trace by a bank, as [`judge_lines`] does.
@@ -154,5 +154,5 @@ pub fn judge_trace<R: Source, W: Sink>(
         (W.failures sink.new) (W.stalls sink.old) (W.stalls sink.new) }
 {
     let segments = Segments::of(bank);
-    judge_lines(&segments, source, sink)
+    judge_lines::<_, R, Direct, W>(&segments, source, sink)
 }

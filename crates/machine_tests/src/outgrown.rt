@@ -1,6 +1,7 @@
 //! Calls that are refused for too few entries, each with the number that a view needs.
 
 use crate::machines::example_machine;
+use byte_streams::Direct;
 use byte_streams::fakes::{PieceSink, PieceSource};
 use explained_runs::explain_run;
 use std::alloc::Global;
@@ -11,7 +12,7 @@ fn ends_with(rt: &impl Abort, alloc: Global, trace: &[u8], last: &[u8]) {
     let machine = example_machine(rt, alloc, 1);
     let mut source = PieceSource::new(trace, 100, None);
     let mut sink = PieceSink::new(100, None);
-    let ran = explain_run(machine, &mut source, &mut sink);
+    let ran = explain_run::<_, Direct, _>(machine, &mut source, &mut sink);
     assert!(rt; ran.end == Ok(()));
     assert!(rt; sink.written().ends_with(last));
 }

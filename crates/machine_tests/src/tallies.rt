@@ -1,6 +1,7 @@
 //! Summaries of traces that happened to a machine.
 
 use crate::machines::example_machine;
+use byte_streams::Direct;
 use byte_streams::fakes::{PieceSink, PieceSource};
 use explained_runs::{Tally, asked_of, explain_run, print_summary};
 use hart_sim::Machine;
@@ -19,7 +20,7 @@ fn sums_up(rt: &impl Abort, alloc: Global, harts: u8, trace: &[u8], summary: &[u
     let machine = example_machine(rt, alloc, harts);
     let mut source = PieceSource::new(trace, 100, None);
     let mut sink = PieceSink::new(100, None);
-    let ran = explain_run(machine, &mut source, &mut sink);
+    let ran = explain_run::<_, Direct, _>(machine, &mut source, &mut sink);
     assert!(rt; ran.end == Ok(()));
     is_summed_up(rt, &ran.tally, &ran.machine, summary);
 }

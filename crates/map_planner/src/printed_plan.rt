@@ -1,7 +1,7 @@
 //! The plan of the map that a source holds, printed.
 
 ghost use Rattle.std.specs.Prelude.{◌≡◌, ◌≢◌, ℕ, ◌-◌, ◌^◌, ◌<◌, List, Err, IfErr, IfOk, OnOk, length};
-ghost use Rattle.byte_streams.specs.Streams.{one_failure_more};
+ghost use Rattle.byte_streams.specs.Streams.{GrowsByOne};
 ghost use Rattle.byte_streams.specs.Writings.{writing, IsUnwritten};
 ghost use Rattle.map_text.specs.MapFile.{FaultAt, IsUnknown, MakesFirst, MakesTooMany};
 ghost use Rattle.map_planner.specs.PrintedPlan.{BreaksOff, HasFault, IsPlanOf, IsRead, IsTooLarge, NeedsMore, PrintsPlan};
@@ -68,7 +68,7 @@ pub fn print_plan_in<R: Source, W: Sink>(
     ensures large { result ≡ Err (PlanFault.Source SourceFault.TooLarge)
         → IsTooLarge (R.remaining source.old) (R.remaining source.new) }
     ensures failed { result ≡ Err (PlanFault.Source SourceFault.Read)
-        → R.failures source.new ≡ one_failure_more (R.failures source.old) }
+        → GrowsByOne (R.failures source.old) (R.failures source.new) }
     ensures line { (n : ℕ) → result ≡ Err (PlanFault.Map (MapFileFault.Line n))
         → HasFault (R.remaining source.old) (R.remaining source.new) n IsUnknown }
     ensures many { result ≡ Err (PlanFault.Map MapFileFault.TooManyRanges)

@@ -11,7 +11,7 @@ ghost use Rattle.monitor_cli.specs.Programs.{Ends, Tells};
 ghost use Rattle.command_inputs.specs.declared.trouble.Trouble.TheVariants.{Output};
 
 use crate::program::perform_request;
-use byte_streams::{HeldSink, Sink, Source};
+use byte_streams::{Held, HeldSink, Sink, Source};
 use command_inputs::Trouble;
 use program_files::WholeSink;
 use program_tasks::Request;
@@ -56,6 +56,6 @@ pub fn perform_and_close<R: Source, C: WholeSink, T: Write + Drop, E: Sink>(
         (Tells (telling told err.new) (Err Output)) ended result.0 }
 {
     let mut out = out;
-    let status = perform_request(alloc, request, first, second, cert, &mut out, err);
+    let status = perform_request::<R, C, Held, _, E>(alloc, request, first, second, cert, &mut out, err);
     close_output(status, out, err)
 }

@@ -10,7 +10,7 @@ ghost use Rattle.program_tasks.specs.Requests.{alone};
 ghost use Rattle.command_inputs.specs.Troubles.{status_of};
 
 use crate::do_run_as;
-use byte_streams::{Sink, Source, write_whole};
+use byte_streams::{Direct, LineSink, Sink, Source, write_whole};
 use command_inputs::Trouble;
 use commands::{
     Answered, Asked, CertificateSink, Straight, Table, Whole, do_audit, do_check, do_judge_as,
@@ -118,7 +118,7 @@ fn table_asked(options: &Options<'_>, limit: Limit) -> Table
 }
 
 /// Does a task's command.
-fn run_task<'a, R: Source, M, C: CertificateSink<M>, W: Sink>(
+fn run_task<'a, R: Source, M, C: CertificateSink<M>, L, W: LineSink<L>>(
     alloc: Global,
     request: &Request<'a>,
     first: &mut R,
@@ -140,7 +140,9 @@ fn run_task<'a, R: Source, M, C: CertificateSink<M>, W: Sink>(
             platform,
             trace,
             measure,
-        } => do_run_as(alloc, answers, platform, trace, measure, first, second, out),
+        } => do_run_as::<R, L, W>(
+            alloc, answers, platform, trace, measure, first, second, out,
+        ),
         Task::Plan {
             map,
             cert: file,
@@ -149,7 +151,7 @@ fn run_task<'a, R: Source, M, C: CertificateSink<M>, W: Sink>(
             let asked = plan_asked(options, file, limit);
             quiet(do_plan::<R, M, C, W>(alloc, map, asked, first, cert, out))
         }
-        Task::Judge { map, trace, limit } => do_judge_as(
+        Task::Judge { map, trace, limit } => do_judge_as::<R, L, W>(
             alloc, listed, answers, map, trace, xlen, limit, first, second, out,
         ),
         Task::Check { map, cert } => quiet(do_check(alloc, map, cert, first, second, out)),
@@ -171,7 +173,7 @@ fn run_task<'a, R: Source, M, C: CertificateSink<M>, W: Sink>(
 }
 
 /// Does what is asked for, with a certificate as `M` says.
-fn perform_as<R: Source, M, C: CertificateSink<M>, W: Sink, E: Sink>(
+fn perform_as<R: Source, M, C: CertificateSink<M>, L, W: LineSink<L>, E: Sink>(
     alloc: Global,
     request: &Request<'_>,
     first: &mut R,
@@ -186,7 +188,7 @@ fn perform_as<R: Source, M, C: CertificateSink<M>, W: Sink, E: Sink>(
         (writing W.contents W.failures W.stalls out.old out.new)
         (writing E.contents E.failures E.stalls err.old err.new) result }
 {
-    let done = run_task::<R, M, C, W>(alloc, request, first, second, cert, out);
+    let done = run_task::<R, M, C, L, W>(alloc, request, first, second, cert, out);
     report(done, err)
 }
 
@@ -210,12 +212,12 @@ pub fn perform<R: Source, C: Sink, W: Sink, E: Sink>(
         (writing E.contents E.failures E.stalls err.old err.new) result }
 {
     let request = Request::alone(*task);
-    perform_as::<R, Straight, C, W, E>(alloc, &request, first, second, cert, out, err)
+    perform_as::<R, Straight, C, Direct, W, E>(alloc, &request, first, second, cert, out, err)
 }
 
 /// Does a task as [`perform`] does, with the options of a request. A certificate is put in the place of `cert` whole, or not
 /// at all.
-pub fn perform_request<R: Source, C: WholeSink, W: Sink, E: Sink>(
+pub fn perform_request<R: Source, C: WholeSink, L, W: LineSink<L>, E: Sink>(
     alloc: Global,
     request: &Request<'_>,
     first: &mut R,
@@ -230,5 +232,5 @@ pub fn perform_request<R: Source, C: WholeSink, W: Sink, E: Sink>(
         (writing W.contents W.failures W.stalls out.old out.new)
         (writing E.contents E.failures E.stalls err.old err.new) result }
 {
-    perform_as::<R, Whole, C, W, E>(alloc, request, first, second, cert, out, err)
+    perform_as::<R, Whole, C, L, W, E>(alloc, request, first, second, cert, out, err)
 }

@@ -9,18 +9,18 @@ ghost use Rattle.commands.specs.Answered.{said};
 ghost use Rattle.monitor_cli.specs.Runs.{Runs, RunsExpecting, RunsExplaining, RunsTrace, RunsTraceAs};
 
 use crate::measurements::{boot_machine, measure_where};
-use byte_streams::{Sink, Source};
+use byte_streams::{LineSink, Source};
 use command_inputs::{Trouble, read_platform};
 use commands::{Answered, compared, quiet, tell_first};
 use explained_runs::{Ran, explain_run, print_summary};
-use hart_sim::{Machine, run};
+use hart_sim::{Machine, run_lines};
 use program_tasks::Answers;
 use std::alloc::Global;
 use trace_answers::{Compared, compare_lines};
 
 /// Runs a trace on a machine, and prints the measurements where they are asked for.
 #[inline(never)]
-fn run_plainly<'a, R: Source, W: Sink>(
+fn run_plainly<'a, R: Source, L, W: LineSink<L>>(
     machine: &mut Machine,
     trace: &'a str,
     measure: bool,
@@ -32,7 +32,7 @@ fn run_plainly<'a, R: Source, W: Sink>(
         (reading R.remaining R.failures second.old second.new)
         (writing W.contents W.failures W.stalls out.old out.new) result }
 {
-    run(machine, second, out).map_err(|fault| Trouble::of_run(trace, fault))?;
+    run_lines::<R, L, W>(machine, second, out).map_err(|fault| Trouble::of_run(trace, fault))?;
     measure_where(machine, measure, out)?;
     Ok(0)
 }
@@ -40,7 +40,7 @@ fn run_plainly<'a, R: Source, W: Sink>(
 /// Runs a trace on a machine, says after each answer what happened, prints the measurements where they are asked for, and last
 /// the summary.
 #[inline(never)]
-fn run_explaining<'a, R: Source, W: Sink>(
+fn run_explaining<'a, R: Source, L, W: LineSink<L>>(
     machine: Machine,
     trace: &'a str,
     measure: bool,
@@ -56,7 +56,7 @@ fn run_explaining<'a, R: Source, W: Sink>(
         machine,
         tally,
         end,
-    } = explain_run(machine, second, out);
+    } = explain_run::<R, L, W>(machine, second, out);
     end.map_err(|fault| Trouble::of_run(trace, fault))?;
     measure_where(&machine, measure, out)?;
     print_summary(&tally, &machine, out)?;
@@ -65,7 +65,7 @@ fn run_explaining<'a, R: Source, W: Sink>(
 
 /// Runs a trace on a machine, compares its answers, and prints the measurements where they are asked for.
 #[inline(never)]
-fn run_expecting<'a, R: Source, W: Sink>(
+fn run_expecting<'a, R: Source, L, W: LineSink<L>>(
     machine: Machine,
     trace: &'a str,
     measure: bool,
@@ -82,7 +82,7 @@ fn run_expecting<'a, R: Source, W: Sink>(
         first,
         note,
         end,
-    } = compare_lines(machine, second, out);
+    } = compare_lines::<_, R, L, W>(machine, second, out);
     end.map_err(|fault| Trouble::of_run(trace, fault))?;
     measure_where(&lines, measure, out)?;
     let status = tell_first(&first, out)?;
@@ -90,7 +90,7 @@ fn run_expecting<'a, R: Source, W: Sink>(
 }
 
 /// Runs a trace on a machine, and writes of the answers what is asked for.
-fn run_on<'a, R: Source, W: Sink>(
+fn run_on<'a, R: Source, L, W: LineSink<L>>(
     machine: Machine,
     answers: Answers,
     trace: &'a str,
@@ -106,15 +106,17 @@ fn run_on<'a, R: Source, W: Sink>(
     match answers {
         Answers::Plain => {
             let mut running = machine;
-            quiet(run_plainly(&mut running, trace, measure, second, out))
+            quiet(run_plainly::<R, L, W>(&mut running, trace, measure, second, out))
         }
-        Answers::Explained => quiet(run_explaining(machine, trace, measure, second, out)),
-        Answers::Compared => run_expecting(machine, trace, measure, second, out),
+        Answers::Explained => {
+            quiet(run_explaining::<R, L, W>(machine, trace, measure, second, out))
+        }
+        Answers::Compared => run_expecting::<R, L, W>(machine, trace, measure, second, out),
     }
 }
 
 /// Boots a platform, runs a trace on it, and writes of the answers what is asked for.
-pub fn do_run_as<'a, R: Source, W: Sink>(
+pub fn do_run_as<'a, R: Source, L, W: LineSink<L>>(
     alloc: Global,
     answers: Answers,
     platform: &'a str,
@@ -131,5 +133,5 @@ pub fn do_run_as<'a, R: Source, W: Sink>(
 {
     let platform = read_platform(alloc, platform, first)?;
     let machine = boot_machine(alloc, platform)?;
-    run_on(machine, answers, trace, measure, second, out)
+    run_on::<R, L, W>(machine, answers, trace, measure, second, out)
 }

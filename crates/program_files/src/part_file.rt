@@ -4,7 +4,7 @@ ghost use Rattle.std.specs.Io.{WritesAtMost};
 ghost use Rattle.std.specs.Io.KnownBytes.{WriteAppends};
 ghost use Rattle.std.specs.IoError.{error_kind};
 ghost use Rattle.std.specs.Prelude.{◌≡◌, ◌≢◌, ◌≤◌, ◌⊎◌, None, Some, length, true, false, IfErr, IfOk, MatchResult, option_and_then, string_bytes};
-ghost use Rattle.byte_streams.specs.Streams.{CountsFailure, CountsStall, one_failure_more};
+ghost use Rattle.byte_streams.specs.Streams.{CountsFailure, CountsStall, GrowsByOne};
 ghost use Rattle.program_files.specs.Beside.{part_name, short_part_name, IsNumbered};
 ghost use Rattle.program_files.specs.Reasons.{reason_of};
 
@@ -219,11 +219,11 @@ fn why(written: io::Result<usize>) -> Reason
 
 impl<R: Files> PartFile<R> {
     /// Keeps why a write failed, and removes what was written beside the place.
-    #[tactic(auto, unfolding(byte_streams::specs::Streams::one_failure_more))]
+    #[tactic(auto, unfolding(byte_streams::specs::Streams::GrowsByOne))]
     fn fail(&mut self, reason: Reason) -> DeviceFault
         ensures reason { self.new.reason ≡ Some reason }
         ensures removed { self.new.is_beside ≡ false }
-        ensures failures { self.new.failures ≡ one_failure_more self.old.failures }
+        ensures failures { GrowsByOne self.old.failures self.new.failures }
         ensures stalls { self.new.stalls ≡ self.old.stalls }
     {
         self.reason = Some(reason);

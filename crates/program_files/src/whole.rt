@@ -2,7 +2,7 @@
 
 ghost use Rattle.std.specs.Prelude.{◌≡◌, ◌≢◌, ℕ, ◌+◌, ◌-◌, ◌^◌, ◌<◌, ◌≤◌, ◌++◌, List, IfOk, OnOk, Ok, Err, true, false, length};
 ghost use Rattle.std.specs.Io.KnownBytes.{Consumes, IsAtEnd};
-ghost use Rattle.byte_streams.specs.Streams.{one_failure_more, CountsFailure};
+ghost use Rattle.byte_streams.specs.Streams.{GrowsByOne, CountsFailure};
 
 use byte_streams::{DeviceFault, Source, SourceFault};
 use std::alloc::{AllocError, Global};
@@ -40,7 +40,7 @@ pub fn read_whole<R: Source>(
         → (bytes : List ℕ) × Consumes (R.remaining source.old) (R.remaining source.new) bytes
         × (most < length bytes) }
     ensures failed { result ≡ Err SourceFault.Read
-        → R.failures source.new ≡ one_failure_more (R.failures source.old) }
+        → GrowsByOne (R.failures source.old) (R.failures source.new) }
     ensures well { result ≢ Err SourceFault.Read
         → R.failures source.new ≡ R.failures source.old }
     ensures memory { result ≡ Err SourceFault.Memory

@@ -4,7 +4,7 @@ use Rattle.std.specs.Prelude.{◌++◌, length, take, Option, Some, None, Result
 use Rattle.std.specs.Prelude.{decimal}
 use Rattle.std.specs.List.{concat}
 use Rattle.std.specs.Io.KnownBytes.{Appends, Consumes, IsAtEnd}
-use Rattle.byte_streams.specs.Streams.{WriteFails, one_failure_more}
+use Rattle.byte_streams.specs.Streams.{GrowsByOne, WriteFails}
 use Rattle.text_lines.specs.declared.fault.ReadFault.{ReadFault}
 use Rattle.text_lines.specs.declared.fault.RunFault.{RunFault}
 use Rattle.text_lines.specs.declared.fault.RunFault.TheVariants as faults
@@ -166,7 +166,7 @@ pub record StopsForMemory {S : Type 0} (does : Meaning S) (starves : S → List 
 
 -- a read failed where the run ended so, and otherwise none did
 abbrev pub CountsReads : Result (Unit {0}) RunFault → ℕ → ℕ → Type 0
-CountsReads (Err faults.Read) before after = after ≡ one_failure_more before
+CountsReads (Err faults.Read) before after = GrowsByOne before after
 CountsReads _ before after = after ≡ before
 
 -- a write failed or took none where the run ended so, and otherwise none did

@@ -2,7 +2,7 @@
 use Rattle.std.specs.Prelude.{◌≡◌, ◌⊎◌, ℕ, ◌+◌, ◌<◌, Bool, true, false, List, [], ◌∷◌, ◌++◌, length}
 use Rattle.std.specs.Prelude.{take, drop, nat_lt, Option, Result, Ok, Err}
 use Rattle.std.specs.Io.KnownBytes.{Consumes, IsAtEnd}
-use Rattle.byte_streams.specs.Streams.{one_failure_more}
+use Rattle.byte_streams.specs.Streams.{GrowsByOne}
 use Rattle.text_lines.specs.declared.fault.ReadFault.{ReadFault}
 use Rattle.text_lines.specs.declared.fault.ReadFault.TheVariants.{LongLine, TooManyBytes, Device}
 use Rattle.text_lines.specs.declared.lines.LineReader.{LineReader}
@@ -71,7 +71,7 @@ BeyondLimit _ beyond = beyond ≡ []
 
 -- the source failed in this call, where that is the answer, and otherwise it did not
 abbrev pub FailsOnRead : Result Bool ReadFault → ℕ → ℕ → Type 0
-FailsOnRead (Err Device) before after = after ≡ one_failure_more before
+FailsOnRead (Err Device) before after = GrowsByOne before after
 FailsOnRead _ before after = after ≡ before
 
 -- what a call did

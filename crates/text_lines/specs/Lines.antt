@@ -4,7 +4,7 @@ use Rattle.std.specs.Prelude.{◌++◌, length, take, slice_index, if◌then◌e
 use Rattle.std.specs.Prelude.{Err}
 use Rattle.std.specs.List.{list_all}
 use Rattle.std.specs.Io.KnownBytes.{Consumes, IsAtEnd}
-use Rattle.byte_streams.specs.Streams.{one_failure_more}
+use Rattle.byte_streams.specs.Streams.{GrowsByOne}
 use Rattle.text_lines.specs.declared.fault.ReadFault.{ReadFault}
 use Rattle.text_lines.specs.declared.fault.ReadFault.TheVariants.{LongLine, TooManyBytes, Device}
 
@@ -73,5 +73,5 @@ EndsInput (Ok done) before after failures failed = Consumes before after [] × I
 EndsInput (Err TooManyBytes) before after failures failed =
     ((beyond : List ℕ) × (length beyond ≡ 1) × Consumes before after beyond) × (failed ≡ failures)
 EndsInput (Err Device) before after failures failed = Consumes before after []
-    × (failed ≡ one_failure_more failures)
+    × GrowsByOne failures failed
 EndsInput (Err (LongLine n)) before after failures failed = ⊥

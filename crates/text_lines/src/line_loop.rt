@@ -13,7 +13,7 @@ use crate::counter::Counter;
 use crate::fault::{ReadFault, RunFault};
 use crate::lines::LineReader;
 use crate::written::Line;
-use byte_streams::{DeviceFault, Sink, Source};
+use byte_streams::{DeviceFault, LineSink, Source};
 use thiserror::Error;
 
 /// How many bytes are read at once where they are there. The answers are handed on before each read, so fewer bytes would
@@ -86,7 +86,7 @@ pub trait Interpreter {
 
 /// Writes an answer, where there is one, and raises the number of the next. Says how many answers there are with it.
 #[inline(always)]
-fn write_answer<W: Sink>(
+fn write_answer<M, W: LineSink<M>>(
     answered: bool,
     answer: &Line,
     count: u64,
@@ -105,14 +105,14 @@ fn write_answer<W: Sink>(
     if !answered {
         return Ok(count);
     }
-    answer.write_behind(number, sink)?;
+    answer.write_behind::<M, W>(number, sink)?;
     number.raise(count + 1);
     Ok(count + 1)
 }
 
 /// Hands out the next line. Where it has to be read, the sink hands on the answers before: a read may have to wait.
 #[inline(always)]
-fn next_line<R: Source, W: Sink>(
+fn next_line<R: Source, M, W: LineSink<M>>(
     reader: &mut LineReader<AT_ONCE>,
     source: &mut R,
     sink: &mut W,
@@ -135,7 +135,7 @@ fn next_line<R: Source, W: Sink>(
 
 /// Takes the next line and interprets it. None at the end of the input.
 #[inline(always)]
-fn interpret_next<I: Interpreter, R: Source, W: Sink>(
+fn interpret_next<I: Interpreter, R: Source, M, W: LineSink<M>>(
     interpreter: &mut I,
     reader: &mut LineReader<AT_ONCE>,
     source: &mut R,
@@ -165,7 +165,7 @@ fn interpret_next<I: Interpreter, R: Source, W: Sink>(
         reader.take_short(len);
         return Ok(Some(said));
     }
-    if !next_line(reader, source, sink)? {
+    if !next_line::<R, M, W>(reader, source, sink)? {
         return Ok(None);
     }
     Ok(Some(interpreter.interpret(reader.line(), count, answer)))
@@ -174,7 +174,7 @@ fn interpret_next<I: Interpreter, R: Source, W: Sink>(
 /// Interprets the lines of an input one by one, and writes the answer of each before the next is read; before a read that may
 /// have to wait, the sink hands on what it holds. A line that is not understood, a device that fails and a refusal of memory
 /// end it.
-pub fn interpret_lines<I: Interpreter, R: Source, W: Sink>(
+pub fn interpret_lines<I: Interpreter, R: Source, M, W: LineSink<M>>(
     interpreter: &mut I,
     source: &mut R,
     sink: &mut W,
@@ -210,7 +210,14 @@ pub fn interpret_lines<I: Interpreter, R: Source, W: Sink>(
     let mut count: u64 = 0;
     'lines: loop {
         answer.clear();
-        let next = interpret_next(interpreter, &mut reader, source, sink, count, &mut answer)?;
+        let next = interpret_next::<I, R, M, W>(
+            interpreter,
+            &mut reader,
+            source,
+            sink,
+            count,
+            &mut answer,
+        )?;
         let said = match next {
             Some(said) => said,
             None => return Ok(()),
@@ -220,7 +227,7 @@ pub fn interpret_lines<I: Interpreter, R: Source, W: Sink>(
             Err(LineRefusal::NotUnderstood) => return Err(RunFault::Line(reader.number())),
             Err(LineRefusal::Memory) => return Err(RunFault::Memory),
         };
-        let Ok(answers) = write_answer(answered, &answer, count, &mut number, sink) else {
+        let Ok(answers) = write_answer::<M, W>(answered, &answer, count, &mut number, sink) else {
             return Err(RunFault::Write);
         };
         count = answers;

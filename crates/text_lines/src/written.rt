@@ -7,7 +7,7 @@ ghost use Rattle.text_lines.specs.Written.{hex, hex_digit};
 
 use crate::counter::Counter;
 use crate::hexadecimal::{word_digits, word_line};
-use byte_streams::{DeviceFault, Numbered, Sink, TEXT_ROOM, write_numbered};
+use byte_streams::{DeviceFault, LineSink, Numbered, TEXT_ROOM};
 use itoa::Buffer;
 use std::marker::Model;
 use std::simd::prelude::*;
@@ -109,7 +109,11 @@ impl Line {
 
     /// Writes a number, and the line after it.
     #[inline(always)]
-    pub fn write_behind<W: Sink>(&self, number: &Counter, sink: &mut W) -> Result<(), DeviceFault>
+    pub fn write_behind<M, W: LineSink<M>>(
+        &self,
+        number: &Counter,
+        sink: &mut W,
+    ) -> Result<(), DeviceFault>
         requires { number.now.len ≤ 20 }
         ensures { Prints (digits_of number.now ++ self.now)
             (writing W.contents W.failures W.stalls sink.old sink.new) result }
@@ -121,7 +125,7 @@ impl Line {
             text: &self.bytes,
             text_len: self.len,
         };
-        write_numbered(sink, text)
+        sink.write_numbered(text)
     }
 }
 

@@ -1,5 +1,6 @@
 //! Accesses that are judged by registers as they are.
 
+use byte_streams::Direct;
 use byte_streams::fakes::{PieceSink, PieceSource};
 use hart_trace::judge_lines;
 use pmp_encoding::Xlen;
@@ -196,7 +197,7 @@ fn judges_trace(rt: &impl Abort, rules: &Rules, wanted: &str) {
     let mut source = PieceSource::new(TRACE, 4096, None);
     let mut sink = PieceSink::new(4096, None);
     assert!(rt;
-        judge_lines(rules, &mut source, &mut sink).is_ok(),
+        judge_lines::<_, _, Direct, _>(rules, &mut source, &mut sink).is_ok(),
         "{wanted}"
     );
     assert!(rt; sink.written() == wanted.as_bytes(), "{wanted}");

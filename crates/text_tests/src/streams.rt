@@ -2,7 +2,7 @@
 
 use byte_streams::fakes::PieceSink;
 use byte_streams::{
-    Counted, DIGITS_ROOM, HeldSink, Numbered, Sink, Source, TEXT_ROOM, write_numbered, write_whole,
+    Counted, DIGITS_ROOM, Held, HeldSink, LineSink, Numbered, Sink, Source, TEXT_ROOM, write_whole,
 };
 use std::alloc::Global;
 use std::io::{self, ErrorKind, Write};
@@ -75,9 +75,9 @@ impl Write for PieceWriter {
 
 /// How many bytes a writer takes per write, the write that fails, and what it has of two answers at the end: the first was handed
 /// on before the second was held.
-type Held<'a> = (usize, Option<u64>, &'a [u8]);
+type HeldRow<'a> = (usize, Option<u64>, &'a [u8]);
 
-const HELD: [Held<'static>; 5] = [
+const HELD: [HeldRow<'static>; 5] = [
     (4096, None, b"1 ok\n2 denied\n"),
     (2, None, b"1 ok\n2 denied\n"),
     (2, Some(2), b"1 ok\n2 denied\n"),
@@ -86,7 +86,7 @@ const HELD: [Held<'static>; 5] = [
 ];
 
 /// Two answers are held for a writer, and it has what the row says.
-fn are_held(rt: &impl Abort, alloc: Global, row: &Held<'_>) {
+fn are_held(rt: &impl Abort, alloc: Global, row: &HeldRow<'_>) {
     let writer = PieceWriter {
         sink: PieceSink::new(row.0, row.1),
     };
@@ -100,8 +100,8 @@ fn are_held(rt: &impl Abort, alloc: Global, row: &Held<'_>) {
         text: &text,
         text_len: 4,
     };
-    assert!(rt; write_numbered(&mut sink, answer).is_ok());
-    sink.flush();
+    assert!(rt; LineSink::<Held>::write_numbered(&mut sink, answer).is_ok());
+    LineSink::<Held>::flush(&mut sink);
     assert!(rt; write_whole(&mut sink, b"2 denied\n").is_ok());
     let (is_whole, writer) = sink.close();
     assert!(rt; is_whole == (row.2.len() == 14), "{:?}", row.1);

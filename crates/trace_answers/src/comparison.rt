@@ -7,7 +7,7 @@ ghost use Rattle.trace_answers.specs.Comparisons.{ComparesAll, first_with, found
 use crate::comments::agrees;
 use crate::difference::{Difference, numbered};
 use crate::mistaken::{CommentNote, Mistaken};
-use byte_streams::{Sink, Source};
+use byte_streams::{LineSink, Source};
 use text_lines::{Interpreter, Line, LineRefusal, RunFault, interpret_lines};
 
 /// What interprets the lines, how many they were, the first difference, and the lines whose comments look like an answer and are
@@ -110,7 +110,7 @@ pub struct Compared<I> {
 
 /// Interprets the lines of an input as `interpret_lines` does, and compares the answer of each with the one that its comment says.
 /// Which comments look like an answer and are none is said of all lines together.
-pub fn compare_lines<I: Interpreter, R: Source, W: Sink>(
+pub fn compare_lines<I: Interpreter, R: Source, M, W: LineSink<M>>(
     lines: I,
     source: &mut R,
     sink: &mut W,
@@ -147,6 +147,6 @@ pub fn compare_lines<I: Interpreter, R: Source, W: Sink>(
         first: None,
         mistaken: Mistaken::none(),
     };
-    let end = interpret_lines(&mut comparing, source, sink);
+    let end = interpret_lines::<_, R, M, W>(&mut comparing, source, sink);
     comparing.ended(end)
 }

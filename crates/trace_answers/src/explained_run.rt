@@ -10,7 +10,7 @@ use crate::asked::asked_of;
 use crate::event_comment::comment_on;
 use crate::explained::explain;
 use crate::tally::Tally;
-use byte_streams::{Sink, Source};
+use byte_streams::{LineSink, Source};
 use hart_sim::{Machine, push_reply};
 use text_lines::{Interpreter, Line, LineRefusal, RunFault, interpret_lines};
 
@@ -72,7 +72,11 @@ pub struct Ran {
 
 /// Runs a trace on a machine as `hart_sim::run` does, appends to each answer a comment on what happened, and counts it.
 /// To name the number of entries that a refused view needs takes memory; if that is refused, the comment goes without the number.
-pub fn explain_run<R: Source, W: Sink>(machine: Machine, source: &mut R, sink: &mut W) -> Ran
+pub fn explain_run<R: Source, M, W: LineSink<M>>(
+    machine: Machine,
+    source: &mut R,
+    sink: &mut W,
+) -> Ran
     ensures all { KeepsBanksRight machine
         → IfOk result.end (λ _. DoesAll (explaining DoesLine) machine result.machine
         (R.remaining source.old) (R.remaining source.new) (W.contents sink.old)
@@ -103,7 +107,7 @@ pub fn explain_run<R: Source, W: Sink>(machine: Machine, source: &mut R, sink: &
         machine,
         tally: Tally::new(),
     };
-    let end = interpret_lines(&mut lines, source, sink);
+    let end = interpret_lines::<_, R, M, W>(&mut lines, source, sink);
     Ran {
         machine: lines.machine,
         tally: lines.tally,

@@ -8,7 +8,7 @@ ghost use Rattle.trace_answers.specs.Explained.{explaining};
 
 use crate::explained::{Comment, explain};
 use crate::reasons::reason_of;
-use byte_streams::{Sink, Source};
+use byte_streams::{LineSink, Source};
 use hart_trace::{AccessJudge, Event, LineJudge, parse_line};
 use pmp_match::{Access, Deciders};
 use std::fmt::Write;
@@ -74,7 +74,7 @@ impl<J: AccessJudge, D: Deciders> Interpreter for ExplainingJudge<'_, J, D> {
 }
 
 /// Judges the accesses of a trace as `judge_lines` does, and says after each answer which entry decided it.
-pub fn explain_judged<J: AccessJudge, D: Deciders, R: Source, W: Sink>(
+pub fn explain_judged<J: AccessJudge, D: Deciders, R: Source, M, W: LineSink<M>>(
     by: &J,
     deciders: &D,
     source: &mut R,
@@ -110,5 +110,5 @@ pub fn explain_judged<J: AccessJudge, D: Deciders, R: Source, W: Sink>(
         (W.failures sink.new) (W.stalls sink.old) (W.stalls sink.new) }
 {
     let mut lines = ExplainingJudge { by, deciders };
-    interpret_lines(&mut lines, source, sink)
+    interpret_lines::<_, R, M, W>(&mut lines, source, sink)
 }

@@ -6,12 +6,12 @@ ghost use Rattle.hart_trace.specs.Answers.{answered_by, is_no_access};
 ghost use Rattle.trace_answers.specs.Comparisons.{ComparesAll, found_in};
 
 use crate::comparison::{Compared, compare_lines};
-use byte_streams::{Sink, Source};
+use byte_streams::{LineSink, Source};
 use hart_trace::{AccessJudge, LineJudge};
 use text_lines::RunFault;
 
 /// Judges the accesses of a trace as `judge_lines` does, and compares each answer with the one that the comment of its line says.
-pub fn compare_judged<J: AccessJudge, R: Source, W: Sink>(
+pub fn compare_judged<J: AccessJudge, R: Source, M, W: LineSink<M>>(
     by: &J,
     source: &mut R,
     sink: &mut W,
@@ -43,7 +43,7 @@ pub fn compare_judged<J: AccessJudge, R: Source, W: Sink>(
         note,
         end,
         ..
-    } = compare_lines(LineJudge { by }, source, sink);
+    } = compare_lines::<_, R, M, W>(LineJudge { by }, source, sink);
     Compared {
         lines: (),
         first,

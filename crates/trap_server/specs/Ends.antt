@@ -2,7 +2,7 @@
 use Rattle.std.specs.Prelude.{◌≡◌, ◌⊎◌, ◌<◌, ℕ, List, [], ◌++◌, length, take, Option, Result}
 use Rattle.std.specs.Prelude.{MatchResult}
 use Rattle.std.specs.Io.KnownBytes.{Appends}
-use Rattle.byte_streams.specs.Streams.{WriteFails, one_failure_more}
+use Rattle.byte_streams.specs.Streams.{WriteFails, GrowsByOne}
 use Rattle.byte_streams.specs.Writings.{TakesPart}
 use Rattle.trap_server.specs.EndFrames.{end_bytes}
 use Rattle.trap_server.specs.declared.end.EndReason.{EndReason}
@@ -35,7 +35,7 @@ EndsAs result frames.Write held holds = (result ≡ faults.Write) × Appends hel
 
 -- a read failed where that is the fault, and otherwise none did
 abbrev pub CountsRead : ServeFault → ℕ → ℕ → Type 0
-CountsRead faults.Read before after = after ≡ one_failure_more before
+CountsRead faults.Read before after = GrowsByOne before after
 CountsRead _ before after = after ≡ before
 
 -- a write failed, or took none of some bytes, where that is the fault, and otherwise none did
@@ -56,7 +56,7 @@ CountsWrites result failures failed stalls stalled =
 
 -- what a frame's fault counts of reads
 abbrev pub FrameRead : FrameFault → ℕ → ℕ → Type 0
-FrameRead frames.Read before after = after ≡ one_failure_more before
+FrameRead frames.Read before after = GrowsByOne before after
 FrameRead _ before after = after ≡ before
 
 -- and of writes

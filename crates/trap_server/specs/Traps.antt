@@ -2,7 +2,7 @@
 use Rattle.std.specs.Prelude.{◌≡◌, ◌⊎◌, ℕ, ◌-◌, ◌<◌, ◌≤◌, Bool, true, false}
 use Rattle.std.specs.Prelude.{List, [], length, Option, Result, Ok, Err}
 use Rattle.std.specs.Io.KnownBytes.{Consumes, IsAtEnd}
-use Rattle.byte_streams.specs.Streams.{WriteFails, one_failure_more}
+use Rattle.byte_streams.specs.Streams.{WriteFails, GrowsByOne}
 use Rattle.sbi_decode.specs.Registers.{RegisterFile, x_of}
 use Rattle.trap_server.specs.Words.{word_at, call_tag, stop_tag}
 use Rattle.trap_server.specs.FrameBytes.{Breaks}
@@ -50,7 +50,7 @@ ReadsTrap (Err faults.Write) trap harts before after = ⊥
 
 -- a read failed where that is the answer, and otherwise none did
 abbrev pub CountsRead : {X : Type 0} → Result X FrameFault → ℕ → ℕ → Type 0
-CountsRead (Err faults.Read) before after = after ≡ one_failure_more before
+CountsRead (Err faults.Read) before after = GrowsByOne before after
 CountsRead _ before after = after ≡ before
 
 -- a write failed, or took none of some bytes, where that is the answer, and otherwise none did

@@ -4,7 +4,7 @@ ghost use Rattle.std.specs.Prelude.{Some, true, refl};
 ghost use Rattle.byte_streams.specs.Fakes.{written_of};
 
 use byte_streams::fakes::{PieceSink, PieceSource};
-use byte_streams::{DeviceFault, Sink};
+use byte_streams::{DeviceFault, Direct, Sink};
 use command_line::request_of_words;
 use monitor_cli::perform_request;
 use program_files::WholeSink;
@@ -45,7 +45,7 @@ impl WholeSink for PlacedSink {
         &mut self.sink
     }
 
-    #[tactic(auto, unfolding(byte_streams::specs::Streams::one_failure_more))]
+    #[tactic(auto, unfolding(byte_streams::specs::Streams::GrowsByOne))]
     fn put_in_place(&mut self) -> Result<(), DeviceFault> {
         // A write of no bytes is counted, and fails in its turn, as any other.
         self.sink.write(b"")?;
@@ -128,7 +128,7 @@ pub fn try_on(
     };
     let mut out = PieceSink::new(3, failing.out);
     let mut err = PieceSink::new(3, failing.err);
-    let status = perform_request(
+    let status = perform_request::<_, _, Direct, _, _>(
         alloc,
         &request,
         &mut first,

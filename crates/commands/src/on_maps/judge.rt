@@ -13,7 +13,7 @@ use crate::answered::{Answered, noted, notes_of};
 use crate::certified_plan::bank_in;
 use crate::expected::tell_first;
 use arrayvec::ArrayVec;
-use byte_streams::{Sink, Source, write_whole};
+use byte_streams::{LineSink, Source, write_whole};
 use command_inputs::{REGISTER_BYTES, Trouble, bytes_in, map_in};
 use hart_trace::{AccessJudge, judge_lines};
 use pmp_encoding::{Limit, Xlen};
@@ -26,7 +26,7 @@ use trace_answers::{Compared, Deciders, compare_judged, explain_judged};
 
 /// Judges a trace.
 #[inline(never)]
-fn judge_plainly<'a, J: AccessJudge, R: Source, W: Sink>(
+fn judge_plainly<'a, J: AccessJudge, R: Source, L, W: LineSink<L>>(
     by: &J,
     trace: &'a str,
     second: &mut R,
@@ -36,13 +36,13 @@ fn judge_plainly<'a, J: AccessJudge, R: Source, W: Sink>(
         (reading R.remaining R.failures second.old second.new)
         (writing W.contents W.failures W.stalls out.old out.new) result }
 {
-    judge_lines(by, second, out).map_err(|fault| Trouble::of_run(trace, fault))?;
+    judge_lines::<J, R, L, W>(by, second, out).map_err(|fault| Trouble::of_run(trace, fault))?;
     Ok(0)
 }
 
 /// Judges a trace, and says after each answer which entry decided it.
 #[inline(never)]
-fn judge_explaining<'a, J: AccessJudge, D: Deciders, R: Source, W: Sink>(
+fn judge_explaining<'a, J: AccessJudge, D: Deciders, R: Source, L, W: LineSink<L>>(
     by: &J,
     deciders: &D,
     trace: &'a str,
@@ -54,13 +54,13 @@ fn judge_explaining<'a, J: AccessJudge, D: Deciders, R: Source, W: Sink>(
         trace.entry (reading R.remaining R.failures second.old second.new)
         (writing W.contents W.failures W.stalls out.old out.new) result }
 {
-    explain_judged(by, deciders, second, out).map_err(|fault| Trouble::of_run(trace, fault))?;
+    explain_judged::<J, D, R, L, W>(by, deciders, second, out).map_err(|fault| Trouble::of_run(trace, fault))?;
     Ok(0)
 }
 
 /// Judges a trace, and compares the answers with those that its comments say.
 #[inline(never)]
-fn judge_expecting<'a, J: AccessJudge, R: Source, W: Sink>(
+fn judge_expecting<'a, J: AccessJudge, R: Source, L, W: LineSink<L>>(
     by: &J,
     notes: &ListingNotes,
     trace: &'a str,
@@ -76,7 +76,7 @@ fn judge_expecting<'a, J: AccessJudge, R: Source, W: Sink>(
         note,
         end,
         ..
-    } = compare_judged(by, second, out);
+    } = compare_judged::<J, R, L, W>(by, second, out);
     end.map_err(|fault| Trouble::of_run(trace, fault))?;
     let status = tell_first(&first, out)?;
     let notes = notes_of(notes, &note);
@@ -84,7 +84,7 @@ fn judge_expecting<'a, J: AccessJudge, R: Source, W: Sink>(
 }
 
 /// Judges a trace, and writes of the answers what is asked for; beside the status comes what is said of the listing.
-fn judge_by<'a, J: AccessJudge, D: Deciders, R: Source, W: Sink>(
+fn judge_by<'a, J: AccessJudge, D: Deciders, R: Source, L, W: LineSink<L>>(
     by: &J,
     deciders: &D,
     answers: Answers,
@@ -99,15 +99,18 @@ fn judge_by<'a, J: AccessJudge, D: Deciders, R: Source, W: Sink>(
         (writing W.contents W.failures W.stalls out.old out.new) (said result) }
 {
     match answers {
-        Answers::Plain => noted(notes, judge_plainly(by, trace, second, out)),
-        Answers::Explained => noted(notes, judge_explaining(by, deciders, trace, second, out)),
-        Answers::Compared => judge_expecting(by, notes, trace, second, out),
+        Answers::Plain => noted(notes, judge_plainly::<J, R, L, W>(by, trace, second, out)),
+        Answers::Explained => noted(
+            notes,
+            judge_explaining::<J, D, R, L, W>(by, deciders, trace, second, out),
+        ),
+        Answers::Compared => judge_expecting::<J, R, L, W>(by, notes, trace, second, out),
     }
 }
 
 /// Loads the entries of a map and judges a trace by them.
 #[inline(never)]
-fn do_judge<'a, R: Source, W: Sink>(
+fn do_judge<'a, R: Source, L, W: LineSink<L>>(
     alloc: Global,
     answers: Answers,
     map: &'a str,
@@ -127,7 +130,7 @@ fn do_judge<'a, R: Source, W: Sink>(
     let map = map_in(alloc, file, first)?;
     let bank = bank_in(alloc, file, &map, xlen, limit)?;
     let segments = Segments::of(&bank);
-    judge_by(
+    judge_by::<_, _, R, L, W>(
         &segments,
         &bank,
         answers,
@@ -140,7 +143,7 @@ fn do_judge<'a, R: Source, W: Sink>(
 
 /// Takes registers as they are and judges a trace by them. The status is 1 where they judge nothing.
 #[inline(never)]
-fn do_judge_registers<'a, R: Source, W: Sink>(
+fn do_judge_registers<'a, R: Source, L, W: LineSink<L>>(
     alloc: Global,
     answers: Answers,
     registers: &'a str,
@@ -166,7 +169,9 @@ fn do_judge_registers<'a, R: Source, W: Sink>(
         }
     };
     match ruled {
-        Ruled::Rules(rules) => judge_by(&rules, &rules, answers, &notes, trace, second, out),
+        Ruled::Rules(rules) => {
+            judge_by::<_, _, R, L, W>(&rules, &rules, answers, &notes, trace, second, out)
+        }
         Ruled::Refused(line) => {
             write_whole(out, line.as_slice())?;
             noted(&notes, Ok(1))
@@ -175,7 +180,7 @@ fn do_judge_registers<'a, R: Source, W: Sink>(
 }
 
 /// Judges a trace by the entries of a map, or by registers as they are, and writes of the answers what is asked for.
-pub fn do_judge_as<'a, R: Source, W: Sink>(
+pub fn do_judge_as<'a, R: Source, L, W: LineSink<L>>(
     alloc: Global,
     registers: bool,
     answers: Answers,
@@ -193,7 +198,7 @@ pub fn do_judge_as<'a, R: Source, W: Sink>(
         (said result) }
 {
     if registers {
-        return do_judge_registers(alloc, answers, file, trace, xlen, first, second, out);
+        return do_judge_registers::<R, L, W>(alloc, answers, file, trace, xlen, first, second, out);
     }
-    do_judge(alloc, answers, file, trace, xlen, limit, first, second, out)
+    do_judge::<R, L, W>(alloc, answers, file, trace, xlen, limit, first, second, out)
 }

@@ -1,6 +1,7 @@
 -- The lists grow by the split block of each level, whose halves are taken with the one beside the chain first.
 use Rattle.std.proofs.Common.{◌≡◌, ◌%◌, ◌∙◌, ◌∷◌, [], ◌++◌, ap, arith, reverse, eq-zero-or-pos, inl, inr}
-use Rattle.entry_planner.specs.Plans.{block_cost, costs_in}
+use Rattle.entry_planner.specs.PackedCosts.{splits_in}
+use Rattle.entry_planner.specs.Plans.{block_cost}
 use Rattle.entry_planner.proofs.BlockCosts.{turned_cost, turned_split}
 use Rattle.entry_planner.proofs.ChainCosts.{begun, raised_upper, raised_lower, raised_whole}
 use Rattle.entry_planner.proofs.costs.add_chain_costs.Goals as goal
@@ -51,5 +52,5 @@ returns-clause-own c = λ tree is.
 pub returns-clause-costs : goal.returns-clause-costs
 returns-clause-costs c = λ tree first is all.
     let r = c.loop-level.invariant.raised in
-    r.costs_are tree first is all ∙ ap (λ t. first ++ reverse (costs_in t))
+    r.costs_are tree first is all ∙ ap (λ t. first ++ reverse (splits_in t))
     (raised_whole _ _ _ _ _ _ _ c.loop-level.auto.level-end c.loop-level-test.false c.requires.chain.place r tree)

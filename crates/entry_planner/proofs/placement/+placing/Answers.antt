@@ -6,7 +6,7 @@ use Rattle.prefix_tree.specs.Counts.{splits}
 use Rattle.prefix_tree.specs.Trees.{PermTree, Uniform, Fits}
 use Rattle.prefix_tree.proofs.Nested.{splits-chained}
 use Rattle.entry_planner.specs.Placement.{place_at}
-use Rattle.entry_planner.specs.Plans.{costs_in}
+use Rattle.entry_planner.specs.PackedCosts.{splits_in}
 use Rattle.entry_planner.proofs.ChainWalked.{all_costs, IsStep, begun_at, beside_small, cost_left, ended, left_at, place_small, split_at_lower, split_at_upper}
 use Rattle.entry_planner.proofs.ChainWalked.{stepped_lower, stepped_upper}
 use Rattle.entry_planner.proofs.ChainKept.{kept_chosen, smallest_costs, smallest_fits}
@@ -38,7 +38,7 @@ place_entries-place_chain-requires g t c = λ κs lives.
                 (
                   c.requires.costs.0,
                   c.requires.costs.1
-                      ∙ ap (λ t. c.requires.costs.0 ++ reverse (costs_in t)) is.1,
+                      ∙ ap (λ t. c.requires.costs.0 ++ reverse (splits_in t)) is.1,
                 ),
               ),
             ),

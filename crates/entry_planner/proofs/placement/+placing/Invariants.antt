@@ -3,7 +3,7 @@ use Rattle.std.proofs.Common.{◌≡◌, ◌+◌, ◌-◌, ◌*◌, ◌≤◌, �
 use Rattle.prefix_tree.specs.Chains.{chained}
 use Rattle.prefix_tree.specs.Counts.{splits}
 use Rattle.entry_planner.specs.declared.costs.SplitCost.{SplitCost}
-use Rattle.entry_planner.specs.Plans.{costs_in}
+use Rattle.entry_planner.specs.PackedCosts.{splits_in}
 use Rattle.entry_planner.proofs.ChainWalked.{WalkedTo, left_at}
 use Rattle.entry_planner.proofs.placement.+placing.Given as goal
 
@@ -19,8 +19,8 @@ invariant-place_chain-loop-depth g l =
     let tree = g.H.Halving.shape l.fn.smallest in
     record {
       few : length l.left ≤ length l.fn.costs;
-      ends : (rest : List SplitCost) × (l.left ≡ rest ++ reverse (costs_in (left_at l.fn.chain l.depth tree)));
-      back : (rest : List SplitCost) → l.left ≡ rest ++ reverse (costs_in (left_at l.fn.chain l.depth tree))
-          → l.fn.costs ≡ rest ++ reverse (costs_in (chained l.fn.chain tree));
+      ends : (rest : List SplitCost) × (l.left ≡ rest ++ reverse (splits_in (left_at l.fn.chain l.depth tree)));
+      back : (rest : List SplitCost) → l.left ≡ rest ++ reverse (splits_in (left_at l.fn.chain l.depth tree))
+          → l.fn.costs ≡ rest ++ reverse (splits_in (chained l.fn.chain tree));
       walked : WalkedTo l.fn.pages.log2 l.fn.pages.first l.fn.inherited l.fn.chain tree l.depth l.from l.fn.entries l.entries;
     }

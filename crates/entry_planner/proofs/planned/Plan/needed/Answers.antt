@@ -3,4 +3,4 @@ use Rattle.std.proofs.Common.{rules}
 use Rattle.entry_planner.proofs.planned.Plan.needed.Goals as goal
 
 pub returns : goal.returns
-returns c = search rules
+returns g c = search rules

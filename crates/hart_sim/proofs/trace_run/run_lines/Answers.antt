@@ -1,6 +1,6 @@
 use Rattle.hart_sim.proofs.GoneOn.{goes_on}
 use Rattle.hart_sim.proofs.Headlined.{banks_of}
-use Rattle.hart_sim.proofs.trace_run.run.Goals as goal
+use Rattle.hart_sim.proofs.trace_run.run_lines.Goals as goal
 
 pub returns-clause-after : goal.returns-clause-after
 returns-clause-after g c = λ platform events replies a.
