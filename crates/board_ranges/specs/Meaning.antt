@@ -31,6 +31,7 @@ abbrev pub is_value : List ℕ → Option (List ℕ) → Bool
 is_value wanted None = false
 is_value wanted (Some value) = bytes_eq value wanted
 
+-- a property has a value
 abbrev pub is_there : Option (List ℕ) → Bool
 is_there None = false
 is_there (Some value) = true
@@ -54,11 +55,13 @@ kind_by BelowRoot hart memory unmapped machine = cond hart (Some Hart)
 kind_by OnBus hart memory unmapped machine = cond hart (Some Hart)
     (cond memory None (Some (device_by machine)))
 
+-- what a node at this place describes, by its properties; none if it describes nothing
 abbrev pub kind_of : Place → List Part → Option Kind
 kind_of place properties = kind_by place (has_type (codes "cpu") properties)
     (has_type (codes "memory") properties) (is_there (value_in (codes "no-map") properties))
     (is_machine (value_in (codes "compatible") properties))
 
+-- the same, and nothing if the node is not in use
 abbrev pub live_kind : Place → List Part → Option Kind
 live_kind place properties = cond (is_okay properties) (kind_of place properties) None
 
@@ -112,14 +115,17 @@ place_by OnBus reserved live way = cond (live && way) OnBus Elsewhere
 place_by InReserved reserved live way = Elsewhere
 place_by Elsewhere reserved live way = Elsewhere
 
+-- the addresses of a node reach the root
 abbrev pub has_path : Option Path → Bool
 has_path None = false
 has_path (Some way) = true
 
+-- the way of addresses to the root, or the one that changes nothing
 abbrev pub path_or : Option Path → Path
 path_or None = same
 path_or (Some way) = way
 
+-- the place of the children of a node
 abbrev pub inner_place : Place → List ℕ → List Part → Option Path → Place
 inner_place place name properties way = place_by place (bytes_eq name (codes "reserved-memory"))
     (is_okay properties) (has_path way)

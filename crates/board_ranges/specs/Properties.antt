@@ -24,5 +24,6 @@ is_okay_value None = true
 is_okay_value (Some value) = bytes_eq value (codes "okay" ++ 0 ∷ [])
     || bytes_eq value (codes "ok" ++ 0 ∷ [])
 
+-- a node is in use: it has no status, or `okay` or `ok`
 abbrev pub is_okay : List Part → Bool
 is_okay properties = is_okay_value (value_in (codes "status") properties)

@@ -23,12 +23,15 @@ answered failing n count = if is_failing failing n then Err (record {}) else Ok 
 abbrev pub rest_of : PieceSource → List ℕ
 rest_of source = source.bytes.now
 
+-- the most bytes that one read returns
 abbrev pub piece_of : PieceSource → ℕ
 piece_of source = source.piece
 
+-- the number of the read that fails, if one does
 abbrev pub failing_read : PieceSource → Option ℕ
 failing_read source = source.failing
 
+-- the reads so far
 abbrev pub reads_of : PieceSource → ℕ
 reads_of source = source.reads
 
@@ -41,12 +44,15 @@ given_by source room = min (min (piece_of source) room) (length (rest_of source)
 abbrev pub written_of : PieceSink → List ℕ
 written_of sink = sink.taken.items
 
+-- the most bytes that one write takes
 abbrev pub width_of : PieceSink → ℕ
 width_of sink = sink.piece
 
+-- the number of the write that fails, if one does
 abbrev pub failing_write : PieceSink → Option ℕ
 failing_write sink = sink.failing
 
+-- the writes so far
 abbrev pub writes_of : PieceSink → ℕ
 writes_of sink = sink.writes
 

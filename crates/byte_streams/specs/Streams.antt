@@ -33,6 +33,7 @@ WriteFails failures failed stalls stalled =
 abbrev pub inner_of : {T : Type 0} → Counted T → T
 inner_of device = device.inner
 
+-- the failures that a device has counted
 abbrev pub failures_of : {T : Type 0} → Counted T → ℕ
 failures_of device = device.failures
 

@@ -15,6 +15,7 @@ pub record Writing (W : Type 0) : Type 0 where
   pub stalls : ℕ
   pub stalled : ℕ
 
+-- a sink before and after a call, by what it tells of itself
 abbrev pub writing : {W : Type 0} → (W → Option (List ℕ)) → (W → ℕ) → (W → ℕ) → W → W → Writing W
 writing contents failures stalls old new = record {
   old = old;

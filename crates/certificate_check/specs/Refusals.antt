@@ -15,6 +15,7 @@ use Rattle.certificate_check.specs.declared.refusal.CheckRefusal.TheVariants.{En
 use Rattle.certificate_check.specs.declared.refusal.CheckRefusal.TheVariants.{WrongMeaning}
 use Rattle.certificate_check.specs.declared.refusal.CheckRefusal.TheVariants.{Trailing, BadLimit}
 
+-- the refusal for a fault of reading
 abbrev pub refusal_of : ReadFault → CheckRefusal
 refusal_of Read.BadMagic = BadMagic
 refusal_of Read.BadVersion = BadVersion
@@ -23,6 +24,7 @@ refusal_of Read.BadTag = BadTag
 refusal_of Read.BadPerm = BadPerm
 refusal_of Read.BadLimit = BadLimit
 
+-- the number of a refusal
 abbrev pub refusal_number : CheckRefusal → ℕ
 refusal_number BadMagic = 1
 refusal_number BadVersion = 2
@@ -41,6 +43,7 @@ refusal_number WrongMeaning = 14
 refusal_number Trailing = 15
 refusal_number BadLimit = 16
 
+-- the name of a refusal, as `check` prints it
 abbrev pub refusal_name : CheckRefusal → List ℕ
 refusal_name BadMagic = codes "BadMagic"
 refusal_name BadVersion = codes "BadVersion"

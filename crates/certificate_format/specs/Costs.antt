@@ -6,6 +6,7 @@ use Rattle.pmp_encoding.specs.declared.perm.Perm.TheVariants.{NoAccess, Read, Re
 use Rattle.pmp_encoding.specs.declared.perm.Perm.TheVariants.{ReadExecute, ReadWriteExecute}
 use Rattle.certificate_format.specs.declared.costs.SixCosts.{SixCosts}
 
+-- the cost of a block that inherits this permission
 abbrev pub cost_of : SixCosts → Perm → ℕ
 cost_of costs NoAccess = costs.no_access
 cost_of costs Read = costs.read

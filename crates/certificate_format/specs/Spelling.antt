@@ -19,6 +19,7 @@ use Rattle.certificate_format.specs.declared.header.Header.{Header}
 unfoldable pub u32_bytes : ℕ → List ℕ
 u32_bytes n = little_bytes 4 n
 
+-- a number in eight bytes, the lowest first
 unfoldable pub u64_bytes : ℕ → List ℕ
 u64_bytes n = little_bytes 8 n
 

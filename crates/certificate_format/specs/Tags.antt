@@ -3,6 +3,7 @@ use Rattle.std.specs.Prelude.{ℕ}
 use Rattle.certificate_format.specs.declared.reader.Tag.{Tag}
 use Rattle.certificate_format.specs.declared.reader.Tag.TheVariants.{Leaf, Branch}
 
+-- the byte that begins a leaf or a branch
 abbrev pub tag_byte : Tag → ℕ
 tag_byte Leaf = 0
 tag_byte Branch = 1

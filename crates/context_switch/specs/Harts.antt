@@ -8,6 +8,7 @@ use Rattle.sbi_decode.specs.contracts.registers.Registers as registers
 use Rattle.context_switch.specs.declared.hart.Hart.{Hart}
 use Rattle.context_switch.specs.contracts.hart.Hart as hart
 
+-- the number of a hart
 abbrev pub number_of : Hart → ℕ
 number_of hart = hart.number
 

@@ -26,6 +26,7 @@ pub record Tree : Type 0 where
   pub properties : List Setting
   pub children : Nodes
 
+-- the parts of a whole tree, from the root's beginning to its end
 abbrev pub parts_of_tree : Tree → List Part
 parts_of_tree tree = begins []
     ∷ (map has tree.properties ++ (parts_of_nodes tree.children ++ (ends ∷ [])))

@@ -63,6 +63,7 @@ part_of (Begins name) = begins name.now
 part_of (Has name value) = has (record { name = name.now; value = value.now })
 part_of Ends = ends
 
+-- the parts of pieces, without their places
 abbrev pub parts_of : List PlacedPiece → List Part
 parts_of pieces = map (λ placed. part_of placed.piece) pieces
 

@@ -29,12 +29,15 @@ pub record IsHeader (bytes : List ℕ) : Type 0 where
   pub oldest : word_at bytes 24 ≤ 17
   pub blocks : AreBlocks bytes
 
+-- the structure block, by the header's size and offset
 abbrev pub structure_of : List ℕ → List ℕ
 structure_of bytes = take (word_at bytes 36) (drop (word_at bytes 8) bytes)
 
+-- the strings block, by the header's size and offset
 abbrev pub strings_of : List ℕ → List ℕ
 strings_of bytes = take (word_at bytes 32) (drop (word_at bytes 12) bytes)
 
+-- the bytes from the memory reservations on
 abbrev pub reservations_of : List ℕ → List ℕ
 reservations_of bytes = drop (word_at bytes 16) bytes
 

@@ -7,6 +7,7 @@ use Rattle.byteorder.specs.Endian.{big_number}
 abbrev pub word_at : List ℕ → ℕ → ℕ
 word_at bytes place = big_number 4 (drop place bytes)
 
+-- the number in the eight bytes from a place on, the highest first
 abbrev pub double_word_at : List ℕ → ℕ → ℕ
 double_word_at bytes place = big_number 8 (drop place bytes)
 

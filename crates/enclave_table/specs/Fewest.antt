@@ -11,6 +11,7 @@ use Rattle.enclave_table.specs.declared.refusal.Refusal.TheVariants.{NoEntries, 
 abbrev pub FitsIn : Limit → View → Type 0
 FitsIn limit view = (n : ℕ) × Needs view n × (n ≤ limit_number limit)
 
+-- a view needs more entries than the limit allows
 abbrev pub NeedsMore : Limit → View → Type 0
 NeedsMore limit view = (n : ℕ) × Needs view n × (limit_number limit < n)
 

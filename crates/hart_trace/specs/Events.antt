@@ -13,6 +13,7 @@ use Rattle.hart_trace.specs.declared.event.Event.TheVariants as events
 use Rattle.text_lines.specs.Words.{words_of}
 use Rattle.text_lines.specs.Numbers.{numeral_of, number_of}
 
+-- a word of a line
 abbrev pub Word : Type 0
 Word = List ℕ
 
@@ -22,6 +23,7 @@ abbrev pub ◌>>=◌ : {A B : Type 0} → Option A → (A → Option B) → Opti
 None >>= f = None
 (Some x) >>= f = f x
 
+-- the mode that a word names
 abbrev pub mode_of : Word → Option Mode
 mode_of word = if bytes_eq word (codes "s") then Some Supervisor else if bytes_eq word (codes "u")
     then Some User else None
@@ -65,6 +67,7 @@ register_of (x ∷ digits) = do
   n ← numeral_of 10 digits
   if x == 120 && not (has_leading_zero digits) && nat_lt n 32 then Some n else None
 
+-- the register setting that words name
 abbrev pub setting_of : List Word → Option Event
 setting_of (register ∷ word ∷ []) = do
   n ← register_of register
@@ -85,6 +88,7 @@ abbrev pub call_in : List Word → Option Event
 call_in words = if nat_le (length words) 8
     then option_map (λ ns. events.Ecall (record { items = ns })) (numbers_of words) else None
 
+-- the interrupt, if no words follow its keyword
 abbrev pub interrupt_of : List Word → Option Event
 interrupt_of [] = Some events.Irq
 interrupt_of (word ∷ words) = None

@@ -51,6 +51,7 @@ row_by extents s None = []
 row_by extents s (Some i) = range_text s
     ++ number_text i (overridden_from (i + 1) (drop (i + 1) extents) s)
 
+-- the rows of stretches, one after another
 abbrev pub rows_text : List Extent → List Stretch → List ℕ
 rows_text extents [] = []
 rows_text extents (s ∷ stretches) = row_by extents s s.entry ++ rows_text extents stretches
@@ -70,6 +71,7 @@ abbrev pub is_rest : Option ℕ → Bool
 is_rest None = true
 is_rest (Some i) = false
 
+-- no entry decides some stretch of a list
 abbrev pub has_rest : List Stretch → Bool
 has_rest [] = false
 has_rest (s ∷ stretches) = if is_rest s.entry then true else has_rest stretches
@@ -83,10 +85,12 @@ rest_text perm = codes "all else                                       " ++ lett
 abbrev pub rest_of : Perm → List Stretch → List ℕ
 rest_of perm stretches = if has_rest stretches then rest_text perm else []
 
+-- the words after the number of entries
 abbrev pub named_text : ℕ → List ℕ
 named_text n = if n == 1 then codes " entry: fewest possible; "
     else codes " entries: fewest possible; "
 
+-- the words before the limit
 abbrev pub fitting_text : ℕ → Limit → List ℕ
 fitting_text n limit = if nat_le n (limit_number limit) then codes "fits "
     else codes "does not fit "
@@ -96,6 +100,7 @@ abbrev pub count_text : ℕ → Limit → List ℕ
 count_text n limit = decimal n ++ named_text n ++ fitting_text n limit
     ++ decimal (limit_number limit) ++ codes "\n"
 
+-- the words after the number of entries that are not OFF
 abbrev pub on_named : ℕ → List ℕ
 on_named n = if n == 1 then codes " entry is not OFF\n" else codes " entries are not OFF\n"
 

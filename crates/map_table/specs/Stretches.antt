@@ -12,6 +12,7 @@ decider_from n [] byte = None
 decider_from n (x ∷ extents) byte = if has_byte x byte then Some n
     else decider_from (n + 1) extents byte
 
+-- the number of the first extent that contains a byte
 abbrev pub decider : List Extent → ℕ → Option ℕ
 decider extents byte = decider_from 0 extents byte
 

@@ -13,9 +13,11 @@ use Rattle.permission_map.specs.declared.runs.Run.{Run}
 abbrev pub page_of : Point → ℕ
 page_of p = p.number / 8
 
+-- the permission from a point on
 abbrev pub perm_of : Point → Perm
 perm_of p = perm_for (p.number % 8)
 
+-- the permission from a point on allows something
 abbrev pub allows : Point → Bool
 allows p = not (p.number % 8 == 0)
 
@@ -84,6 +86,7 @@ abbrev pub turns_after : Perm → List Point → List Point
 turns_after before [] = []
 turns_after before (p ∷ ps) = turn_at before p ++ turns_after (perm_of p) ps
 
+-- each point changes the permission, starting from none
 abbrev pub turns : List Point → List Point
 turns ps = turns_after NoAccess ps
 

@@ -17,6 +17,7 @@ abbrev pub version_for : Limit → Version
 version_for Sixteen = One
 version_for SixtyFour = Two SixtyFour
 
+-- the bytes of an entry: its canonical pair
 abbrev pub entry_bytes : Entry → List ℕ
 entry_bytes e = pair_bytes (cfg_of e, address_of e)
 

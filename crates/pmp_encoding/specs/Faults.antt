@@ -5,6 +5,7 @@ use Rattle.pmp_encoding.specs.declared.fault.EncodingFault.TheVariants.{Reserved
 use Rattle.pmp_encoding.specs.declared.fault.EncodingFault.TheVariants.{ReservedBits, AddressBits}
 use Rattle.pmp_encoding.specs.declared.fault.EncodingFault.TheVariants.{NoSuchCsr}
 
+-- the number of a fault
 abbrev pub fault_number : EncodingFault → ℕ
 fault_number ReservedPerm = 1
 fault_number Tor = 2

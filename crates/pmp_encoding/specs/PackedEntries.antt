@@ -5,9 +5,11 @@ use Rattle.pmp_encoding.specs.declared.region.Entry.{Entry}
 use Rattle.pmp_encoding.specs.Block.{IsBlock}
 use Rattle.pmp_encoding.specs.Perms.{bits_of, perm_for}
 
+-- the base address in a packed entry
 abbrev pub base_in : ℕ → ℕ
 base_in n = n / 512 * 4
 
+-- the binary logarithm of the size in a packed entry
 abbrev pub log2_in : ℕ → ℕ
 log2_in n = n / 8 % 64
 

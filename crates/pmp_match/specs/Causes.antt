@@ -16,11 +16,13 @@ cause_number LoadFault = 5
 cause_number StoreMisaligned = 6
 cause_number StoreFault = 7
 
+-- the cause of a misaligned access
 abbrev pub misaligned : Kind → Cause
 misaligned Fetch = FetchMisaligned
 misaligned Load = LoadMisaligned
 misaligned Store = StoreMisaligned
 
+-- the cause of a denied access
 abbrev pub access_fault : Kind → Cause
 access_fault Fetch = FetchFault
 access_fault Load = LoadFault

@@ -20,6 +20,7 @@ abbrev pub first_perm : PermTree → Perm
 first_perm (Uniform q) = q
 first_perm (Split lower upper) = first_perm lower
 
+-- the permission of the last page of a tree
 abbrev pub last_perm : PermTree → Perm
 last_perm (Uniform q) = q
 last_perm (Split lower upper) = last_perm upper

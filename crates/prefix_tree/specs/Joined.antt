@@ -15,6 +15,7 @@ shared_of None other = None
 shared_of (Some p) None = None
 shared_of (Some p) (Some q) = if perm_eq p q then Some p else None
 
+-- the permission of two halves, if both have one and the same
 abbrev pub shared_perm : PermTree → PermTree → Option Perm
 shared_perm lower upper = shared_of (one_perm lower) (one_perm upper)
 
@@ -23,6 +24,7 @@ abbrev pub joined_by : Option Perm → PermTree → PermTree → PermTree
 joined_by None lower upper = Split lower upper
 joined_by (Some q) lower upper = Uniform q
 
+-- the tree of two halves, which is not split if both have one permission
 abbrev pub joined : PermTree → PermTree → PermTree
 joined lower upper = joined_by (shared_perm lower upper) lower upper
 

@@ -5,6 +5,7 @@ use Rattle.prefix_tree.specs.declared.blocks.Summary.{Summary}
 use Rattle.prefix_tree.specs.Trees.{PermTree, Uniform, Split, Fits, IsCanonical}
 use Rattle.prefix_tree.specs.Counts.{splits, first_perm, last_perm, starts_inside, runs_in}
 
+-- a block without its pointers and sums
 abbrev pub shape_of : Block → PermTree
 shape_of (Leaf q) = Uniform q
 shape_of (Branch' p lower upper summary) = Split (shape_of lower) (shape_of upper)
@@ -16,6 +17,7 @@ pub record Sums (summary : Summary) (tree : PermTree) : Type 0 where
   pub starts : summary.starts ≡ starts_inside tree
   pub branches : summary.branches ≡ splits tree
 
+-- each split of a block keeps the sums of its shape
 abbrev pub IsSummed : Block → Type 0
 IsSummed (Leaf q) = Unit {0}
 IsSummed (Branch' p lower upper summary) = Sums summary (Split (shape_of lower) (shape_of upper))

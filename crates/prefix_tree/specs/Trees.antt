@@ -52,5 +52,6 @@ SplitsOnlyMixedAt view (suc k) first (Split lower upper) =
     × SplitsOnlyMixedAt view k first lower
     × SplitsOnlyMixedAt view k (first + 2 ^ k) upper
 
+-- a tree of the whole space splits only blocks that are not uniform
 abbrev pub SplitsOnlyMixed : (ℕ → Perm) → PermTree → Type 0
 SplitsOnlyMixed view tree = SplitsOnlyMixedAt view 44 0 tree

@@ -33,6 +33,7 @@ abbrev pub has_leading_zero : List ℕ → Bool
 has_leading_zero (first ∷ second ∷ digits) = first == 48
 has_leading_zero _ = false
 
+-- the number of a register, without leading zeros
 abbrev pub index_of : List ℕ → Option ℕ
 index_of digits = if has_leading_zero digits then None else numeral_of 10 digits
 
@@ -40,6 +41,7 @@ index_of digits = if has_leading_zero digits then None else numeral_of 10 digits
 abbrev pub address_at : ℕ → ℕ → Option Setting
 address_at value place = if nat_lt place 64 then Some (settings.Address place value) else None
 
+-- the setting of an address register by its number and value
 abbrev pub address_setting : List ℕ → ℕ → Option Setting
 address_setting digits value = option_and_then (address_at value) (index_of digits)
 
@@ -49,12 +51,15 @@ abbrev pub word_at : Xlen → ℕ → ℕ → Option Setting
 word_at xlen value k = if nat_lt k 16 && k % (xlen_bits xlen / 32) == 0
     then Some (settings.Word (4 * k) value) else None
 
+-- the setting of a configuration word by its number and value
 abbrev pub word_setting : Xlen → List ℕ → ℕ → Option Setting
 word_setting xlen digits value = option_and_then (word_at xlen value) (index_of digits)
 
+-- a letter of ASCII
 abbrev pub is_letter : ℕ → Bool
 is_letter b = nat_le 65 b && nat_le b 90 || nat_le 97 b && nat_le b 122
 
+-- a word begins with a letter
 abbrev pub begins_with_letter : List ℕ → Bool
 begins_with_letter [] = false
 begins_with_letter (first ∷ rest) = is_letter first
@@ -100,6 +105,7 @@ plain_setting xlen name value = if fits xlen value
     (after_name name (codes "pmpcfg"))
     else None
 
+-- the setting that a name and a value give; the name may end in a colon
 abbrev pub register_setting : Xlen → List ℕ → ℕ → Option Setting
 register_setting xlen name value = plain_setting xlen (without_colon name) value
 
@@ -107,6 +113,7 @@ register_setting xlen name value = plain_setting xlen (without_colon name) value
 abbrev pub equals_at : List ℕ → ℕ
 equals_at word = position_or_len (λ b. b == 61) word
 
+-- the setting in a single word `NAME=VALUE`
 abbrev pub set_by_one : Xlen → List ℕ → Option Setting
 set_by_one xlen word =
     if nat_lt (equals_at word) (length word)
@@ -123,6 +130,7 @@ abbrev pub pair_setting : Xlen → ℕ → ℕ → ℕ → Option Setting
 pair_setting xlen place cfg address = if nat_lt place 64 && (nat_lt cfg 256 && fits xlen address)
     then Some (settings.Pair place cfg address) else None
 
+-- the setting of an entry by the words of its configuration and address
 abbrev pub pair_by_words : Xlen → ℕ → List ℕ → List ℕ → Option Setting
 pair_by_words xlen place cfg address =
     option_and_then (λ c. option_and_then (pair_setting xlen place c) (unpadded address))

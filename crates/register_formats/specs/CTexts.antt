@@ -140,10 +140,12 @@ abbrev pub c_load_addresses : Xlen → List ℕ
 c_load_addresses Rv32 = codes "_load(void)\n{\n    const uint32_t *addr = "
 c_load_addresses Rv64 = codes "_load(void)\n{\n    const uint64_t *addr = "
 
+-- the declaration of the configuration words in the C function
 abbrev pub c_load_words : Xlen → List ℕ
 c_load_words Rv32 = codes "addr;\n    const uint32_t *cfg = "
 c_load_words Rv64 = codes "addr;\n    const uint64_t *cfg = "
 
+-- the end of the declarations in the C function
 abbrev pub c_load_begin : List ℕ
 c_load_begin = codes "cfg;\n\n"
 

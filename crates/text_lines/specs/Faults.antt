@@ -5,6 +5,7 @@ use Rattle.text_lines.specs.declared.fault.ReadFault.TheVariants.{LongLine, TooM
 use Rattle.text_lines.specs.declared.fault.RunFault.{RunFault}
 use Rattle.text_lines.specs.declared.fault.RunFault.TheVariants.{Line, TooLong, Read, Write, Memory}
 
+-- the number of a fault
 abbrev pub run_fault_number : RunFault → ℕ
 run_fault_number (Line n) = 1
 run_fault_number TooLong = 2

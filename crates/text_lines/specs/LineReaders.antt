@@ -20,9 +20,11 @@ pending_of reader = drop reader.taken reader.buffer
 abbrev pub number_of : {size : ℕ} → LineReader size → ℕ
 number_of reader = reader.number
 
+-- the bytes that a reader has read
 abbrev pub came_of : {size : ℕ} → LineReader size → ℕ
 came_of reader = reader.came
 
+-- the most bytes that a reader reads
 abbrev pub most_of : {size : ℕ} → LineReader size → ℕ
 most_of reader = reader.limit
 

@@ -43,6 +43,7 @@ AreLines input [] = input ≡ []
 AreLines input (line ∷ lines) = (has_no_end line ≡ true) × (rest : List ℕ)
     × EndsLine input line rest × AreLines rest lines
 
+-- a byte is a line feed
 abbrev pub is_lf : ℕ → Bool
 is_lf b = b == 10
 
