@@ -18,7 +18,7 @@ stateless lines = tt
 
 pub follows :
     {J D : Type 0} (outcomes : J → Outcomes) (by : J)
-    → Follows (Keeps by) (stateless {J} {D}) (explains outcomes) (explaining (answered_by (outcomes by)))
+    → Follows (Keeps by) (stateless {J = J} {D = D}) (explains outcomes) (explaining (answered_by (outcomes by)))
 follows {J} {D} outcomes by s n line said t h d = (ap (λ (j : ExplainingJudge J D). j.by.now) d.1 ∙ h, rw h at d.0)
 
 -- an answer with a comment after it

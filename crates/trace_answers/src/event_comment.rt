@@ -12,6 +12,7 @@ use std::fmt;
 use std::fmt::Write;
 
 /// A world, as `host` or `enclave 1`.
+#[derive(Drop)]
 struct WorldName(World);
 
 impl fmt::Display for WorldName {
@@ -33,6 +34,7 @@ fn keyword(kind: Kind) -> &'static str {
 }
 
 /// The kind and the address of an access, as `load 0x80200000`.
+#[derive(Drop)]
 struct AccessName<'a>(&'a Access);
 
 impl fmt::Display for AccessName<'_> {
@@ -44,6 +46,7 @@ impl fmt::Display for AccessName<'_> {
 }
 
 /// A call and the arguments that tell calls apart.
+#[derive(Drop)]
 struct CallName<'a>(&'a Call);
 
 impl fmt::Display for CallName<'_> {

@@ -11,7 +11,7 @@ returns c =
     let room = 127 - c.count_digits.result in
     let text : c.append-3.new.buffer.items ≡ unended answer ++ codes " # " ++ comment = search rules in
     let line : c.line_of.result ≡ take room (unended answer ++ codes " # " ++ comment) ++ codes "\n" = c.line_of.ensures
-    ∙ ap (λ l. take room l ++ codes "\n") (c.as_slice-3.ensures.value ∙ text) in
+    ∙ ap (λ l. take room l ++ codes "\n") (c.as_slice-2.ensures.value ∙ text) in
     let behind = rw c.count_digits.ensures.digits at line in
     ap (λ l. decimal n ++ l) behind ∙ explained_behind n answer comment c.ranges.number.fits
     (omega (arith, c.count_digits.ensures.digits, c.count_digits.ensures.most))
