@@ -109,7 +109,8 @@ sound_passed AtEnd j n mid new rest e p h =
     subst (λ (x : Inflow). IsSoundAs x n new) e (p.failures ∙ h.0, (let a = h.1 in omega (arith, a, p.came, p.most)), subst IsAtEnd (sym p.remaining) h.2)
 sound_passed TooLarge j n mid new rest e p h =
     subst (λ (x : Inflow). IsSoundAs x n new) e (p.failures ∙ h.0, (let a = h.1 in omega (arith, a, p.came, p.most)), (let a = h.2 in omega (arith, a, p.came)))
-sound_passed Failed j n mid new rest e p h = subst (λ (x : Inflow). IsSoundAs x n new) e (p.failures ∙ h)
+sound_passed Failed j n mid new rest e p h =
+    subst (λ (x : Inflow). IsSoundAs x n new) e (subst (λ (m : ℕ). GrowsByOne n m) (sym p.failures) h)
 
 pub passed : (mid new : WindowState) (front rest : List ℕ) → mid.window.buffer ≡ front ++ rest → IsPassed mid new rest
     → Reads mid new (λ left later. left ≡ front ++ later)
@@ -199,7 +200,7 @@ reads_thrice a b c d P Q R S first second third all = record {
 
 never_none : GrowsByOne 0 0 → ⊥
 unfolding GrowsByOne
-never_none e = omega (arith, e)
+never_none e = (let one = e (omega arith) in omega (arith, one))
 
 -- what is left of a slice
 slice_closed : (i : Inflow) (at : WindowState) (rest : List ℕ) → at.remaining ≡ Some rest → at.window.most ≡ 2 ^ 64 - 1 → at.failures ≡ 0 → i ≢ Open
@@ -207,7 +208,7 @@ slice_closed : (i : Inflow) (at : WindowState) (rest : List ℕ) → at.remainin
 slice_closed Open at rest is most none shut h = absurd (shut refl)
 slice_closed AtEnd at rest is most none shut h = subst IsAtEnd is h.2
 slice_closed TooLarge at rest is most none shut h = (let a = h.1 in let b = h.2 in absurd (omega (arith, a, b, most)))
-slice_closed Failed at rest is most none shut h = absurd (never_none (sym none ∙ h))
+slice_closed Failed at rest is most none shut h = absurd (never_none (subst (λ (m : ℕ). GrowsByOne 0 m) none h))
 
 pub of_slice :
     (old new : WindowState) (P : List ℕ → List ℕ → Type 0) (bytes rest : List ℕ) → Reads old new P → old.window.buffer ≡ [] → old.window.came ≡ 0

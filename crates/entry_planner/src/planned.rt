@@ -11,7 +11,7 @@ use std::marker::Model;
 /// same.
 #[derive(Drop)]
 pub struct Plan<E = Entry> {
-    entries: Vec<E>,
+    pub(crate) entries: Vec<E>,
     costs: SplitCosts,
 }
 

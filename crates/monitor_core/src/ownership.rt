@@ -3,6 +3,7 @@
 use crate::answer::{Answer, Served};
 use crate::parts::MonitorParts;
 use crate::set_changes::SetChanges;
+use enclave_table::firmware::{create_by, give_digest};
 use measurement::{Create, Digests};
 
 impl MonitorParts {
@@ -38,7 +39,7 @@ impl MonitorParts {
     {
         self.table.cite_invariant();
         let world = self.world(hart);
-        match self.table.create_by(world, digests, asked) {
+        match create_by(&mut self.table, world, digests, asked) {
             Ok(id) => {
                 self.answer(hart, 0, id, changes);
                 self.mark_others(hart);
@@ -61,7 +62,7 @@ impl MonitorParts {
             → Live self.old.table.table id e
             → state_in self.new sets ≡ having_digest (state_in self.old sets) id e digest.now }
     {
-        self.table.give_digest(id, digest);
+        give_digest(&mut self.table, id, digest);
     }
 
     /// What is said of register sets after a destruction: those of the enclave are zero, and the host that called has 0

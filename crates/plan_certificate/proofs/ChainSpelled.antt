@@ -8,7 +8,7 @@ use Rattle.prefix_tree.specs.declared.chains.Chain.{Chain}
 use Rattle.prefix_tree.specs.Trees.{PermTree, Uniform, Fits}
 use Rattle.prefix_tree.specs.Chains.{nested, chained, goes_up, smaller}
 use Rattle.prefix_tree.proofs.Nested.{nested_lower, nested_upper, smaller_lower, smaller_upper}
-use Rattle.entry_planner.specs.declared.costs.SplitCost.{SplitCost}
+use Rattle.entry_planner.specs.declared.costs.BlockCost.{BlockCost}
 use Rattle.entry_planner.specs.Plans.{cost_in, costed}
 use Rattle.certificate_format.specs.declared.costs.SixCosts.{SixCosts}
 use Rattle.certificate_format.specs.Costs.{cost_of, six_of}
@@ -17,21 +17,21 @@ use Rattle.plan_certificate.specs.ChainBytes.{head_bytes, leaves_bytes, tail_byt
 
 -- ---- one block
 
-abbrev front_bytes : List SplitCost → ℕ → List ℕ
+abbrev front_bytes : List BlockCost → ℕ → List ℕ
 front_bytes costs i = 1 ∷ costs_bytes (cost_in costs i)
 
 abbrev leaf_bytes : Perm → List ℕ
 leaf_bytes perm = node_bytes (Leaf perm)
 
 head_lower :
-    (costs : List SplitCost) (i n place : ℕ) (before : Perm) → place < 2 ^ n
+    (costs : List BlockCost) (i n place : ℕ) (before : Perm) → place < 2 ^ n
     → head_bytes costs i (suc n) place before ≡ front_bytes costs i ++ head_bytes costs (i + 1) n place before
 head_lower costs i n place before low =
     ap (λ t. front_bytes costs i ++ cond t (head_bytes costs (i + 1) n place before) (leaf_bytes before ++ head_bytes costs (i + 1) n (place - 2 ^ n) before))
     (lt-ltb place (2 ^ n) low)
 
 head_upper :
-    (costs : List SplitCost) (i n place : ℕ) (before : Perm) → 2 ^ n ≤ place
+    (costs : List BlockCost) (i n place : ℕ) (before : Perm) → 2 ^ n ≤ place
     → head_bytes costs i (suc n) place before ≡ front_bytes costs i ++ (leaf_bytes before ++ head_bytes costs (i + 1) n (place - 2 ^ n) before)
 head_upper costs i n place before high =
     ap (λ t. front_bytes costs i ++ cond t (head_bytes costs (i + 1) n place before) (leaf_bytes before ++ head_bytes costs (i + 1) n (place - 2 ^ n) before))
@@ -64,7 +64,7 @@ tail_end (suc n) place behind =
     (cases_lt place (2 ^ n))
 
 pub chain_spelled :
-    (costs : List SplitCost) (i n place : ℕ) (before behind : Perm) (tree : PermTree)
+    (costs : List BlockCost) (i n place : ℕ) (before behind : Perm) (tree : PermTree)
     → node_bytes (costed costs i (nested n place before behind tree))
     ≡ head_bytes costs i n place before ++ (node_bytes (costed costs (i + n) tree) ++ tail_bytes n place behind)
 chain_spelled costs i zero place before behind tree =
@@ -103,7 +103,7 @@ chain_spelled costs i (suc n) place before behind tree =
 
 -- its costs fit where those of its split blocks and of its smallest block do
 pub chain_fits :
-    (costs : List SplitCost) (k i n place : ℕ) (before behind : Perm) (tree : PermTree)
+    (costs : List BlockCost) (k i n place : ℕ) (before behind : Perm) (tree : PermTree)
     → ((m : ℕ) → i ≤ m → m < i + n → (p : Perm) → cost_in costs m p < 2 ^ 32) → ((j : ℕ) → Fits j tree → FitsNode j (costed costs (i + n) tree))
     → Fits k (nested n place before behind tree) → FitsNode k (costed costs i (nested n place before behind tree))
 chain_fits costs k i zero place before behind tree small inside fits =
@@ -144,7 +144,7 @@ chain_fits costs (suc k) i (suc n) place before behind tree small inside fits =
 -- ---- the same, as the walk down has them
 
 pub head_down :
-    (costs : List SplitCost) (i : ℕ) (chain : Chain) (before : Perm) → 0 < chain.levels → goes_up chain ≡ false
+    (costs : List BlockCost) (i : ℕ) (chain : Chain) (before : Perm) → 0 < chain.levels → goes_up chain ≡ false
     → head_bytes costs i chain.levels chain.place before ≡ front_bytes costs i ++ head_bytes costs (i + 1) (smaller chain).levels (smaller chain).place before
 head_down costs i chain before some down =
     let n = chain.levels - 1 in
@@ -155,7 +155,7 @@ head_down costs i chain before some down =
     ∙ ap (λ p. front_bytes costs i ++ head_bytes costs (i + 1) n p before) (sym same)
 
 pub head_up :
-    (costs : List SplitCost) (i : ℕ) (chain : Chain) (before : Perm) → 0 < chain.levels → goes_up chain ≡ true
+    (costs : List BlockCost) (i : ℕ) (chain : Chain) (before : Perm) → 0 < chain.levels → goes_up chain ≡ true
     → head_bytes costs i chain.levels chain.place before
     ≡ front_bytes costs i ++ (node_bytes (Leaf before) ++ head_bytes costs (i + 1) (smaller chain).levels (smaller chain).place before)
 head_up costs i chain before some up =
@@ -189,7 +189,7 @@ tail_up chain behind some up =
 
 -- what is held and what is still to be put, after one block more
 pub held_down :
-    (costs : List SplitCost) (i : ℕ) (chain : Chain) (before : Perm) (held new all : List ℕ) → 0 < chain.levels → goes_up chain ≡ false
+    (costs : List BlockCost) (i : ℕ) (chain : Chain) (before : Perm) (held new all : List ℕ) → 0 < chain.levels → goes_up chain ≡ false
     → new ≡ held ++ front_bytes costs i → held ++ head_bytes costs i chain.levels chain.place before ≡ all
     → new ++ head_bytes costs (i + 1) (smaller chain).levels (smaller chain).place before ≡ all
 held_down costs i chain before held new all some down is whole =
@@ -200,7 +200,7 @@ held_down costs i chain before held new all some down is whole =
     ∙ whole
 
 pub held_up :
-    (costs : List SplitCost) (i : ℕ) (chain : Chain) (before : Perm) (held front new all : List ℕ) → 0 < chain.levels → goes_up chain ≡ true
+    (costs : List BlockCost) (i : ℕ) (chain : Chain) (before : Perm) (held front new all : List ℕ) → 0 < chain.levels → goes_up chain ≡ true
     → front ≡ held ++ front_bytes costs i → new ≡ front ++ node_bytes (Leaf before) → held ++ head_bytes costs i chain.levels chain.place before ≡ all
     → new ++ head_bytes costs (i + 1) (smaller chain).levels (smaller chain).place before ≡ all
 held_up costs i chain before held front new all some up is leaf whole =
@@ -212,13 +212,13 @@ held_up costs i chain before held front new all some up is leaf whole =
     ∙ whole
 
 -- a front's bytes, as the code makes them
-pub front_is : (costs : List SplitCost) (i : ℕ) (front array : List ℕ) (six : SixCosts) → front ≡ array → array ≡ 1 ∷ costs_bytes (cost_of six)
+pub front_is : (costs : List BlockCost) (i : ℕ) (front array : List ℕ) (six : SixCosts) → front ≡ array → array ≡ 1 ∷ costs_bytes (cost_of six)
     → six ≡ six_of (cost_in costs i) → front ≡ front_bytes costs i
 front_is costs i front array six is_front is_array is_six = is_front ∙ is_array ∙ ap (λ (x : SixCosts). 1 ∷ costs_bytes (cost_of x)) is_six
 
 -- the costs up to the next block fit
 pub fits_more :
-    (costs : List SplitCost) (i next : ℕ) → ((m : ℕ) → i ≤ m → m < next → (p : Perm) → cost_in costs m p < 2 ^ 32)
+    (costs : List BlockCost) (i next : ℕ) → ((m : ℕ) → i ≤ m → m < next → (p : Perm) → cost_in costs m p < 2 ^ 32)
     → ((p : Perm) → cost_in costs next p < 2 ^ 32)
     → (m : ℕ) → i ≤ m → m < next + 1 → (p : Perm) → cost_in costs m p < 2 ^ 32
 fits_more costs i next before here m from to p =
@@ -227,7 +227,7 @@ fits_more costs i next before here m from to p =
 
 -- the bytes of a chain's largest block are the heads, those of its smallest and the tails
 pub chain_put :
-    (costs : List SplitCost) (i : ℕ) (chain : Chain) (shape tree : PermTree) → shape ≡ chained chain tree
+    (costs : List BlockCost) (i : ℕ) (chain : Chain) (shape tree : PermTree) → shape ≡ chained chain tree
     → (head_bytes costs i chain.levels chain.place chain.before ++ node_bytes (costed costs (i + chain.levels) tree))
     ++ tail_bytes chain.levels chain.place chain.behind
     ≡ node_bytes (costed costs i shape)
@@ -260,7 +260,7 @@ pub tails_up :
 tails_up chain behind held all some up whole = ap (λ (x : List ℕ). held ++ x) (sym (tail_up chain behind some up)) ∙ whole
 
 -- once no block is left
-pub no_heads : (costs : List SplitCost) (i n place : ℕ) (before : Perm) (held all : List ℕ) → n ≤ 0 → held ++ head_bytes costs i n place before ≡ all
+pub no_heads : (costs : List BlockCost) (i n place : ℕ) (before : Perm) (held all : List ℕ) → n ≤ 0 → held ++ head_bytes costs i n place before ≡ all
     → held ≡ all
 no_heads costs i n place before held all none whole =
     let zero_left : 0 ≡ n = omega arith in

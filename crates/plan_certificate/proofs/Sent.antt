@@ -11,7 +11,7 @@ use Rattle.byte_streams.specs.Streams.{WriteFails}
 use Rattle.pmp_encoding.specs.declared.region.Entry.{Entry}
 use Rattle.prefix_tree.specs.Trees.{PermTree, Split}
 use Rattle.prefix_tree.specs.Counts.{splits}
-use Rattle.entry_planner.specs.declared.costs.SplitCost.{SplitCost}
+use Rattle.entry_planner.specs.declared.costs.BlockCost.{BlockCost}
 use Rattle.entry_planner.specs.Plans.{cost_in, costed}
 use Rattle.certificate_format.specs.declared.costs.SixCosts.{SixCosts}
 use Rattle.certificate_format.specs.Costs.{cost_of, six_of}
@@ -135,7 +135,7 @@ entries_split es n = sym (flat_map-append entry_bytes (take n es) (drop n es)) �
 
 -- a split block's bytes are its front, its lower half's and its upper half's
 pub branch_spelled :
-    (costs : List SplitCost) (i middle : ℕ) (shape lower upper : PermTree) (front array : List ℕ) (six : SixCosts) → shape ≡ Split lower upper → front ≡ array
+    (costs : List BlockCost) (i middle : ℕ) (shape lower upper : PermTree) (front array : List ℕ) (six : SixCosts) → shape ≡ Split lower upper → front ≡ array
     → array ≡ 1 ∷ costs_bytes (cost_of six) → six ≡ six_of (cost_in costs i) → middle ≡ i + 1 + splits lower
     → (front ++ node_bytes (costed costs (i + 1) lower)) ++ node_bytes (costed costs middle upper) ≡ node_bytes (costed costs i shape)
 branch_spelled costs i middle shape lower upper front array six is_split is_front is_array is_six is_middle =

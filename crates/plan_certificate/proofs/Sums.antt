@@ -8,7 +8,7 @@ use Rattle.pmp_match.specs.Meaning.{View}
 use Rattle.pmp_match.specs.Bounds.{BoundTree, Leaf, Branch, bound_of, IsSoundAt, IsSoundBound}
 use Rattle.prefix_tree.specs.Trees.{PermTree, Uniform, Split}
 use Rattle.prefix_tree.specs.Counts.{splits}
-use Rattle.entry_planner.specs.declared.costs.SplitCost.{SplitCost}
+use Rattle.entry_planner.specs.declared.costs.BlockCost.{BlockCost}
 use Rattle.entry_planner.specs.Plans.{costed}
 use Rattle.certificate_format.specs.declared.header.Version.{Version}
 use Rattle.certificate_format.specs.Spelling.{FitsNode, Spells, AreNoSubPages, HasNoOverflow, IsCertificate}
@@ -50,7 +50,7 @@ costs_fit view (suc k) first (Branch bounds lower upper) sound few = (
   costs_fit view k (first + 2 ^ k) upper sound.1 (omega arith),
 )
 
-leaves_in-costed : (costs : List SplitCost) (i : ℕ) (tree : PermTree) → leaves_in (costed costs i tree) ≡ splits tree + 1
+leaves_in-costed : (costs : List BlockCost) (i : ℕ) (tree : PermTree) → leaves_in (costed costs i tree) ≡ splits tree + 1
 unfolding leaves_in
 leaves_in-costed costs i (Uniform q) = refl
 leaves_in-costed costs i (Split lower upper) = omega (arith, leaves_in-costed costs (i + 1) lower, leaves_in-costed costs (i + 1 + splits lower) upper)
@@ -60,7 +60,7 @@ no_sub_pages [] all = tt
 no_sub_pages (e ∷ entries) all = (all 0 e (omega arith), no_sub_pages entries (λ i d inside. all (suc i) d (omega arith)))
 
 pub plan_certified :
-    (view : View) (tree : PermTree) (costs : List SplitCost) (entries : List Entry) (version : Version) (bytes : List ℕ) → splits tree ≤ 44 * 8192
+    (view : View) (tree : PermTree) (costs : List BlockCost) (entries : List Entry) (version : Version) (bytes : List ℕ) → splits tree ≤ 44 * 8192
     → IsSoundBound view (costed costs 0 tree) → bound_of (costed costs 0 tree) NoAccess ≡ length entries → All (λ e. 12 ≤ e.region.log2) entries
     → Spells bytes version entries (costed costs 0 tree) → IsCertificate bytes version entries (costed costs 0 tree)
 plan_certified view tree costs entries version bytes small sound root pages spells = record {
@@ -72,7 +72,7 @@ plan_certified view tree costs entries version bytes small sound root pages spel
 
 -- the certificate of a plan spells it
 pub plan_spelled :
-    (view : View) (tree : PermTree) (costs : List SplitCost) (entries : List Entry) (version : Version) → splits tree ≤ 44 * 8192
+    (view : View) (tree : PermTree) (costs : List BlockCost) (entries : List Entry) (version : Version) → splits tree ≤ 44 * 8192
     → IsSoundBound view (costed costs 0 tree) → bound_of (costed costs 0 tree) NoAccess ≡ length entries
     → Spells (certificate_bytes version entries (costed costs 0 tree)) version entries (costed costs 0 tree)
 plan_spelled view tree costs entries version small sound root =

@@ -2,13 +2,13 @@
 use Rattle.std.specs.Prelude.{ℕ, zero, suc, ◌+◌, ◌-◌, ◌^◌, List, [], ◌∷◌, ◌++◌, cond, ltb}
 use Rattle.pmp_encoding.specs.declared.perm.Perm.{Perm}
 use Rattle.pmp_match.specs.Bounds.{Leaf}
-use Rattle.entry_planner.specs.declared.costs.SplitCost.{SplitCost}
+use Rattle.entry_planner.specs.declared.costs.BlockCost.{BlockCost}
 use Rattle.entry_planner.specs.Plans.{cost_in}
 use Rattle.certificate_format.specs.Spelling.{costs_bytes, node_bytes}
 
 -- before the node of its smallest block: each split block's tag and costs, and the leaf of a lower
 -- half that does not hold the smallest block
-abbrev pub head_bytes : List SplitCost → ℕ → ℕ → ℕ → Perm → List ℕ
+abbrev pub head_bytes : List BlockCost → ℕ → ℕ → ℕ → Perm → List ℕ
 head_bytes costs i zero place before = []
 head_bytes costs i (suc n) place before =
     (1 ∷ costs_bytes (cost_in costs i))

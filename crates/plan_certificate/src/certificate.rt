@@ -13,9 +13,9 @@ ghost use Rattle.plan_certificate.specs.Written.{version_for, certificate_bytes,
 use crate::pieces::send;
 use crate::written_plan::WrittenPlan;
 use byte_streams::{Counted, DeviceFault, Sink};
-use entry_planner::{PackedPlan, Plan};
+use entry_planner::Plan;
 use permission_map::{Memory, PermissionMap};
-use pmp_encoding::Limit;
+use pmp_encoding::{Limit, PackedEntry};
 use prefix_tree::{Halving, MapBlock, Tree};
 use std::alloc::{AllocError, Global};
 
@@ -65,7 +65,7 @@ pub fn write(alloc: Global, tree: &Tree, plan: &Plan, limit: Limit) -> Result<Ve
 pub fn write_map(
     alloc: Global,
     map: &PermissionMap,
-    plan: &PackedPlan,
+    plan: &Plan<PackedEntry>,
     limit: Limit,
 ) -> Result<Vec<u8>, Memory>
     requires { splits (tree_of (view_of_runs map.now)) ≡ length plan.now.costs }
@@ -83,7 +83,7 @@ pub fn write_map(
 /// Sends the certificate that [`write_map`] makes to a sink, piece by piece, so that it is never held whole.
 pub fn send_map<W: Sink>(
     map: &PermissionMap,
-    plan: &PackedPlan,
+    plan: &Plan<PackedEntry>,
     limit: Limit,
     sink: &mut W,
 ) -> Result<(), DeviceFault>

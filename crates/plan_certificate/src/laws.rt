@@ -7,7 +7,7 @@ ghost use Rattle.pmp_match.specs.Meaning.{View};
 ghost use Rattle.pmp_match.specs.Bounds.{bound_of, IsSoundBound};
 ghost use Rattle.prefix_tree.specs.Trees.{PermTree};
 ghost use Rattle.prefix_tree.specs.Counts.{splits};
-ghost use Rattle.entry_planner.specs.declared.costs.SplitCost.{SplitCost};
+ghost use Rattle.entry_planner.specs.declared.costs.BlockCost.{BlockCost};
 ghost use Rattle.entry_planner.specs.Plans.{costed};
 ghost use Rattle.certificate_format.specs.declared.header.Version.{Version};
 ghost use Rattle.certificate_format.specs.Spelling.{Spells, IsCertificate};
@@ -16,7 +16,7 @@ ghost use Rattle.certificate_format.specs.Spelling.{Spells, IsCertificate};
 /// where the costs are a sound bound of some view and the root's number for no access is the number of entries.
 /// This is what a plan of a tree promises, and what [`write`](crate::write) gives of both.
 pub fn certificate_law()
-    ensures { (view : View) (tree : PermTree) (costs : List SplitCost)
+    ensures { (view : View) (tree : PermTree) (costs : List BlockCost)
         (entries : List Entry) (version : Version) (bytes : List ℕ)
         → splits tree ≤ 44 * 8192 → IsSoundBound view (costed costs 0 tree)
         → bound_of (costed costs 0 tree) NoAccess ≡ length entries

@@ -2,12 +2,14 @@
 
 ghost use Rattle.std.specs.Prelude.{◌≡◌, ◌<◌, length, slice_index_or};
 ghost use Rattle.pmp_encoding.specs.declared.region.Entry.{Entry};
+ghost use Rattle.pmp_encoding.specs.Encoding.{address_of, cfg_of};
 ghost use Rattle.entry_planner.specs.Plans.{Planned};
 ghost use Rattle.certificate_format.specs.Spelling.{pair_bytes};
 ghost use Rattle.plan_certificate.specs.Written.{entry_bytes};
 
 use byteorder::{ByteOrder, LittleEndian};
-use entry_planner::{PackedPlan, Plan, SplitCosts};
+use entry_planner::{Plan, SplitCosts};
+use pmp_encoding::{Entry, PackedEntry};
 
 /// A plan of which a certificate is written.
 pub(crate) trait WrittenPlan {
@@ -28,6 +30,16 @@ pub(crate) trait WrittenPlan {
         ensures { result.now ≡ (planned self.now).costs };
 }
 
+/// An entry in a form in which a plan keeps it.
+pub(crate) trait PairedEntry {
+    ghost entry: { Self → Entry };
+
+    /// The configuration byte and the address register of its canonical pair.
+    fn registers(&self) -> (u8, u64)
+        ensures cfg { result.0 ≡ cfg_of (entry self.now) }
+        ensures address { result.1 ≡ address_of (entry self.now) };
+}
+
 /// A configuration byte and an address register.
 #[tactic(auto, unfolding(crate::specs::Spelling::u64_bytes))]
 fn pair_piece(cfg: u8, address: u64) -> [u8; 9]
@@ -38,32 +50,33 @@ fn pair_piece(cfg: u8, address: u64) -> [u8; 9]
     bytes
 }
 
-impl WrittenPlan for Plan {
-    ghost planned = { λ p. p };
+impl PairedEntry for Entry {
+    ghost entry = { λ e. e };
 
-    fn count(&self) -> u32 {
-        self.needed()
-    }
-
-    fn pair(&self, i: usize) -> [u8; 9] {
-        let (cfg, address) = self.entries()[i].encode();
-        pair_piece(cfg, address)
-    }
-
-    fn split_costs(&self) -> &SplitCosts {
-        self.costs()
+    fn registers(&self) -> (u8, u64) {
+        self.encode()
     }
 }
 
-impl WrittenPlan for PackedPlan {
-    ghost planned = { λ p. p };
+impl PairedEntry for PackedEntry {
+    ghost entry = { λ e. e };
+
+    fn registers(&self) -> (u8, u64) {
+        self.encode()
+    }
+}
+
+impl<E: PairedEntry> WrittenPlan for Plan<E> {
+    ghost use Rattle.std.specs.Prelude.{map};
+
+    ghost planned = { λ p. record { entries = map E.entry p.entries; costs = p.costs } };
 
     fn count(&self) -> u32 {
         self.needed()
     }
 
     fn pair(&self, i: usize) -> [u8; 9] {
-        let (cfg, address) = self.entries()[i].encode();
+        let (cfg, address) = self.entries()[i].registers();
         pair_piece(cfg, address)
     }
 

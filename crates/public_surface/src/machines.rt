@@ -1,16 +1,17 @@
 //! From a platform to its table, its machine and a run.
 
-ghost use Rattle.std.specs.Prelude.{◌≡◌, ◌≤◌, ◌<◌, None, length, replicate};
+ghost use Rattle.std.specs.Prelude.{◌≡◌, ◌≤◌, ◌<◌, None, length, replicate, true};
 ghost use Rattle.pmp_encoding.specs.Limits.{limit_number};
 ghost use Rattle.hart_sim.specs.Machines.{state_of};
 ghost use Rattle.enclave_table.specs.Tables.{IsCurrent};
 
 use arrayvec::ArrayVec;
-use context_switch::{Contexts, Hart, World, switch};
+use context_switch::{Contexts, Hart, switch};
 use enclave_table::{
     BootFault, Create, Entering, Leaving, Owner, PageRange, Pages, Platform, PlatformFault,
-    Refusal, Table,
+    Refusal, Table, World,
 };
+use hart_sim::fakes::{PieceSink, PieceSource};
 use hart_sim::{
     Counted, DeviceFault, Event, Machine, NotUnderstood, Reply, RunFault, Sink, Source, parse_line,
     privacy_law, run,
@@ -36,18 +37,74 @@ impl Pages for Zeros {
     }
 }
 
-/// A device that has nothing and takes nothing.
+/// A source by hand: its bytes come one at a time, and the read after the last fails.
 #[derive(Drop)]
-pub struct Nothing;
+pub struct Dripping<'a> {
+    bytes: &'a [u8],
+    failures: u64,
+}
 
-impl Source for Nothing {
-    ghost remaining = { λ nothing. None };
+impl Source for Dripping<'_> {
+    ghost remaining = { λ source. None };
 
-    ghost failures = { λ nothing. 0 };
+    ghost failures = { λ source. source.failures };
 
-    fn read(&mut self, _buf: &mut [u8]) -> Result<usize, DeviceFault> {
-        Ok(0)
+    #[tactic(auto, unfolding(byte_streams::specs::Streams::GrowsByOne))]
+    fn read(&mut self, buf: &mut [u8]) -> Result<usize, DeviceFault> {
+        let Some((first, rest)) = self.bytes.split_first() else {
+            self.failures = self.failures.saturating_add(1);
+            return Err(DeviceFault);
+        };
+        if buf.is_empty() {
+            return Ok(0);
+        }
+        buf[0] = *first;
+        self.bytes = rest;
+        Ok(1)
     }
+}
+
+/// A sink by hand, which only counts the bytes that it takes and fails once it has taken all that it may.
+#[derive(Drop)]
+pub struct Counting {
+    room: usize,
+    failures: u64,
+}
+
+impl Sink for Counting {
+    ghost contents = { λ sink. None };
+
+    ghost failures = { λ sink. sink.failures };
+
+    ghost stalls = { λ sink. 0 };
+
+    #[tactic(auto, unfolding(byte_streams::specs::Streams::GrowsByOne))]
+    fn write(&mut self, buf: &[u8]) -> Result<usize, DeviceFault> {
+        let taken = buf.len().min(self.room);
+        if taken == 0 && !buf.is_empty() {
+            self.failures = self.failures.saturating_add(1);
+            return Err(DeviceFault);
+        }
+        self.room -= taken;
+        Ok(taken)
+    }
+}
+
+/// A trace that is run from one device written by hand to another.
+pub fn ran_by_hand(machine: &mut Machine, trace: &[u8], room: usize) -> Result<(), RunFault> {
+    let mut source = Dripping {
+        bytes: trace,
+        failures: 0,
+    };
+    let mut sink = Counting { room, failures: 0 };
+    run(machine, &mut source, &mut sink)
+}
+
+/// The same over the devices that fail where a test sets them to.
+pub fn ran_on_pieces(machine: &mut Machine, trace: &[u8]) -> Result<(), RunFault> {
+    let mut source = PieceSource::new(trace, 1, Some(3));
+    let mut sink = PieceSink::new(1, None);
+    run(machine, &mut source, &mut sink)
 }
 
 /// The digest of a layout and a page, and one of its words.
@@ -118,16 +175,30 @@ pub fn platform() -> Result<Platform, PlatformFault> {
         .with_entries(entries)
 }
 
-/// The number of a platform's fault.
-pub fn number_of_platform(fault: PlatformFault) -> u8 {
-    match fault {
+/// Each fault of a platform has its number.
+pub fn has_number_of_platform(fault: PlatformFault) -> bool
+    ensures { result ≡ true }
+{
+    let number: u8 = match fault {
         PlatformFault::BadRange => 1,
         PlatformFault::Overlap => 2,
         PlatformFault::MonitorNotRam => 3,
         PlatformFault::BadNumber => 4,
         PlatformFault::BadHarts => 5,
         PlatformFault::BadEntries => 6,
-    }
+    };
+    fault.number() == number
+}
+
+/// Each fault of a boot has its number.
+pub fn has_number_of_boot(fault: BootFault) -> bool
+    ensures { result ≡ true }
+{
+    let number: u8 = match fault {
+        BootFault::NeedsMoreEntries(_) => 1,
+        BootFault::Memory => 2,
+    };
+    fault.number() == number
 }
 
 /// The table of a platform.
@@ -197,9 +268,11 @@ pub fn shown(table: &Table, id: u64) -> Result<Option<PermissionMap>, Memory> {
     table.enclave_view(id)
 }
 
-/// The number of a refusal, without its sign.
-pub fn number_of_refusal(refusal: Refusal) -> u8 {
-    match refusal {
+/// Each refusal has its number, without its sign.
+pub fn has_number_of_refusal(refusal: Refusal) -> bool
+    ensures { result ≡ true }
+{
+    let number: u8 = match refusal {
         Refusal::NotHost | Refusal::NotEnclave => 101,
         Refusal::BadCount => 102,
         Refusal::BadAddress => 103,
@@ -212,7 +285,8 @@ pub fn number_of_refusal(refusal: Refusal) -> u8 {
         Refusal::BadId => 110,
         Refusal::BadState => 111,
         Refusal::BadWord => 112,
-    }
+    };
+    refusal.number() == number
 }
 
 /// A machine with a line of a trace done on it.
@@ -262,7 +336,7 @@ pub fn number_of_reply(reply: Reply) -> u64 {
     match reply {
         Reply::Done | Reply::NoMemory => 0,
         Reply::Loaded(value) => value,
-        Reply::Fault(cause) => number_of_cause(cause),
+        Reply::Fault(cause) => u64::from(cause.number()),
         Reply::Call {
             status,
             value,
@@ -273,16 +347,19 @@ pub fn number_of_reply(reply: Reply) -> u64 {
     }
 }
 
-/// The number of a cause.
-pub fn number_of_cause(cause: Cause) -> u64 {
-    match cause {
+/// Each cause has its number.
+pub fn has_number_of_cause(cause: Cause) -> bool
+    ensures { result ≡ true }
+{
+    let number: u8 = match cause {
         Cause::FetchMisaligned => 0,
         Cause::FetchFault => 1,
         Cause::LoadMisaligned => 4,
         Cause::LoadFault => 5,
         Cause::StoreMisaligned => 6,
         Cause::StoreFault => 7,
-    }
+    };
+    cause.number() == number
 }
 
 /// A trace that is run.
@@ -306,15 +383,18 @@ pub fn ran_on<R: Read, W: Write>(
     (ended, source, sink)
 }
 
-/// The number of a fault of a run.
-pub fn number_of_run(fault: RunFault) -> u64 {
-    match fault {
-        RunFault::Line(line) => line,
+/// Each fault of a run has its number.
+pub fn has_number_of_run(fault: RunFault) -> bool
+    ensures { result ≡ true }
+{
+    let number: u8 = match fault {
+        RunFault::Line(_) => 1,
         RunFault::TooLong => 2,
         RunFault::Read => 3,
         RunFault::Write => 4,
         RunFault::Memory => 5,
-    }
+    };
+    fault.number() == number
 }
 
 /// The event of a line, and its hart.

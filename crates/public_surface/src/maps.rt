@@ -1,6 +1,6 @@
 //! From a map to the entries that mean it, their bank, its judgement, and their certificate.
 
-ghost use Rattle.std.specs.Prelude.{◌≡◌, ◌≤◌, ◌<◌, length};
+ghost use Rattle.std.specs.Prelude.{◌≡◌, ◌≤◌, ◌<◌, length, true};
 ghost use Rattle.pmp_encoding.specs.Limits.{limit_number};
 
 use certificate_check::{CheckRefusal, check};
@@ -31,17 +31,24 @@ pub fn encoded(base: u64, log2: u32, perm: Perm) -> Option<(u8, u64)> {
     Some(entry.encode())
 }
 
-/// The number of the fault of a pair, where it has one.
-pub fn decoded(cfg: u8, addr: u64) -> Result<Option<Entry>, u8> {
-    let read: Result<Option<Entry>, EncodingFault> = decode(cfg, addr);
-    read.map_err(|fault| match fault {
+/// What a pair means, or its fault.
+pub fn decoded(cfg: u8, addr: u64) -> Result<Option<Entry>, EncodingFault> {
+    decode(cfg, addr)
+}
+
+/// Each fault of a pair or of a CSR has its number.
+pub fn has_number_of_encoding(fault: EncodingFault) -> bool
+    ensures { result ≡ true }
+{
+    let number: u8 = match fault {
         EncodingFault::ReservedPerm => 1,
         EncodingFault::Tor => 2,
         EncodingFault::Locked => 3,
         EncodingFault::ReservedBits => 4,
         EncodingFault::AddressBits => 5,
         EncodingFault::NoSuchCsr => 6,
-    })
+    };
+    fault.number() == number
 }
 
 /// A bank of entries, what it shows, and a CSR that is written.
@@ -103,13 +110,16 @@ pub fn copied(map: &PermissionMap) -> Result<PermissionMap, Memory> {
     Ok(copy)
 }
 
-/// The number of a map's fault.
-pub fn number_of_map(fault: MapFault) -> u8 {
-    match fault {
+/// Each fault of a map has its number.
+pub fn has_number_of_map(fault: MapFault) -> bool
+    ensures { result ≡ true }
+{
+    let number: u8 = match fault {
         MapFault::PastEnd => 1,
         MapFault::TooManyRanges => 2,
         MapFault::Memory => 3,
-    }
+    };
+    fault.number() == number
 }
 
 /// The tree of a map.
@@ -180,9 +190,11 @@ pub fn read_on(reader: &mut Reader<'_>) -> Result<(Perm, u32), ReadFault> {
     Ok((perm, cost))
 }
 
-/// The number of a refusal of the checker.
-pub fn number_of_check(refusal: CheckRefusal) -> u8 {
-    match refusal {
+/// Each refusal of the checker has its number.
+pub fn has_number_of_check(refusal: CheckRefusal) -> bool
+    ensures { result ≡ true }
+{
+    let number: u8 = match refusal {
         CheckRefusal::BadMagic => 1,
         CheckRefusal::BadVersion => 2,
         CheckRefusal::Truncated => 3,
@@ -199,5 +211,21 @@ pub fn number_of_check(refusal: CheckRefusal) -> u8 {
         CheckRefusal::WrongMeaning => 14,
         CheckRefusal::Trailing => 15,
         CheckRefusal::BadLimit => 16,
-    }
+    };
+    refusal.number() == number
+}
+
+/// Each fault of the cursor has its number.
+pub fn has_number_of_read(fault: ReadFault) -> bool
+    ensures { result ≡ true }
+{
+    let number: u8 = match fault {
+        ReadFault::BadMagic => 1,
+        ReadFault::BadVersion => 2,
+        ReadFault::Truncated => 3,
+        ReadFault::BadTag => 4,
+        ReadFault::BadPerm => 5,
+        ReadFault::BadLimit => 16,
+    };
+    fault.number() == number
 }

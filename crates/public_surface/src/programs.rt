@@ -1,5 +1,7 @@
 //! The program's own calls: its command line, its tasks, and the texts that they rest on.
 
+ghost use Rattle.std.specs.Prelude.{◌≡◌, true};
+
 use clap::Error;
 use enclave_table::Platform;
 use hart_sim::{RunFault, Sink, Source};
@@ -52,12 +54,15 @@ pub fn platform(alloc: Global, text: &str) -> Result<Platform, TextFault> {
     platform_of(alloc, text)
 }
 
-/// The number of a text's fault.
-pub fn number_of_text(fault: TextFault) -> u8 {
-    match fault {
+/// Each fault of a text has its number.
+pub fn has_number_of_text(fault: TextFault) -> bool
+    ensures { result ≡ true }
+{
+    let number: u8 = match fault {
         TextFault::NotAPlatform => 1,
         TextFault::Memory => 2,
-    }
+    };
+    fault.number() == number
 }
 
 /// A digest as digits.

@@ -2,7 +2,7 @@ use Rattle.std.proofs.Common.{◌≡◌, ◌∙◌, ◌++◌, List, [], ℕ, app
 use Rattle.std.specs.List.{flat_map}
 use Rattle.pmp_encoding.specs.declared.region.Entry.{Entry}
 use Rattle.prefix_tree.specs.Trees.{PermTree}
-use Rattle.entry_planner.specs.declared.costs.SplitCost.{SplitCost}
+use Rattle.entry_planner.specs.declared.costs.BlockCost.{BlockCost}
 use Rattle.entry_planner.specs.Plans.{costed}
 use Rattle.certificate_format.specs.declared.header.Version.{Version}
 use Rattle.certificate_format.specs.Spelling.{header_bytes, node_bytes}
@@ -16,12 +16,12 @@ front count version = header_bytes (record { version = version; count = count })
 
 -- the header, the entries and the root
 parts :
-    (held : List ℕ) (count n : ℕ) (version v : Version) (entries : List Entry) (listed costs : List SplitCost) (tree : PermTree) → held ≡ front count version
+    (held : List ℕ) (count n : ℕ) (version v : Version) (entries : List Entry) (listed costs : List BlockCost) (tree : PermTree) → held ≡ front count version
     → count ≡ n → version ≡ v → listed ≡ costs
     → held ++ (flat_map entry_bytes entries ++ node_bytes (costed listed 0 tree)) ≡ front n v ++
     (flat_map entry_bytes entries ++ node_bytes (costed costs 0 tree))
 parts held count n version v entries listed costs tree is_held is_count is_version is_listed =
-    ap₂ (λ (a : List ℕ) (cs : List SplitCost). a ++ (flat_map entry_bytes entries ++ node_bytes (costed cs 0 tree)))
+    ap₂ (λ (a : List ℕ) (cs : List BlockCost). a ++ (flat_map entry_bytes entries ++ node_bytes (costed cs 0 tree)))
     (is_held ∙ ap₂ front is_count is_version) is_listed
 
 pub returns-in_default-clause-prints : goal.returns-in_default-clause-prints

@@ -16,7 +16,7 @@ pub answer-requires-clause-whole : goal.answer-requires-clause-whole
 answer-requires-clause-whole g c =
     let old = c.args.self.now in
     let done = c.in-Ok.ensures.done in
-    whole_placed old.table c.create_by.new.self old.worlds old.marked c.in-Ok.id _ c.requires.on.whole done.next.free.0
+    whole_placed old.table c.create_by.new.table old.worlds old.marked c.in-Ok.id _ c.requires.on.whole done.next.free.0
     (free_runs_nowhere old.table old.worlds old.marked c.in-Ok.id c.requires.on.whole done.next.free.2)
     (made_rests (g.D.Digests.digest_of c.args.digests.now) (parts_of c.args.asked)) done.added
 
@@ -27,7 +27,7 @@ mark_others-requires g c =
     record {
       on = record {
         known = subst (λ t. c.args.hart < t.layout.harts) (sym done.added) c.requires.on.known;
-        whole = whole_placed old.table c.create_by.new.self old.worlds old.marked c.in-Ok.id _ c.requires.on.whole done.next.free.0
+        whole = whole_placed old.table c.create_by.new.table old.worlds old.marked c.in-Ok.id _ c.requires.on.whole done.next.free.0
             (free_runs_nowhere old.table old.worlds old.marked c.in-Ok.id c.requires.on.whole done.next.free.2)
             (made_rests (g.D.Digests.digest_of c.args.digests.now) (parts_of c.args.asked)) done.added;
       };
@@ -36,7 +36,7 @@ mark_others-requires g c =
 pub returns-in-Ok-clause-step : goal.returns-in-Ok-clause-step
 returns-in-Ok-clause-step g c = λ sets.
     let old = c.args.self.now in
-    let now = c.create_by.new.self.table in
+    let now = c.create_by.new.table.table in
     inl (
       c.in-Ok.id,
       now,
@@ -65,7 +65,7 @@ returns-in-Err-clause-step g c = λ sets.
 pub returns-in-Ok-clause-frame : goal.returns-in-Ok-clause-frame
 returns-in-Ok-clause-frame g c =
     let old = c.args.self.now in
-    let now = c.create_by.new.self in
+    let now = c.create_by.new.table in
     let done = c.in-Ok.ensures.done in
     frame_placed old c.mark_others.new.self now c.in-Ok.id _ c.mark_others.ensures.whole c.mark_others.ensures.table done.added
     (not_added old.table.table now.table c.in-Ok.id _ c.cite_invariant.ensures.table done.next done.added)
@@ -74,5 +74,5 @@ pub returns-in-Ok-clause-load : goal.returns-in-Ok-clause-load
 returns-in-Ok-clause-load g c = λ table world.
     let old = c.args.self.now in
     let done = c.in-Ok.ensures.done in
-    not_added old.table.table c.create_by.new.self.table c.in-Ok.id _ c.cite_invariant.ensures.table done.next done.added
+    not_added old.table.table c.create_by.new.table.table c.in-Ok.id _ c.cite_invariant.ensures.table done.next done.added
     (ap (λ k. k.table) (sym c.mark_others.ensures.table) ∙ table)

@@ -15,7 +15,7 @@ use Rattle.enclave_table.proofs.Placed.{free_place, host_added, added_kept}
 use Rattle.enclave_table.proofs.SameViews.{list_same, tree_same, fits_same}
 use Rattle.enclave_table.proofs.Created.{along, fits_from, sound_from, apart_from, host_want, enclave_want, creates}
 use Rattle.enclave_table.proofs.Refused.{handed_on}
-use Rattle.enclave_table.proofs.table.Table.create_by.Goals as goal
+use Rattle.enclave_table.proofs.firmware.create_by.Goals as goal
 use Rattle.enclave_table.specs.Refusals.{RefusesBy}
 use Rattle.enclave_table.specs.Checks.{create_checks}
 use Rattle.measurement.specs.Requests.{parts_of}
@@ -25,7 +25,7 @@ private_range parts = record { first = parts.base / 4096; count = parts.text_pag
 
 pub returns-in_err-host-clause-refused : goal.returns-in_err-host-clause-refused
 returns-in_err-host-clause-refused g c =
-    let old : EnclaveTable = c.args.self.now.table in
+    let old : EnclaveTable = c.args.table.now.table in
     let digests : Create → List ℕ = g.D.Digests.digest_of c.args.digests.now in
     let parts : Create = c.normalized-parts.result in
     let range : PageRange = c.private_pages.result in
@@ -41,7 +41,7 @@ returns-in_err-host-clause-refused g c =
 
 pub returns-in_err-list-clause-refused : goal.returns-in_err-list-clause-refused
 returns-in_err-list-clause-refused g c =
-    let old : EnclaveTable = c.args.self.now.table in
+    let old : EnclaveTable = c.args.table.now.table in
     let digests : Create → List ℕ = g.D.Digests.digest_of c.args.digests.now in
     handed_on c.from_residual-in_err-list.result c.in_err-list.field-0.0 (RefusesBy (create_checks old c.args.world (parts_of c.args.asked))
     (OutgrowsByCreate digests old c.args.asked)) c.from_residual-in_err-list.ensures.1
@@ -51,14 +51,14 @@ returns-in_err-list-clause-refused g c =
 
 pub place-requires-clause-kept : goal.place-requires-clause-kept
 place-requires-clause-kept g c =
-    let old : EnclaveTable = c.args.self.now.table in
+    let old : EnclaveTable = c.args.table.now.table in
     let parts : Create = c.normalized-parts.result in
     let range : PageRange = c.private_pages.result in
     let free = c.in_ok-id.ensures.next.free in
     let e : Enclave = record { parts = parts; state = Fresh; digest = c.digest_by-digest.result } in
     let L : Limit → Type 0 = λ l. IsListOf l (enclave_view parts) c.in_ok-list.list in
     rw c.digest_by-digest.ensures.kept
-    (added_kept c.args.self.now c.in_ok-id.id e c.in_ok-host.host.list c.in_ok-list.list
+    (added_kept c.args.table.now c.in_ok-id.id e c.in_ok-host.host.list c.in_ok-list.list
     (free_place old c.in_ok-id.id c.cite_invariant.ensures.table free.0 free.1) c.cite_invariant.ensures.kept
     (sound_from old c.args.world parts c.in_ok-id.ensures.passes) (apart_from old c.args.world parts c.in_ok-id.ensures.passes)
     (list_same old.layout.limit (overwritten (host_view old) range.first range.count NoAccess)
@@ -70,7 +70,7 @@ place-requires-clause-kept g c =
 
 pub place-requires-clause-tree : goal.place-requires-clause-tree
 place-requires-clause-tree g c =
-    let old : EnclaveTable = c.args.self.now.table in
+    let old : EnclaveTable = c.args.table.now.table in
     let parts : Create = c.normalized-parts.result in
     let range : PageRange = c.private_pages.result in
     let free = c.in_ok-id.ensures.next.free in
@@ -87,7 +87,7 @@ place-requires-clause-tree g c =
 
 pub returns-clause-done : goal.returns-clause-done
 returns-clause-done g c =
-    let old : EnclaveTable = c.args.self.now.table in
+    let old : EnclaveTable = c.args.table.now.table in
     let parts : Create = c.normalized-parts.result in
     let range : PageRange = c.private_pages.result in
     let free = c.in_ok-id.ensures.next.free in
