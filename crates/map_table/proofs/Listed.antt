@@ -1,5 +1,5 @@
--- The stretches of a list of entries as rows, and what the rows say.
-use Rattle.std.proofs.Common.{◌≡◌, ℕ, suc, rules, ◌+◌, ◌<◌, List, [], ◌∷◌, All, length, map, take, Bool, true, false, Option, None, Some, IfSome, refl, arith}
+-- The stretches of a list of entries as rows.
+use Rattle.std.proofs.Common.{◌≡◌, ℕ, suc, rules, ◌+◌, ◌<◌, List, [], ◌∷◌, All, length, Bool, true, false, Option, None, Some, IfSome, refl, arith}
 use Rattle.std.proofs.Common.{if◌then◌else◌}
 use Rattle.std.specs.List.{AllByRecursion}
 use Rattle.std.proofs.lemmas.List.Elements.{All-from_recursion}
@@ -9,14 +9,7 @@ use Rattle.pmp_encoding.specs.Views.{View}
 use Rattle.pmp_match.specs.RegisterBytes.{has_byte}
 use Rattle.map_table.specs.declared.stretch.Stretch.{Stretch}
 use Rattle.map_table.specs.Stretches.{AreStretches, IsStretch, decider, decider_from}
-use Rattle.map_table.specs.Rows.{IsRow, as_given, before_text}
-
--- what two and more say is what the first three say
-pub before_three : (xs : List ℕ) → before_text (take 3 xs) ≡ before_text xs
-before_three [] = refl
-before_three (a ∷ []) = refl
-before_three (a ∷ b ∷ []) = refl
-before_three (a ∷ b ∷ c ∷ xs) = refl
+use Rattle.map_table.specs.Rows.{IsRow}
 
 inside_step : (n k m : ℕ) (t : Bool) (rest : Option ℕ) → (rest ≡ Some k → k < n + 1 + m) → (if t then Some n else rest) ≡ Some k → k < n + suc m
 inside_step n k m true rest h e = omega (arith, same_Some n k e)
@@ -41,15 +34,3 @@ rows_by view extents from to (s ∷ ss) are = (row_of view extents s are.1, rows
 
 pub rows_of : (view : View) (extents : List Extent) (from to : ℕ) (ss : List Stretch) → AreStretches view extents from ss to → All (IsRow extents) ss
 rows_of view extents from to ss are = All-from_recursion (IsRow extents) ss (rows_by view extents from to ss are)
-
-given_by : (view : View) (extents : List Extent) (from to : ℕ) (ss : List Stretch) → AreStretches view extents from ss to
-    → AllByRecursion (IsRow extents) (map as_given ss)
-given_by view extents from to [] are = tt
-given_by view extents from to (s ∷ ss) are =
-    let row = row_of view extents s are.1 in
-    (record { some = row.some; number = row.number }, given_by view extents s.end to ss are.2)
-
--- the same with the permissions that the extents give
-pub given_rows : (view : View) (extents : List Extent) (from to : ℕ) (ss : List Stretch) → AreStretches view extents from ss to
-    → All (IsRow extents) (map as_given ss)
-given_rows view extents from to ss are = All-from_recursion (IsRow extents) (map as_given ss) (given_by view extents from to ss are)

@@ -1,6 +1,4 @@
-pub mod Fields
 pub mod Rows
-pub mod Tables
 pub mod Hulls
 pub mod Meetings
 pub mod Stretches

@@ -99,7 +99,7 @@ fn push_gap(alloc: Global, text: &mut Vec<u8>, stretch: &Stretch, y: u64) -> Res
     )?;
     push_centred(alloc, text, y.saturating_add(21))?;
     text.extend_from_slice(b"no entry, ")?;
-    text.extend_from_slice(short_size(size_of(stretch)).as_slice())?;
+    text.extend_from_slice(short_size(size_of(stretch)).as_str().as_bytes())?;
     text.extend_from_slice(b"</text>\n")?;
     Ok(34)
 }
@@ -128,7 +128,7 @@ fn push_band(
     push_address(alloc, text, stretch.end.saturating_sub(1), lowest)?;
     push_centred(alloc, text, middle)?;
     push(text, format!(in alloc; "{perm}, "))?;
-    text.extend_from_slice(short_size(size_of(stretch)).as_slice())?;
+    text.extend_from_slice(short_size(size_of(stretch)).as_str().as_bytes())?;
     text.extend_from_slice(b"</text>\n")?;
     push(
         text,

@@ -1,6 +1,6 @@
 //! The table of a listing.
 
-ghost use Rattle.std.specs.Prelude.{◌≡◌, ◌-◌, ◌^◌, ◌<◌, ◌++◌, ℕ, Bool, Err, IfOk, List, length};
+ghost use Rattle.std.specs.Prelude.{◌≡◌, ◌-◌, ◌^◌, ◌<◌, ℕ, Err, IfOk, List, length};
 ghost use Rattle.byte_streams.specs.Writings.{writing, Breaks, TakesAll};
 ghost use Rattle.register_audit.specs.RegisterListings.{IsFirstUnknown};
 ghost use Rattle.register_audit.specs.declared.fault.ListingFault as ListingFault;
@@ -11,7 +11,7 @@ use crate::decision::default_perm;
 use crate::fault::ListingFault;
 use crate::listing::{Listing, listing_of};
 use crate::listing_extents::extents_in;
-use crate::listing_texts::{notes_of, text_of_line};
+use crate::listing_texts::{push_notes, text_of_line};
 use crate::modes::entries_given;
 use byte_streams::{Sink, write_whole};
 use map_table::extent_table;
@@ -29,7 +29,7 @@ struct Shown {
 
 /// What is said of what a listing leaves, for a mode. The only error is out of memory.
 fn said_of(alloc: Global, mode: Mode, listing: &Listing) -> Result<Shown, Memory>
-    ensures { IfOk result (λ shown. IsShown mode listing.now shown.text.items shown.meant) }
+    ensures { IfOk result (λ shown. IsShown listing.now shown.meant) }
 {
     let extents = match extents_in(listing) {
         Ok(extents) => extents,
@@ -46,16 +46,6 @@ fn said_of(alloc: Global, mode: Mode, listing: &Listing) -> Result<Shown, Memory
     Ok(Shown { text, meant: true })
 }
 
-/// The same with the comments on what is passed over. The only error is out of memory.
-fn with_comment(alloc: Global, mode: Mode, listing: &Listing) -> Result<Shown, Memory>
-    ensures { IfOk result (λ all. (text notes : List ℕ) × IsShown mode listing.now text all.meant
-        × (all.text.items ≡ text ++ notes)) }
-{
-    let mut all = said_of(alloc, mode, listing)?;
-    all.text.extend_from_slice(notes_of(listing).as_slice())?;
-    Ok(all)
-}
-
 /// Reads a listing of registers of that width, and writes the table of what they give a mode, or the line that says why they
 /// mean nothing; and after it comments on what is passed over. The answer is whether they mean something. Where a line is not
 /// understood or memory is refused, nothing is written; where the device failed, or took none of some bytes, a beginning of the
@@ -68,25 +58,27 @@ pub fn print_registers<W: Sink>(
     out: &mut W,
 ) -> Result<bool, ListingFault>
     requires { length listing.now < 2 ^ 64 - 1 }
-    ensures written { IfOk result (λ meant. (text : List ℕ)
-        × IsRegisterTable mode xlen listing.now text meant
+    ensures written { IfOk result (λ meant. IsRegisterTable xlen listing.now meant
+        × (text : List ℕ)
         × TakesAll text (writing W.contents W.failures W.stalls out.old out.new)) }
     ensures line { (n : ℕ) → result ≡ Err (ListingFault.Line n)
         → IsFirstUnknown xlen listing.now n × (out.new ≡ out.old) }
     ensures untouched { result ≡ Err ListingFault.Memory → out.new ≡ out.old }
-    ensures broken { result ≡ Err ListingFault.Device → (text : List ℕ) × (meant : Bool)
-        × IsRegisterTable mode xlen listing.now text meant
+    ensures broken { result ≡ Err ListingFault.Device → (text : List ℕ)
         × Breaks text (writing W.contents W.failures W.stalls out.old out.new) }
 {
     let listing = match listing_of(xlen, listing) {
         Ok(listing) => listing,
         Err(number) => return Err(ListingFault::Line(number)),
     };
-    let Ok(all) = with_comment(alloc, mode, &listing) else {
+    let Ok(mut shown) = said_of(alloc, mode, &listing) else {
         return Err(ListingFault::Memory);
     };
-    let Ok(()) = write_whole(out, all.text.as_slice()) else {
+    let Ok(()) = push_notes(&mut shown.text, &listing) else {
+        return Err(ListingFault::Memory);
+    };
+    let Ok(()) = write_whole(out, shown.text.as_slice()) else {
         return Err(ListingFault::Device);
     };
-    Ok(all.meant)
+    Ok(shown.meant)
 }

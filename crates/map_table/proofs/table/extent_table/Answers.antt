@@ -1,8 +1,8 @@
 use Rattle.std.proofs.Common.{◌^◌}
 use Rattle.permission_map.specs.Runs.{view_of_runs}
-use Rattle.map_table.proofs.Listed.{given_rows}
+use Rattle.map_table.proofs.Listed.{rows_of}
 use Rattle.map_table.proofs.table.extent_table.Goals as goal
 
 pub push_rows-requires : goal.push_rows-requires
-push_rows-requires c = rw (c.in_ok-tree.ensures, c.as_slice-2.ensures.value, c.in_ok-rows.ensures, c.as_slice.ensures.value)
-    (given_rows (view_of_runs c.new-map.result) c.args.extents.now 0 (2 ^ 56) _ c.in_ok-all.ensures)
+push_rows-requires c = rw (c.in_ok-tree.ensures, c.as_slice.ensures.value)
+    (rows_of (view_of_runs c.new-map.result) c.args.extents.now 0 (2 ^ 56) _ c.in_ok-all.ensures)

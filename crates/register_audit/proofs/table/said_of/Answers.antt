@@ -8,12 +8,7 @@ extent_table-requires c = rw (c.as_slice.ensures.value, c.in_ok-given.ensures)
     (all_entries c.args.listing.now.registers c.args.mode c.in-Ok.extents c.in-Ok.ensures.extents)
 
 pub returns-in-Err : goal.returns-in-Err
-returns-in-Err c = refused _ c.in-Err.ensures.refused
+returns-in-Err c = refused c.in-Err.ensures.refused
 
 pub returns : goal.returns
-returns c = shown c.in-Ok.ensures.modelled c.in-Ok.extents c.in-Ok.ensures.extents _ (rw (
-  c.as_slice.ensures.value,
-  c.in_ok-given.ensures,
-  c.default_perm-rest.ensures,
-  c.count_on-on.ensures,
-) at c.in_ok-text.ensures)
+returns c = shown c.in-Ok.ensures.modelled c.in-Ok.extents c.in-Ok.ensures.extents
