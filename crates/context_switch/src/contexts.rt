@@ -31,16 +31,25 @@ impl Contexts {
         }
     }
 
-    /// The registers of the host on this hart, a number at most 3, or of the enclave with an id from 1 to 64.
+    /// Lends the registers of the host on this hart, a number at most 3, or of the enclave with an id from 1 to 64.
+    pub fn saved(&self, hart: u8, world: World) -> &Registers
+        requires hart { hart ≤ 3 }
+        requires world { IsWorld world }
+        ensures { saved_of self.now (runner_of hart world) ≡ Some result.now }
+    {
+        match world {
+            World::Host => &self.hosts[hart as usize],
+            World::Enclave(id) => &self.enclaves[id as usize - 1],
+        }
+    }
+
+    /// Copies the registers of the host on this hart, a number at most 3, or of the enclave with an id from 1 to 64.
     pub fn get(&self, hart: u8, world: World) -> Registers
         requires hart { hart ≤ 3 }
         requires world { IsWorld world }
         ensures { saved_of self.now (runner_of hart world) ≡ Some result }
     {
-        match world {
-            World::Host => self.hosts[hart as usize],
-            World::Enclave(id) => self.enclaves[id as usize - 1],
-        }
+        *self.saved(hart, world)
     }
 
     /// Sets the registers of the host on this hart, a number at most 3, or of the enclave with an id from 1 to 64.

@@ -1,5 +1,5 @@
 -- An access by the list of a bank, and by the view that it means.
-use Rattle.std.proofs.Common.{◌≡◌, ◌≢◌, ◌∙◌, inl, inr, ℕ, List, Result, Ok, Err, refl, sym, subst}
+use Rattle.std.proofs.Common.{◌≡◌, ◌≢◌, ◌∙◌, inl, inr, ℕ, ◌%◌, List, Result, Ok, Err, refl, sym, subst}
 use Rattle.pmp_encoding.specs.declared.perm.Perm.{Perm}
 use Rattle.pmp_encoding.specs.declared.region.Entry.{Entry}
 use Rattle.pmp_match.specs.declared.access.Access.{Access}
@@ -7,7 +7,8 @@ use Rattle.pmp_match.specs.declared.access.Kind.{Kind}
 use Rattle.pmp_match.specs.declared.access.Kind.TheVariants.{Fetch, Load, Store}
 use Rattle.pmp_match.specs.declared.access.Mode.TheVariants.{Machine}
 use Rattle.pmp_match.specs.declared.cause.Cause.{Cause}
-use Rattle.pmp_match.specs.Judgement.{Judges}
+use Rattle.pmp_match.specs.Causes.{misaligned}
+use Rattle.pmp_match.specs.Judgement.{Judges, off_its_size, outside, denied, allowed}
 use Rattle.pmp_match.specs.Meaning.{Means}
 use Rattle.pmp_match.proofs.Judged.{judgement_law_proof}
 use Rattle.hart_sim.specs.declared.memory.Memory.{Memory}
@@ -27,6 +28,13 @@ use Rattle.hart_sim.proofs.Verdicts.{verdict_is}
 -- an access has one judgement
 pub judged_once : (es : List Entry) (a : Access) (r s : Result (Unit {0}) Cause) → Judges es a r → Judges es a s → r ≡ s
 judged_once es a r s j k = sym ((judgement_law_proof es a r).0 j) ∙ (judgement_law_proof es a s).0 k
+
+-- one that the list allows is aligned
+pub ok_aligned : (es : List Entry) (a : Access) (r : Result (Unit {0}) Cause) → Judges es a r → r ≡ Ok tt → a.address % a.size ≡ 0
+ok_aligned es a _ (off_its_size off) is = absurd (let h : ◌≡◌ {A = Result (Unit {0}) Cause} (Err (misaligned a.kind)) (Ok tt) = is in cc)
+ok_aligned es a _ (outside on out) is = on
+ok_aligned es a _ (denied on inside refused) is = on
+ok_aligned es a _ (allowed on inside granted) is = on
 
 no_fault : (kind : Kind) (old new : Memory) (a : Access) (value : ℕ) (reply : Reply) (cause : Cause) → ReachesMemory kind old a value reply new
     → reply ≡ replies.Fault cause → ⊥

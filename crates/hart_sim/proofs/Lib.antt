@@ -14,7 +14,9 @@ mod Wanted
 mod Promised
 mod WorldsKept
 mod BankPlaces
-mod SameLists
+mod HartSets
+mod SetsFollowed
+mod Followed
 mod SoundTables
 mod Switched
 mod Promises

@@ -14,11 +14,14 @@ abbrev pub with_words : RegisterFile → List ℕ → List ℕ → RegisterFile
 with_words file (n ∷ ns) (word ∷ words) = with_words (with_x file n word) ns words
 with_words file _ _ = file
 
--- the registers on a hart after a call with these words, in a7, a6 and a0 to a5, which goes on past
--- its instruction
+-- where the words of a call go: a7, a6 and a0 to a5
+abbrev pub call_places : List ℕ
+call_places = 17 ∷ (16 ∷ (10 ∷ (11 ∷ (12 ∷ (13 ∷ (14 ∷ (15 ∷ [])))))))
+
+-- the registers on a hart after a call with these words, which goes on past its instruction
 abbrev pub calling : MachineState → ℕ → List ℕ → RegisterFile
-calling s hart words = past_call (with_words (s.registers (runner_of hart (s.worlds hart))) (17
-    ∷ (16 ∷ (10 ∷ (11 ∷ (12 ∷ (13 ∷ (14 ∷ (15 ∷ [])))))))) words)
+calling s hart words =
+    past_call (with_words (s.registers (runner_of hart (s.worlds hart))) call_places words)
 
 -- a value stored, and its page written
 abbrev pub storing : MachineState → ℕ → ℕ → ℕ → MachineState

@@ -1,26 +1,29 @@
 -- What each part of an event on a hart may rely on, and what it keeps.
-use Rattle.std.specs.Prelude.{◌≡◌, ◌≢◌, ℕ, ◌<◌, false}
-use Rattle.monitor_core.specs.Monitors.{kept_by}
+use Rattle.std.specs.Prelude.{◌≡◌, ◌≢◌, ◌⊎◌, ℕ, ◌<◌, false}
+use Rattle.monitor_core.specs.Cores.{kept_of}
 use Rattle.hart_sim.specs.declared.parts.MachineParts.{MachineParts}
-use Rattle.hart_sim.specs.Banks.{AreBanksRight}
-use Rattle.hart_sim.specs.Parts.{AreBanks, state_in, bank_in}
+use Rattle.hart_sim.specs.Banks.{AreBanksRight, IsOwnBank, LoadsNothing}
+use Rattle.hart_sim.specs.Parts.{FitTogether, state_in, bank_in}
 
--- the hart is one of the platform, and the banks have its limit
+-- the hart is one of the platform, and the parts fit together
 pub record IsOn (parts : MachineParts) (hart : ℕ) : Type 0 where
   pub known : hart < (state_in parts).table.layout.harts
-  pub limited : AreBanks parts.banks (state_in parts).table.layout.limit
+  pub fit : FitTogether parts
 
--- the platform stays, and the banks have its limit still; banks that were right are right, those of
--- the other harts stay, and so does the hart's own where table and world stay; where the table
--- stays, so does every list that is kept
+-- the platform stays, and the parts fit together still; banks that were right are right, those of
+-- the other harts stay, and so does the hart's own where table and world stay; where it loads
+-- entries, its bank is the one that these make; where the table stays, so does every list that is
+-- kept
 pub record KeepsFrame (old new : MachineParts) (hart : ℕ) : Type 0 where
   pub layout : (state_in new).table.layout ≡ (state_in old).table.layout
-  pub limited : AreBanks new.banks (state_in new).table.layout.limit
+  pub fit : FitTogether new
   pub banks : AreBanksRight (state_in old) (bank_in old)
       → AreBanksRight (state_in new) (bank_in new)
   pub others : (other : ℕ) → other ≢ hart → bank_in new other ≡ bank_in old other
   pub stays : (state_in old).marked hart ≡ false → (state_in new).table ≡ (state_in old).table
       → (state_in new).worlds hart ≡ (state_in old).worlds hart
       → bank_in new hart ≡ bank_in old hart
+  pub loads : IsOwnBank (state_in new) (kept_of new.core) (bank_in new) hart
+      ⊎ LoadsNothing (state_in old) (state_in new) (bank_in old) (bank_in new) hart
   pub lists : (state_in new).table ≡ (state_in old).table
-      → kept_by new.monitor ≡ kept_by old.monitor
+      → kept_of new.core ≡ kept_of old.core

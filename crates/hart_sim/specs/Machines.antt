@@ -1,18 +1,18 @@
 -- The machine as its caller sees it: its state, and the PMP registers that are loaded on each hart.
-use Rattle.std.specs.Prelude.{◌≡◌, ◌↔◌, ℕ, List, Err, Option}
+use Rattle.std.specs.Prelude.{◌≡◌, ◌⊎◌, ◌↔◌, ℕ, List, Err, Option}
 use Rattle.pmp_encoding.specs.declared.bank.Bank.{Bank}
 use Rattle.pmp_encoding.specs.declared.region.Entry.{Entry}
 use Rattle.pmp_match.specs.declared.access.Access.{Access}
 use Rattle.pmp_match.specs.declared.cause.Cause.{Cause}
 use Rattle.pmp_match.specs.Judgement.{Judges}
 use Rattle.enclave_table.specs.Tables.{Kept}
-use Rattle.monitor_core.specs.Monitors.{kept_by}
+use Rattle.monitor_core.specs.Cores as cores
 use Rattle.hart_trace.specs.declared.event.Event.{Event}
 use Rattle.hart_trace.specs.declared.event.Event.TheVariants as events
 use Rattle.hart_sim.specs.declared.machine.Machine.{Machine}
 use Rattle.hart_trace.specs.declared.reply.Reply.{Reply}
 use Rattle.hart_trace.specs.declared.reply.Reply.TheVariants as replies
-use Rattle.hart_sim.specs.Banks.{AreBanksRight, MeetsList}
+use Rattle.hart_sim.specs.Banks.{AreBanksRight, IsOwnBank, LoadsNothing, MeetsList}
 use Rattle.hart_sim.specs.Parts.{state_in, bank_in}
 use Rattle.hart_sim.specs.States.{MachineState, awoken}
 use Rattle.hart_sim.specs.Steps.{DoesBy}
@@ -24,7 +24,7 @@ state_of machine = state_in machine.parts
 
 -- its table of enclaves, with the list of entries that is kept for each view, which `table` shows
 unfoldable pub kept_of : Machine → Kept
-kept_of machine = kept_by machine.parts.monitor
+kept_of machine = cores.kept_of machine.parts.core
 
 -- the PMP registers that are loaded on a hart, which `bank` shows
 unfoldable pub bank_on : Machine → ℕ → Option Bank
@@ -50,3 +50,9 @@ DoesByList old hart event reply new =
 -- the bank of each hart that is not marked means the view of its world by the fewest entries
 abbrev pub KeepsBanksRight : Machine → Type 0
 KeepsBanksRight machine = AreBanksRight (state_of machine) (bank_on machine)
+
+-- on every machine, whatever bank was put in place before, an event on a hart leaves there the bank
+-- that the list of its world makes, or it loads no entries
+abbrev pub LoadsExactly : Machine → ℕ → Machine → Type 0
+LoadsExactly old hart new = IsOwnBank (state_of new) (kept_of new) (bank_on new) hart
+    ⊎ LoadsNothing (state_of old) (state_of new) (bank_on old) (bank_on new) hart

@@ -1,15 +1,35 @@
 -- The parts of the machine: the state and the banks that they show, and what is true of them
 -- together.
-use Rattle.std.specs.Prelude.{◌≡◌, ℕ, List, length, Option, Some, slice_get}
+use Rattle.std.specs.Prelude.{◌≡◌, ℕ, List, [], ◌∷◌, length, Option, Some, slice_get}
+use Rattle.std.specs.Prelude.{if◌then◌else◌, option_map, unwrap_or}
 use Rattle.pmp_encoding.specs.declared.bank.Bank.{Bank}
 use Rattle.pmp_encoding.specs.declared.limit.Limit.{Limit}
 use Rattle.pmp_encoding.specs.Limits.{limit_number}
-use Rattle.monitor_core.specs.Monitors.{state_by}
+use Rattle.sbi_decode.specs.Registers.{RegisterFile, zeros}
+use Rattle.sbi_decode.specs.Runners.{Runner, runner_of}
+use Rattle.sbi_decode.specs.declared.world.World.{World}
+use Rattle.context_switch.specs.declared.contexts.Contexts.{Contexts}
+use Rattle.context_switch.specs.declared.hart.Hart.{Hart}
+use Rattle.context_switch.specs.Contexts.{saved_of}
+use Rattle.context_switch.specs.Harts.{number_of, world_of, registers_of, bank_of}
+use Rattle.monitor_core.specs.Changes.{is_same}
+use Rattle.monitor_core.specs.Cores.{kept_of, state_of, worlds_of}
 use Rattle.monitor_core.specs.States.{MonitorState}
 use Rattle.hart_sim.specs.declared.memory.Memory.{Memory}
 use Rattle.hart_sim.specs.declared.parts.MachineParts.{MachineParts}
 use Rattle.hart_sim.specs.Memory.{byte_at, is_written}
 use Rattle.hart_sim.specs.States.{MachineState}
+
+-- the registers of a host or an enclave: those of the hart that runs it, or else the saved ones
+abbrev pub registers_in : List Hart → Contexts → Runner → RegisterFile
+registers_in [] contexts who = unwrap_or (saved_of contexts who) zeros
+registers_in (hart ∷ harts) contexts who =
+    if is_same who (runner_of (number_of hart) (world_of hart)) then registers_of hart
+    else registers_in harts contexts who
+
+-- the state that the monitor's core and the registers show
+abbrev pub core_in : MachineParts → MonitorState
+core_in parts = state_of parts.core (registers_in parts.harts parts.contexts)
 
 -- the state that the monitor and memory show
 abbrev pub shown : MonitorState → Memory → MachineState
@@ -23,14 +43,29 @@ shown core memory = record {
 }
 
 abbrev pub state_in : MachineParts → MachineState
-state_in parts = shown (state_by parts.monitor) parts.memory
+state_in parts = shown (core_in parts) parts.memory
 
 -- the bank of a hart
-abbrev pub bank_in : MachineParts → ℕ → Option Bank
-bank_in parts hart = slice_get parts.banks hart
+abbrev pub bank_at : List Hart → ℕ → Option Bank
+bank_at harts hart = option_map bank_of (slice_get harts hart)
 
--- there are four banks, and each has as many entries as the platform says
-pub record AreBanks (banks : List Bank) (limit : Limit) : Type 0 where
-  pub four : length banks ≡ 4
-  pub limited : (hart : ℕ) (bank : Bank) → slice_get banks hart ≡ Some bank
-      → limit_number bank.limit ≡ limit_number limit
+abbrev pub bank_in : MachineParts → ℕ → Option Bank
+bank_in parts hart = bank_at parts.harts hart
+
+-- a hart has its number, runs the world that the monitor says, and has as many entries as the
+-- platform says
+pub record IsHart (hart : Hart) (place : ℕ) (there : World) (limit : Limit) : Type 0 where
+  pub number : number_of hart ≡ place
+  pub world : world_of hart ≡ there
+  pub limited : limit_number (bank_of hart).limit ≡ limit_number limit
+
+-- there are four harts, each in its place
+pub record AreHarts (harts : List Hart) (worlds : ℕ → World) (limit : Limit) : Type 0 where
+  pub four : length harts ≡ 4
+  pub each : (i : ℕ) (hart : Hart) → slice_get harts i ≡ Some hart
+      → IsHart hart i (worlds i) limit
+
+-- the harts are in the worlds that the monitor's core says
+abbrev pub FitTogether : MachineParts → Type 0
+FitTogether parts = AreHarts parts.harts (worlds_of parts.core)
+    (kept_of parts.core).table.layout.limit

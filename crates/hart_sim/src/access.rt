@@ -62,8 +62,7 @@ impl MachineParts {
             → bank_in self.old hart ≡ Some bank
             → HasList bank list → Judges list access.now said
             → Accesses said (state_in self.old) access.now value result (state_in self.new) }
-        ensures monitor { self.new.monitor ≡ self.old.monitor }
-        ensures banks { self.new.banks ≡ self.old.banks }
+        ensures harts { self.new.harts ≡ self.old.harts }
     {
         match judge(self.bank(hart), access) {
             Ok(()) => reach(&mut self.memory, self.alloc, access, value),

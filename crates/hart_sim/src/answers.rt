@@ -16,7 +16,7 @@ impl MachineParts {
         requires { hart < 4 }
         ensures { result ≡ world_number ((state_in self.now).worlds hart) }
     {
-        match self.monitor.world(hart) {
+        match self.core.world(hart) {
             World::Host => 0,
             World::Enclave(id) => id,
         }
@@ -30,7 +30,7 @@ impl MachineParts {
             result }
     {
         let world = self.world_number(hart);
-        let used = self.monitor.used(hart);
+        let used = self.core.used(hart);
         Reply::Call {
             status: answer.status,
             value: answer.value,
@@ -45,7 +45,7 @@ impl MachineParts {
         ensures { RepliesWith replies.Irq (state_in self.now) hart result }
     {
         let world = self.world_number(hart);
-        let used = self.monitor.used(hart);
+        let used = self.core.used(hart);
         Reply::Irq { world, used }
     }
 }

@@ -1,13 +1,30 @@
 //! Calls to the monitor and interrupts: what the monitor makes of them, done in memory and in the hart's bank.
 
-use crate::call_registers::put_call;
+use crate::Memory;
+use crate::hart_registers::{follow, put_call};
 use crate::parts::MachineParts;
 use arrayvec::ArrayVec;
 use hart_trace::Reply;
-use monitor_core::{Answer, MeasuresPages, PageRange};
+use monitor_core::{Answer, MeasuresPages, PageRange, SetChanges};
+
+ghost use Rattle.std.specs.Prelude.{◌≡◌, ◌+◌, ◌^◌, ◌≤◌, IfSome};
+ghost use Rattle.monitor_core.specs.States.{MonitorState};
+ghost use Rattle.hart_sim.specs.Changes.{zeroing};
+ghost use Rattle.hart_sim.specs.Parts.{shown};
+
+/// Zeroes pages, if any.
+fn zero(memory: &mut Memory, pages: Option<PageRange>)
+    requires { IfSome pages (λ range. range.first + range.count ≤ 2 ^ 44) }
+    ensures { (core : MonitorState) → shown core memory.new
+        ≡ zeroing (shown core memory.old) pages }
+{
+    if let Some(range) = pages {
+        memory.forget(range.first, range.count);
+    }
+}
 
 impl MachineParts {
-    ghost use Rattle.std.specs.Prelude.{◌≡◌, ◌+◌, ◌^◌, ◌<◌, ◌≤◌, false, IfSome, Option, ◌*◌};
+    ghost use Rattle.std.specs.Prelude.{◌≡◌, ◌<◌, false, Option};
     ghost use Rattle.sbi_decode.specs.Calls.{call_of};
     ghost use Rattle.monitor_core.specs.Changes.{with_running};
     ghost use Rattle.monitor_core.specs.States.{MonitorState};
@@ -22,18 +39,6 @@ impl MachineParts {
     ghost use Rattle.hart_sim.specs.Steps.{Serves, DoesEvent, Step};
     ghost use Rattle.hart_sim.specs.Memory.{measured_in};
 
-    /// Makes every byte of some pages zero, where there are any.
-    fn zero(&mut self, pages: Option<PageRange>)
-        requires { IfSome pages (λ range. range.first + range.count ≤ 2 ^ 44) }
-        ensures state { state_in self.new ≡ zeroing (state_in self.old) pages }
-        ensures monitor { self.new.monitor ≡ self.old.monitor }
-        ensures banks { self.new.banks ≡ self.old.banks }
-    {
-        if let Some(range) = pages {
-            self.memory.forget(range.first, range.count);
-        }
-    }
-
     /// Serves a call with these words, and answers what its caller is given.
     fn serve(&mut self, hart: u8, words: &[u64]) -> Answer
         requires on { IsOn self.old hart }
@@ -46,15 +51,20 @@ impl MachineParts {
             (with_running (core_of s) hart file) hart result pages core
             × (state_in self.new ≡ zeroing (with_core s core) pages) }
     {
-        put_call(&mut self.monitor, hart, words);
-        let served = self.monitor.serve(
+        put_call(&mut self.harts[hart as usize], words);
+        let asked = *self.harts[hart as usize].registers();
+        let mut changes = SetChanges::none();
+        let served = self.core.serve(
             hart,
+            &asked,
             &MeasuresPages {
                 pages: &self.memory,
             },
+            &mut changes,
         );
-        self.zero(served.zero);
-        self.load_where(hart, served.load);
+        zero(&mut self.memory, served.zero);
+        let here = &mut self.harts[hart as usize];
+        follow(here, &mut self.contexts, &self.core, &changes, served.load);
         served.answer
     }
 
@@ -95,8 +105,10 @@ impl MachineParts {
         ensures frame { KeepsFrame self.old self.new hart }
         ensures step { DoesEvent Event.Irq (state_in self.old) hart result (state_in self.new) }
     {
-        let load = self.monitor.interrupt(hart);
-        self.load_where(hart, load);
+        let mut changes = SetChanges::none();
+        let load = self.core.interrupt(hart, &mut changes);
+        let here = &mut self.harts[hart as usize];
+        follow(here, &mut self.contexts, &self.core, &changes, load);
         self.reply_to_interrupt(hart)
     }
 }

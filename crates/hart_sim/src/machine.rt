@@ -1,8 +1,8 @@
-//! The machine: the monitor, the banks of the harts, and memory, to which events happen.
+//! The machine: the monitor's core, the harts, the saved registers and memory, to which events happen.
 
-ghost use Rattle.monitor_core.specs.Monitors.{state_by};
-ghost use Rattle.hart_sim.specs.Parts.{AreBanks};
+ghost use Rattle.hart_sim.specs.Parts.{FitTogether};
 
+use crate::hart_registers::registers_of;
 use crate::parts::MachineParts;
 use arrayvec::ArrayVec;
 use hart_trace::{Event, Reply};
@@ -15,7 +15,7 @@ use std::alloc::Global;
 #[derive(Drop)]
 pub struct Machine {
     pub(crate) parts: MachineParts,
-    pub ghost limited: { AreBanks parts.banks (state_by parts.monitor).table.layout.limit },
+    pub ghost fit: { FitTogether parts },
 }
 
 impl Machine {
@@ -31,7 +31,7 @@ impl Machine {
     ghost use Rattle.enclave_table.specs.Views.{host_view};
     ghost use Rattle.hart_trace.specs.declared.event.Event.{Event};
     ghost use Rattle.hart_trace.specs.declared.reply.Reply.{Reply};
-    ghost use Rattle.hart_sim.specs.Machines.{state_of, kept_of, bank_on, DoesByList, IsJudged, KeepsBanksRight};
+    ghost use Rattle.hart_sim.specs.Machines.{state_of, kept_of, bank_on, DoesByList, IsJudged, KeepsBanksRight, LoadsExactly};
     ghost use Rattle.hart_sim.specs.Banks.{MeetsList};
     ghost use Rattle.hart_sim.specs.Privacy.{KeepsPrivate, DeniesOthers, ZeroesDestroyed};
     ghost use Rattle.hart_sim.specs.After.{After, Happens};
@@ -57,7 +57,7 @@ impl Machine {
         requires { hart < 4 }
         ensures { result ≡ (state_of self.now).worlds hart }
     {
-        self.parts.monitor.world(hart)
+        self.parts.core.world(hart)
     }
 
     /// The registers of the world that runs on a hart.
@@ -66,7 +66,7 @@ impl Machine {
         ensures { let s = state_of self.now in
             result.now ≡ s.registers (runner_of hart (s.worlds hart)) }
     {
-        self.parts.monitor.registers(hart)
+        self.parts.harts[hart as usize].registers()
     }
 
     /// The registers of the host on a hart, or of an enclave by its id from 1 to 64, whether it runs or not.
@@ -76,7 +76,12 @@ impl Machine {
         requires world { IsWorld world }
         ensures { result.now ≡ (state_of self.now).registers (runner_of hart world) }
     {
-        self.parts.monitor.registers_of(hart, world)
+        registers_of(
+            self.parts.harts.as_slice(),
+            &self.parts.contexts,
+            hart,
+            world,
+        )
     }
 
     /// Whether a hart is marked: it loads the host's entries before its next event.
@@ -84,7 +89,7 @@ impl Machine {
         requires { hart < 4 }
         ensures { result ≡ (state_of self.now).marked hart }
     {
-        self.parts.monitor.is_marked(hart)
+        self.parts.core.is_marked(hart)
     }
 
     /// The byte at an address.
@@ -111,7 +116,7 @@ impl Machine {
         ensures kept { result.now ≡ kept_of self.now }
         ensures state { result.now.table ≡ (state_of self.now).table }
     {
-        self.parts.monitor.table()
+        self.parts.core.table()
     }
 
     /// How many harts there are.
@@ -121,7 +126,7 @@ impl Machine {
         ensures some { 0 < result }
         ensures most { result ≤ 4 }
     {
-        self.parts.monitor.harts()
+        self.parts.core.harts()
     }
 
     /// Puts another bank in place on a hart, as faulty hardware might. Nothing else changes. What boot promises of the
@@ -157,8 +162,8 @@ impl Machine {
         }
     }
 
-    /// An event happens on a hart, numbered from 0. On every machine an access does what the list says that it meets. From
-    /// boot on, as long as no other bank was put in place, the event is answered as the state says, and each hart that is
+    /// An event happens on a hart, numbered from 0. On every machine an access does what the list says that it meets, and
+    /// where entries are loaded, the bank is `Bank::of` these. From boot on, as long as no other bank was put in place, the event is answered as the state says, and each hart that is
     /// not marked has the fewest entries of the view of its world.
     #[inline(always)]
     pub fn step(&mut self, hart: u8, event: Event) -> Reply
@@ -179,6 +184,7 @@ impl Machine {
             → (state_of self.new).table ≡ (state_of self.old).table
             → (state_of self.new).worlds hart ≡ (state_of self.old).worlds hart
             → bank_on self.new hart ≡ bank_on self.old hart }
+        ensures exact { LoadsExactly self.old hart self.new }
         ensures lists { (state_of self.new).table ≡ (state_of self.old).table
             → kept_of self.new ≡ kept_of self.old }
         ensures platform { (state_of self.new).table.layout ≡ (state_of self.old).table.layout }
@@ -192,12 +198,14 @@ impl Machine {
             → KeepsPrivate (state_of self.old) hart event result (state_of self.new) }
         ensures entries { KeepsBanksRight self.old
             → RefusesByNeed (state_of self.old) hart event result }
+        ensures happens { KeepsBanksRight self.old
+            → Happens self.old hart event result self.new }
         ensures after { (platform : PlatformLayout) (events : List (ℕ × Event))
             (replies : List Reply)
             → After platform events replies self.old
             → After platform (events ++ (hart, event) ∷ []) (replies ++ result ∷ []) self.new }
     {
-        self.parts.monitor.cite_invariant();
+        self.parts.core.cite_invariant();
         self.parts.step(hart, event)
     }
 
@@ -209,7 +217,7 @@ impl Machine {
             → Happens self.old hart (Event.Ecall words.now) result self.new }
         ensures kept { KeepsBanksRight self.old → KeepsBanksRight self.new }
     {
-        self.parts.monitor.cite_invariant();
+        self.parts.core.cite_invariant();
         self.parts.call(hart, words)
     }
 }

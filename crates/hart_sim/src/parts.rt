@@ -1,15 +1,17 @@
-//! The parts of the machine: the monitor, memory, and the banks that are loaded.
+//! The parts of the machine: the monitor's core, memory, the harts and the saved registers.
 
 use crate::Memory;
-use crate::hart_bank::HartBank;
-use monitor_core::Monitor;
+use context_switch::{Contexts, Hart};
+use monitor_core::Core;
 use std::alloc::Global;
 
-/// The monitor, memory, and the bank of each of four harts, of which a platform may have fewer.
+/// The monitor's core, memory, four harts, of which a platform may have fewer, and the registers of each world that no
+/// hart runs.
 #[derive(Drop)]
 pub(crate) struct MachineParts {
     pub(crate) alloc: Global,
-    pub(crate) monitor: Monitor,
+    pub(crate) core: Core,
     pub(crate) memory: Memory,
-    pub(crate) banks: [HartBank; 4],
+    pub(crate) harts: [Hart; 4],
+    pub(crate) contexts: Contexts,
 }

@@ -1,5 +1,6 @@
 //! An event on a hart: it loads what it has to, and then the event happens.
 
+use crate::hart_registers::set_register;
 use crate::parts::MachineParts;
 use hart_trace::{Event, Reply};
 
@@ -11,7 +12,7 @@ impl MachineParts {
     ghost use Rattle.pmp_match.specs.declared.access.Access.{Access};
     ghost use Rattle.pmp_match.specs.declared.cause.Cause.{Cause};
     ghost use Rattle.pmp_match.specs.Judgement.{Judges};
-    ghost use Rattle.monitor_core.specs.Monitors.{kept_by};
+    ghost use Rattle.monitor_core.specs.Cores.{kept_of};
     ghost use Rattle.hart_trace.specs.declared.event.Event.{Event};
     ghost use Rattle.hart_sim.specs.Banks.{AreBanksRight, MeetsList};
     ghost use Rattle.hart_sim.specs.Frames.{IsOn, KeepsFrame};
@@ -24,12 +25,13 @@ impl MachineParts {
     fn set_register(&mut self, hart: u8, n: u8, value: u64) -> Reply
         requires on { IsOn self.old hart }
         requires few { hart < 4 }
+        requires awake { (state_in self.old).marked hart ≡ false }
         requires register { n < 32 }
         ensures frame { KeepsFrame self.old self.new hart }
         ensures step { DoesEvent (Event.Reg n value) (state_in self.old) hart result
             (state_in self.new) }
     {
-        self.monitor.set_register(hart, n, value);
+        set_register(&mut self.harts[hart as usize], n, value);
         Reply::Done
     }
 
@@ -46,7 +48,7 @@ impl MachineParts {
             → bank_in self.old hart ≡ Some bank → HasList bank list
             → (result ≡ Reply.Fault cause) ↔ Judges list access (Err cause) }
         ensures loaded { (access : Access) (value : ℕ) → event ≡ Event.Access access value
-            → self.new.banks ≡ self.old.banks }
+            → self.new.harts ≡ self.old.harts }
         ensures step { AreBanksRight (state_in self.old) (bank_in self.old)
             → DoesEvent event (state_in self.old) hart result (state_in self.new) }
         ensures effect { let met = bank_in self.old hart in
@@ -70,18 +72,18 @@ impl MachineParts {
         ensures frame { KeepsFrame self.old self.new hart }
         ensures judged { (access : Access) (value : ℕ) (list : List Entry) (cause : Cause)
             → event ≡ Event.Access access value
-            → MeetsList (state_in self.old) (kept_by self.old.monitor) (bank_in self.old) hart
+            → MeetsList (state_in self.old) (kept_of self.old.core) (bank_in self.old) hart
             list
             → (result ≡ Reply.Fault cause) ↔ Judges list access (Err cause) }
         ensures loaded { (access : Access) (value : ℕ) (list : List Entry) (bank : Bank)
             → event ≡ Event.Access access value
-            → MeetsList (state_in self.old) (kept_by self.old.monitor) (bank_in self.old) hart
+            → MeetsList (state_in self.old) (kept_of self.old.core) (bank_in self.old) hart
             list
             → bank_in self.new hart ≡ Some bank → HasList bank list }
         ensures step { AreBanksRight (state_in self.old) (bank_in self.old)
             → Step (state_in self.old) hart event result (state_in self.new) }
         ensures effect { let s = state_in self.old in
-            DoesBy (MeetsList s (kept_by self.old.monitor) (bank_in self.old) hart)
+            DoesBy (MeetsList s (kept_of self.old.core) (bank_in self.old) hart)
             event (awoken s hart) hart result (state_in self.new) }
     {
         self.wake(hart);

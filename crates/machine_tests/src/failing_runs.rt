@@ -68,3 +68,18 @@ fn an_event_whose_reply_is_cut_has_happened(rt: HostRuntime) {
     let mut machine = example_machine(&rt, rt.alloc(), 1);
     is_cut_in_a_reply(&rt, &mut machine);
 }
+
+/// The sink takes no byte of the first reply, and the first event alone has happened.
+fn takes_none(rt: &impl Abort, machine: &mut Machine) {
+    let mut source = PieceSource::new(b"reg x5 7\nreg x5 8\n", 100, None);
+    let mut sink = PieceSink::new(0, None);
+    assert!(rt; run(machine, &mut source, &mut sink) == Err(RunFault::Write));
+    assert!(rt; sink.written().is_empty());
+    assert!(rt; x(machine, 0, 5) == 7);
+}
+
+#[test]
+fn a_writer_that_takes_no_byte_ends_a_run(rt: HostRuntime) {
+    let mut machine = example_machine(&rt, rt.alloc(), 1);
+    takes_none(&rt, &mut machine);
+}

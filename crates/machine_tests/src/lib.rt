@@ -1,12 +1,12 @@
 //! Worked rows of the machine and of what it is made of, as tests alone: calls, the table of enclaves, changes of world,
-//! measured bytes, calls of the Supervisor Binary Interface, and traces on booted machines with the report of each. And how the headline of the machine is used, as two
-//! functions.
+//! measured bytes, calls of the Supervisor Binary Interface, and traces on booted machines with the report of each. Two
+//! functions show how the headline of the machine is used.
 //!
-//! Of the table these are platforms, the life of an enclave, and sequences of calls with the entries that each view then
-//! needs. The table knows nothing of certificates, by which its tree is compared with a new one here.
+//! The rows of the table are platforms, the life of an enclave, and sequences of calls with the entries that each view then
+//! needs. The table knows nothing of certificates; the rows compare its tree with a new one by them.
 //!
-//! They are kept apart from the crates that they test so that the gate proves each of these once, and tries its edits
-//! beside the rows.
+//! The rows have a crate of their own so that the gate proves each crate that they test once, and tries its edits beside
+//! the rows.
 #![tactic(auto)]
 
 #[cfg(test)]
@@ -33,6 +33,8 @@ mod sbi_calls_made;
 mod served;
 #[cfg(test)]
 mod served_life;
+#[cfg(test)]
+mod spread_banks;
 #[cfg(test)]
 mod switches;
 #[cfg(test)]

@@ -1,9 +1,11 @@
-//! Calls and interrupts on a booted monitor, without memory and traces. The answers, and how many entries each world
-//! needs, are those of the same life on a machine.
+//! Calls and interrupts on a booted core of the monitor, without memory and traces. The answers, and how many entries each
+//! world needs, are those of the same life on a machine.
 
 ghost use Rattle.std.specs.Prelude.{replicate};
 
-use monitor_core::{MeasuresPages, Monitor, PageRange, Pages, Platform, Registers, Served, World};
+use monitor_core::{
+    Core, MeasuresPages, PageRange, Pages, Platform, Registers, Served, SetChange, SetChanges, World,
+};
 use pmp_encoding::Perm;
 use std::alloc::Global;
 use std::process::Abort;
@@ -25,6 +27,66 @@ impl Pages for Zeros {
     }
 }
 
+/// A core on two harts, and the register sets that it speaks of: those of two hosts and of one enclave.
+#[derive(Drop)]
+struct Monitor {
+    core: Core,
+    first: Registers,
+    second: Registers,
+    enclave: Registers,
+}
+
+impl Monitor {
+    /// Does what the core said of one set.
+    fn put_one(&mut self, hart: u8, change: &SetChange) {
+        if change.enclave > 0 {
+            change.apply(&mut self.enclave);
+        } else if hart == 0 {
+            change.apply(&mut self.first);
+        } else {
+            change.apply(&mut self.second);
+        }
+    }
+
+    /// Does what the core said after an event on a hart.
+    fn put(&mut self, hart: u8, changes: &SetChanges) {
+        self.put_one(hart, &changes.first);
+        self.put_one(hart, &changes.second);
+        self.put_one(hart, &changes.third);
+    }
+
+    /// Copies the registers of the world that runs on a hart.
+    fn running(&self, hart: u8) -> Registers
+        requires { hart < 4 }
+    {
+        match self.core.world(hart) {
+            World::Enclave(_) => self.enclave,
+            World::Host => {
+                if hart == 0 {
+                    return self.first;
+                }
+                self.second
+            }
+        }
+    }
+
+    /// Sets the registers of the world that runs on a hart.
+    fn put_running(&mut self, hart: u8, registers: Registers)
+        requires { hart < 4 }
+    {
+        match self.core.world(hart) {
+            World::Enclave(_) => self.enclave = registers,
+            World::Host => {
+                if hart == 0 {
+                    self.first = registers;
+                } else {
+                    self.second = registers;
+                }
+            }
+        }
+    }
+}
+
 /// The monitor of the example platform, with two harts.
 fn example_monitor(rt: &impl Abort, alloc: Global) -> Monitor {
     let platform = Platform::new(
@@ -35,7 +97,14 @@ fn example_monitor(rt: &impl Abort, alloc: Global) -> Monitor {
     .expect(rt, "a platform")
     .with_harts(2)
     .expect(rt, "harts");
-    Monitor::boot(alloc, platform).expect(rt, "memory")
+    let core = Core::boot(alloc, platform).expect(rt, "memory");
+    let zeros = Registers::new();
+    Monitor {
+        core,
+        first: zeros,
+        second: zeros,
+        enclave: zeros,
+    }
 }
 
 /// The registers of a call at an address: its function, and its first three arguments.
@@ -58,20 +127,30 @@ fn served(
     function: u64,
     arguments: [u64; 3],
 ) -> Served {
-    assert!(rt; hart < monitor.harts());
-    assert!(rt; !monitor.is_marked(hart));
-    monitor.put_registers(hart, &call_of(0x8040_0000, function, arguments));
-    monitor.serve(hart, &MeasuresPages { pages: &Zeros {} })
+    assert!(rt; hart < 4);
+    let asked = call_of(0x8040_0000, function, arguments);
+    monitor.put_running(hart, asked);
+    assert!(rt; hart < monitor.core.harts());
+    assert!(rt; !monitor.core.is_marked(hart));
+    let mut changes = SetChanges::none();
+    let digests = MeasuresPages { pages: &Zeros {} };
+    let served = monitor.core.serve(hart, &asked, &digests, &mut changes);
+    monitor.put(hart, &changes);
+    served
 }
 
 /// An interrupt on such a hart, with this word in a0: whether its entries are to be loaded anew.
 fn interrupted(rt: &impl Abort, monitor: &mut Monitor, hart: u8, a0: u64) -> bool {
-    assert!(rt; hart < monitor.harts());
-    assert!(rt; !monitor.is_marked(hart));
+    assert!(rt; hart < 4);
     let mut registers = Registers::new();
     registers.set(A0, a0);
-    monitor.put_registers(hart, &registers);
-    monitor.interrupt(hart)
+    monitor.put_running(hart, registers);
+    assert!(rt; hart < monitor.core.harts());
+    assert!(rt; !monitor.core.is_marked(hart));
+    let mut changes = SetChanges::none();
+    let load = monitor.core.interrupt(hart, &mut changes);
+    monitor.put(hart, &changes);
+    load
 }
 
 /// What a call was answered with, and whether the hart's entries are to be loaded anew.
@@ -82,24 +161,24 @@ fn told(served: &Served) -> (i64, u64, bool) {
 /// The program counter, a0 and a1 of what goes on on a hart.
 fn pc_a0_a1(rt: &impl Abort, monitor: &Monitor, hart: u8) -> [u64; 3] {
     assert!(rt; hart < 4);
-    let registers = monitor.registers(hart);
+    let registers = monitor.running(hart);
     [registers.pc(), registers.get(A0), registers.get(A1)]
 }
 
 /// The world on the first hart, and how many entries it needs; and whether each hart is marked.
 fn standing(monitor: &Monitor) -> (World, u64, bool, bool) {
     (
-        monitor.world(0),
-        monitor.used(0),
-        monitor.is_marked(0),
-        monitor.is_marked(1),
+        monitor.core.world(0),
+        monitor.core.used(0),
+        monitor.core.is_marked(0),
+        monitor.core.is_marked(1),
     )
 }
 
 /// An enclave of one page of text at 0x80200000 is created on the first hart, and the second hart is woken.
 fn created(rt: &impl Abort, monitor: &mut Monitor) {
     let served = served(rt, monitor, 0, 0, [0x8020_0000, 1, 0]);
-    monitor.wake(1);
+    monitor.core.wake(1);
     assert!(rt; told(&served) == (0, 1, true));
 }
 

@@ -1,4 +1,5 @@
 pub mod Cases
+pub mod Cores
 pub mod Equal
 pub mod Held
 pub mod Currents

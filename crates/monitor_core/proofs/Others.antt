@@ -38,6 +38,7 @@ there s new i table is world v = subst (λ t. SameView (view_of s.table (s.world
 pub others_stay : (s new that : MonitorState) (hart : ℕ) → new ≡ that → that.table ≡ s.table → that.worlds ≡ s.worlds → that.marked ≡ s.marked
     → KeepsOthers s new hart
 others_stay s new that hart is table worlds marked = record {
+  worlds = λ i other. ap (λ y. y.worlds i) is ∙ ap (λ f. f i) worlds;
   awake = λ i other off. sym (ap (λ y. y.marked i) is ∙ ap (λ f. f i) marked) ∙ off;
   views = λ i other low off. there s new i s.table (ap (λ y. y.table) is ∙ table) (ap (λ y. y.worlds i) is ∙ ap (λ f. f i) worlds) (λ page small. refl);
 }
@@ -52,6 +53,7 @@ owned : (s new : MonitorState) (hart id : ℕ) (slot : Option Enclave) (harts : 
     → new.table ≡ with_enclave s.table id slot → ((i : ℕ) → new.worlds i ≡ s.worlds i)
     → ((i : ℕ) → new.marked i ≡ (if i == hart then s.marked i else (nat_lt i harts && is_host (s.worlds i) || s.marked i))) → KeepsOthers s new hart
 owned s new hart id slot harts above many free table worlds marks = record {
+  worlds = λ i other. worlds i;
   awake = λ i other off. (neither (nat_lt i harts && is_host (s.worlds i)) (s.marked i)
       (sym (ap (λ (t : Bool). if t then s.marked i else (nat_lt i harts && is_host (s.worlds i) || s.marked i)) (ne_eqb i hart other)) ∙ sym (marks i)
       ∙ off)).1;
@@ -67,6 +69,7 @@ moved : (s new : MonitorState) (hart id : ℕ) (e : Enclave) (stage : Stage) (to
     → new.table ≡ with_enclave s.table id (Some (record e { state = stage })) → ((i : ℕ) → new.worlds i ≡ (if i == hart then to else s.worlds i))
     → ((i : ℕ) → new.marked i ≡ s.marked i) → KeepsOthers s new hart
 moved s new hart id e stage to live table worlds marks = record {
+  worlds = λ i other. worlds i ∙ ap (λ (t : Bool). if t then to else s.worlds i) (ne_eqb i hart other);
   awake = λ i other off. sym (marks i) ∙ off;
   views = λ i other low off.
       there s new i (with_enclave s.table id (Some (record e { state = stage }))) table

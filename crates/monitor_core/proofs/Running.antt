@@ -42,7 +42,7 @@ pub others_put : (s mid new : MonitorState) (hart : ℕ) (file : RegisterFile) �
     → KeepsOthers s new hart
 others_put s mid new hart file put kept =
     let k = subst (λ m. KeepsOthers m new hart) put kept in
-    record { awake = k.awake; views = k.views }
+    record { worlds = k.worlds; awake = k.awake; views = k.views }
 
 anew_put : (load : Bool) (s new : MonitorState) (hart : ℕ) (file : RegisterFile) → LoadsAnew load (with_running s hart file) new hart
     → LoadsAnew load s new hart

@@ -1,9 +1,11 @@
 -- The core of the monitor as its caller sees it, who keeps the register sets.
-use Rattle.std.specs.Prelude.{ℕ, Bool}
-use Rattle.enclave_table.specs.Tables.{Kept}
+use Rattle.std.specs.Prelude.{ℕ, Bool, List}
+use Rattle.pmp_encoding.specs.declared.region.Entry.{Entry}
+use Rattle.enclave_table.specs.Tables.{Kept, list_at}
 use Rattle.sbi_decode.specs.Registers.{RegisterFile}
 use Rattle.sbi_decode.specs.Runners.{Runner}
 use Rattle.sbi_decode.specs.declared.world.World.{World}
+use Rattle.sbi_decode.specs.declared.world.World.TheVariants.{Host, Enclave as InEnclave}
 use Rattle.monitor_core.specs.declared.steps.Core.{Core}
 use Rattle.monitor_core.specs.Parts.{mark_in, world_in}
 use Rattle.monitor_core.specs.States.{MonitorState}
@@ -28,3 +30,8 @@ state_of core sets = record {
   registers = sets;
   marked = marks_of core;
 }
+
+-- the list that is kept for a world
+abbrev pub list_of : Kept → World → List Entry
+list_of kept Host = kept.host_list
+list_of kept (InEnclave id) = list_at kept id

@@ -35,9 +35,10 @@ abbrev pub LoadsAnew : Bool → MonitorState → MonitorState → ℕ → Type 0
 LoadsAnew false old new hart = (new.table ≡ old.table) × (new.worlds hart ≡ old.worlds hart)
 LoadsAnew true old new hart = new.table ≡ old.table → new.worlds hart ≡ old.worlds hart → ⊥
 
--- every other hart that is not marked then was not marked before, and its view is the same: what is
--- loaded there is right still
+-- every other hart stays in its world; where it is not marked then it was not marked before, and
+-- its view is the same: what is loaded there is right still
 pub record KeepsOthers (s new : MonitorState) (hart : ℕ) : Type 0 where
+  pub worlds : (i : ℕ) → i ≢ hart → new.worlds i ≡ s.worlds i
   pub awake : (i : ℕ) → i ≢ hart → new.marked i ≡ false → s.marked i ≡ false
   pub views : (i : ℕ) → i ≢ hart → i < s.table.layout.harts → new.marked i ≡ false
       → SameView (current_view s.table (s.worlds i)) (current_view new.table (new.worlds i))

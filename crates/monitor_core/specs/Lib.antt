@@ -4,12 +4,10 @@ pub mod SetChanges
 pub mod Answers
 pub mod Steps
 pub mod Switches
-pub mod RegisterSets
 pub mod Parts
 pub mod Cores
 pub mod Frames
 pub mod Loads
 pub mod Measured
-pub mod Monitors
 pub mod Wants
 pub mod Worlds

@@ -8,7 +8,7 @@ impl MonitorParts {
     ghost use Rattle.std.specs.Prelude.{◌≡◌, ◌<◌, IfNone, IfSome};
     ghost use Rattle.enclave_table.specs.Fewest.{IsListOf};
     ghost use Rattle.enclave_table.specs.Views.{current_view};
-    ghost use Rattle.monitor_core.specs.Monitors.{list_of};
+    ghost use Rattle.monitor_core.specs.Cores.{list_of};
     ghost use Rattle.monitor_core.specs.Parts.{HoldsTogether, world_in};
     ghost use Rattle.monitor_core.specs.Worlds.{IsNoWorld};
 

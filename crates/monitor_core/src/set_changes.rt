@@ -1,6 +1,10 @@
 //! What becomes of register sets over a call or an interrupt on a hart.
 //!
-//! The sets lie elsewhere. A change is put in place word by word: a copy of a whole goes byte by byte on RV64.
+//! The caller of the monitor keeps the sets. A change is put in place word by word: a copy of a whole set goes byte by
+//! byte on RV64.
+
+use crate::call_registers::{first_registers, go_past_call, put_answer};
+use sbi_decode::{Registers, World};
 
 /// What becomes of one register set.
 #[derive(Clone, Copy, PartialEq, Eq)]
@@ -38,8 +42,9 @@ pub struct SetChanges {
 }
 
 impl SetChange {
-    ghost use Rattle.std.specs.Prelude.{◌≡◌};
-    ghost use Rattle.monitor_core.specs.SetChanges.{no_change};
+    ghost use Rattle.std.specs.Prelude.{◌≡◌, ◌≤◌, ℕ};
+    ghost use Rattle.sbi_decode.specs.Runners.{IsWorld, runner_of};
+    ghost use Rattle.monitor_core.specs.SetChanges.{change, no_change, owner_of};
     ghost use Rattle.monitor_core.specs.declared.set_changes.ChangeKind.TheVariants as kinds;
 
     /// No change.
@@ -51,6 +56,32 @@ impl SetChange {
             enclave: 0,
             first: 0,
             second: 0,
+        }
+    }
+
+    /// Returns the world whose set changes, on the hart of the event.
+    pub fn world(&self) -> World
+        requires { self.now.enclave ≤ 64 }
+        ensures owner { (hart : ℕ) → runner_of hart result ≡ owner_of hart self.now.enclave }
+        ensures known { IsWorld result }
+    {
+        if self.enclave == 0 {
+            return World::Host;
+        }
+        World::Enclave(self.enclave)
+    }
+
+    /// Changes the set that it names.
+    pub fn apply(&self, set: &mut Registers)
+        ensures { (hart : ℕ) → set.new
+            ≡ change hart self.now (λ who. set.old) (owner_of hart self.now.enclave) }
+    {
+        match self.kind {
+            ChangeKind::Nothing => {}
+            ChangeKind::PastCall => go_past_call(set),
+            ChangeKind::Answer => put_answer(set, self.first, self.second),
+            ChangeKind::Begin => *set = first_registers(self.first, self.enclave),
+            ChangeKind::Clear => *set = Registers::new(),
         }
     }
 

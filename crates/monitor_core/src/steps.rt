@@ -35,9 +35,8 @@ impl Core {
     ghost use Rattle.sbi_decode.specs.Registers.{RegisterFile};
     ghost use Rattle.sbi_decode.specs.Runners.{IsWorld, Runner};
     ghost use Rattle.monitor_core.specs.Changes.{having_digest, past_call, with_running, without_mark};
-    ghost use Rattle.monitor_core.specs.Cores.{kept_of, marks_of, state_of, worlds_of};
+    ghost use Rattle.monitor_core.specs.Cores.{kept_of, list_of, marks_of, state_of, worlds_of};
     ghost use Rattle.monitor_core.specs.Frames.{LoadsAnew, KeepsOthers, ClearsMemory};
-    ghost use Rattle.monitor_core.specs.Monitors.{list_of};
     ghost use Rattle.monitor_core.specs.SetChanges.{AreOfSets, changed};
     ghost use Rattle.monitor_core.specs.States.{opening_monitor, running_registers};
     ghost use Rattle.monitor_core.specs.Steps.{DoesCall, Interrupts};

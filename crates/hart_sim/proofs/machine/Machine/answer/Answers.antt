@@ -7,28 +7,9 @@ use Rattle.hart_sim.proofs.machine.Machine.answer.Goals as goal
 pub returns-then-wants_memory-clause-starved : goal.returns-then-wants_memory-clause-starved
 returns-then-wants_memory-clause-starved c = λ k.
     let wanted : c.step-reply.result ≡ NoMemory = c.wants_memory.ensures.yes c.if-wants_memory.true in
-    let happens : Happens c.args.self.now c.args.hart c.args.event c.step-reply.result c.step-reply.new.self = record {
-      known = c.requires.hart;
-      possible = c.requires.event;
-      happened = c.step-reply.ensures.step k;
-      judged = c.step-reply.ensures.judged;
-      others = c.step-reply.ensures.others;
-      kept = c.step-reply.ensures.kept k;
-    } in
-    subst (λ r. Happens c.args.self.now c.args.hart c.args.event r c.step-reply.new.self) wanted happens
+    subst (λ r. Happens c.args.self.now c.args.hart c.args.event r c.step-reply.new.self) wanted (c.step-reply.ensures.happens k)
 
 pub returns-clause-done : goal.returns-clause-done
 returns-clause-done c = λ k.
-    let answered : c.step-reply.result ≢ NoMemory = c.wants_memory.ensures.no c.if-wants_memory.false in (
-      c.step-reply.result,
-      record {
-        known = c.requires.hart;
-        possible = c.requires.event;
-        happened = c.step-reply.ensures.step k;
-        judged = c.step-reply.ensures.judged;
-        others = c.step-reply.ensures.others;
-        kept = c.step-reply.ensures.kept k;
-      },
-      answered,
-      c.push_reply.ensures.text answered,
-    )
+    let answered : c.step-reply.result ≢ NoMemory = c.wants_memory.ensures.no c.if-wants_memory.false in
+    (c.step-reply.result, c.step-reply.ensures.happens k, answered, c.push_reply.ensures.text answered)

@@ -4,7 +4,7 @@ use Rattle.hart_sim.proofs.machine.Machine.call.Goals as goal
 
 pub call-requires-clause-on : goal.call-requires-clause-on
 unfolding state_of
-call-requires-clause-on c = record { known = c.requires; limited = c.args.self.now.limited }
+call-requires-clause-on c = record { known = c.requires; fit = c.args.self.now.fit }
 
 pub call-requires-clause-few : goal.call-requires-clause-few
 unfolding state_of

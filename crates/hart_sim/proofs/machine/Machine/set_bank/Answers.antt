@@ -1,7 +1,4 @@
-use Rattle.std.proofs.Common.{ap, ap₂}
-use Rattle.monitor_core.specs.Monitors.{state_by, kept_by}
 use Rattle.hart_sim.specs.Machines.{state_of, kept_of, bank_on}
-use Rattle.hart_sim.specs.Parts.{shown}
 use Rattle.hart_sim.proofs.machine.Machine.set_bank.Goals as goal
 
 pub put_bank-requires-clause-limit : goal.put_bank-requires-clause-limit
@@ -10,11 +7,11 @@ put_bank-requires-clause-limit c = c.requires.limit
 
 pub returns-clause-state : goal.returns-clause-state
 unfolding state_of
-returns-clause-state c = ap₂ (λ m y. shown (state_by m) y) c.put_bank.ensures.monitor c.put_bank.ensures.memory
+returns-clause-state c = c.put_bank.ensures.state
 
 pub returns-clause-table : goal.returns-clause-table
 unfolding kept_of
-returns-clause-table c = ap kept_by c.put_bank.ensures.monitor
+returns-clause-table c = c.put_bank.ensures.kept
 
 pub returns-clause-bank : goal.returns-clause-bank
 unfolding bank_on

@@ -11,7 +11,7 @@ use Rattle.hart_sim.proofs.machine.Machine.step.Goals as goal
 
 pub step-requires-clause-on : goal.step-requires-clause-on
 unfolding state_of
-step-requires-clause-on c = record { known = c.requires.hart; limited = c.args.self.now.limited }
+step-requires-clause-on c = record { known = c.requires.hart; fit = c.args.self.now.fit }
 
 pub step-requires-clause-few : goal.step-requires-clause-few
 unfolding state_of
@@ -77,6 +77,17 @@ returns-clause-entries c = λ right.
     refuses_by_need (state_in c.args.self.now.parts) c.args.hart c.args.event c.step.result (state_in c.step.new.self) c.cite_invariant.ensures.table
     (c.step.ensures.step right)
 
+pub returns-clause-happens : goal.returns-clause-happens
+unfolding state_of kept_of bank_on
+returns-clause-happens c = λ right. record {
+  known = c.requires.hart;
+  possible = c.requires.event;
+  happened = c.step.ensures.step right;
+  judged = c.step.ensures.judged;
+  others = c.step.ensures.frame.others;
+  kept = c.step.ensures.frame.banks right;
+}
+
 pub returns-clause-after : goal.returns-clause-after
 unfolding state_of kept_of bank_on
 returns-clause-after c = λ platform events replies a.
@@ -93,3 +104,7 @@ returns-clause-after c = λ platform events replies a.
 pub returns-clause-lists : goal.returns-clause-lists
 unfolding state_of kept_of
 returns-clause-lists c = c.step.ensures.frame.lists
+
+pub returns-clause-exact : goal.returns-clause-exact
+unfolding state_of kept_of bank_on
+returns-clause-exact c = c.step.ensures.frame.loads

@@ -1,39 +1,48 @@
-use Rattle.std.proofs.Common.{◌≡◌, ◌∙◌, ap, ap₂, sym, subst}
-use Rattle.monitor_core.specs.Monitors.{state_by, kept_by}
-use Rattle.monitor_core.specs.Frames.{LoadsAnew, KeepsOthers}
-use Rattle.hart_sim.specs.Banks.{LoadsFewest}
-use Rattle.hart_sim.specs.Parts.{AreBanks, shown}
-use Rattle.hart_sim.specs.States.{view_on}
+use Rattle.std.proofs.Common.{◌≡◌, ◌∙◌, ap, refl, slice_set, subst, sym, arith}
+use Rattle.pmp_encoding.specs.Limits.{limit_number}
+use Rattle.context_switch.specs.Harts.{bank_of}
+use Rattle.monitor_core.specs.Cores.{kept_of, state_of, worlds_of}
+use Rattle.monitor_core.specs.SetChanges.{changed}
+use Rattle.monitor_core.specs.Steps.{Interrupts}
+use Rattle.monitor_core.proofs.Switched.{interrupt_keeps_registers}
+use Rattle.hart_sim.specs.Parts.{registers_in}
+use Rattle.hart_sim.proofs.BankPlaces.{read_at}
+use Rattle.hart_sim.proofs.Followed.{interrupt_followed}
 use Rattle.hart_sim.proofs.Framed.{frame_served}
 use Rattle.hart_sim.proofs.parts.MachineParts.interrupt.Goals as goal
 
+pub follow-requires-clause-limited : goal.follow-requires-clause-limited
+follow-requires-clause-limited c =
+    let old = c.args.self.now in
+    let at = read_at old.harts c.args.hart c.index-self-hart.result (omega (arith, c.requires.on.fit.four, c.requires.few)) in
+    (c.requires.on.fit.each c.args.hart _ at).limited ∙ ap (λ l. limit_number l.limit) (sym c.interrupt-load.ensures.platform)
+
 pub returns-clause-step : goal.returns-clause-step
 returns-clause-step c =
-    let core = state_by c.interrupt-load.new.self in (
-      core,
-      c.interrupt-load.ensures.step,
-      ap₂ (λ m y. shown (state_by m) y) c.load_where.ensures.monitor c.load_where.ensures.memory,
+    let old = c.args.self.now in
+    let hart = c.args.hart in
+    let core = c.interrupt-load.new.self in
+    let e = c.interrupt-load.ensures in
+    let at = read_at old.harts hart c.index-self-hart.result (omega (arith, c.requires.on.fit.four, c.requires.few)) in
+    let both = interrupt_followed old core c.follow.new.contexts hart _ c.follow.new.here c.interrupt-load.new.changes c.interrupt-load.result c.requires.on.fit at
+    e.platform e.others e.load c.follow.ensures (e.step (registers_in old.harts old.contexts)) in (
+      state_of core (registers_in (slice_set old.harts hart c.follow.new.here) c.follow.new.contexts),
+      both.1,
+      refl,
       c.reply_to_interrupt.ensures,
     )
 
 pub returns-clause-frame : goal.returns-clause-frame
 returns-clause-frame c =
     let old = c.args.self.now in
+    let hart = c.args.hart in
+    let core = c.interrupt-load.new.self in
     let e = c.interrupt-load.ensures in
-    let served = c.interrupt-load.new.self in
-    let new = c.load_where.new.self in
-    let is : new.monitor ≡ served = c.load_where.ensures.monitor in
-    frame_served old new c.args.hart c.interrupt-load.result c.requires.on c.requires.few c.requires.awake
-    (subst (λ m. KeepsOthers (state_by old.monitor) (state_by m) c.args.hart) (sym is) e.others)
-    (subst (λ m. LoadsAnew c.interrupt-load.result (state_by old.monitor) (state_by m) c.args.hart) (sym is) e.load)
-    (ap (λ m. (state_by m).table.layout) is ∙ e.platform)
-    (subst (λ m. AreBanks new.banks (state_by m).table.layout.limit) (sym c.load_where.ensures.monitor) c.load_where.ensures.limited)
-    (λ same. ap kept_by is ∙ e.lists (ap (λ m. (state_by m).table) (sym is) ∙ same))
-    c.load_where.ensures.others
-    (λ yes. let f = c.load_where.ensures.fewest yes in (
-      f.0,
-      f.1,
-      subst (λ m. LoadsFewest f.0 (view_on (shown (state_by m) old.memory) c.args.hart))
-          (sym c.load_where.ensures.monitor) f.2,
-    ))
-    c.load_where.ensures.calm
+    let harts = slice_set old.harts hart c.follow.new.here in
+    let at = read_at old.harts hart c.index-self-hart.result (omega (arith, c.requires.on.fit.four, c.requires.few)) in
+    let f = (interrupt_followed old core c.follow.new.contexts hart _ c.follow.new.here c.interrupt-load.new.changes c.interrupt-load.result c.requires.on.fit at
+    e.platform e.others e.load c.follow.ensures (e.step (registers_in old.harts old.contexts))).0 in
+    let sets = registers_in old.harts old.contexts in
+    let after = registers_in harts c.follow.new.contexts in
+    frame_served old (record old { core = core; harts = harts; contexts = c.follow.new.contexts }) hart c.interrupt-load.result c.requires.on c.requires.few
+    c.requires.awake (e.others sets after) (e.load sets after) e.platform f.fit e.lists f.others f.loaded f.own f.calm

@@ -1,18 +1,20 @@
-use Rattle.std.proofs.Common.{◌≡◌, ◌∙◌, ◌+◌, ◌^◌, ◌≤◌, ◌<◌, Option, None, Some, slice_get, ap, ap₂, sym, subst, ◌∷◌, []}
+use Rattle.std.proofs.Common.{◌≡◌, ◌∙◌, ◌+◌, ◌^◌, ◌≤◌, Option, None, Some, slice_set, ap, sym, arith}
 use Rattle.std.specs.Prelude.{IfSome}
+use Rattle.pmp_encoding.specs.Limits.{limit_number}
 use Rattle.pmp_encoding.specs.declared.pages.PageRange.{PageRange}
 use Rattle.platforms.specs.Platform.{PlatformLayout}
-use Rattle.monitor_core.specs.Monitors.{state_by, kept_by}
+use Rattle.monitor_core.specs.Cores.{kept_of, state_of}
+use Rattle.monitor_core.specs.Frames.{ClearsMemory}
+use Rattle.monitor_core.proofs.Running.{others_put, loads_put}
+use Rattle.sbi_decode.specs.Calls.{call_of}
 use Rattle.monitor_core.specs.States.{running_registers}
-use Rattle.monitor_core.specs.Frames.{LoadsAnew, KeepsOthers, ClearsMemory}
-use Rattle.hart_sim.specs.Banks.{LoadsFewest}
-use Rattle.hart_sim.specs.Changes.{with_words}
-use Rattle.hart_sim.specs.Parts.{AreBanks, shown, state_in}
-use Rattle.hart_sim.specs.States.{view_on}
+use Rattle.hart_sim.specs.Changes.{call_places, with_words}
+use Rattle.hart_sim.specs.Memory.{byte_at, measured_in}
+use Rattle.hart_sim.specs.Parts.{core_in, registers_in, state_in}
+use Rattle.hart_sim.proofs.BankPlaces.{read_at}
+use Rattle.hart_sim.proofs.Followed.{call_followed, running_in, words_put}
 use Rattle.hart_sim.proofs.Framed.{frame_served}
-use Rattle.monitor_core.proofs.Running.{call_there, others_put, loads_put}
 use Rattle.hart_sim.proofs.parts.MachineParts.serve.Goals as goal
-use Rattle.hart_sim.specs.Memory.{measured_in}
 
 -- pages that are to be zero are in the space
 in_space : (layout : PlatformLayout) (pages : Option PageRange) → IfSome pages (λ (range : PageRange). ClearsMemory layout range)
@@ -20,52 +22,59 @@ in_space : (layout : PlatformLayout) (pages : Option PageRange) → IfSome pages
 in_space layout None x = tt
 in_space layout (Some range) x = x.inside
 
-pub serve-served-requires-clause-hart : goal.serve-served-requires-clause-hart
-serve-served-requires-clause-hart c = subst (λ s. c.args.hart < s.table.layout.harts) (sym c.put_call.ensures.state) c.requires.on.known
-
-pub serve-served-requires-clause-awake : goal.serve-served-requires-clause-awake
-serve-served-requires-clause-awake c = ap (λ s. s.marked c.args.hart) c.put_call.ensures.state ∙ c.requires.awake
-
 pub zero-requires : goal.zero-requires
-zero-requires c = in_space (state_by c.put_call.new.monitor).table.layout c.serve-served.result.zero c.serve-served.ensures.zeroed
+zero-requires c = in_space (kept_of c.args.self.now.core).table.layout c.serve-served.result.zero c.serve-served.ensures.zeroed
+
+pub follow-requires-clause-limited : goal.follow-requires-clause-limited
+follow-requires-clause-limited c =
+    let old = c.args.self.now in
+    let hart = c.args.hart in
+    let at = read_at old.harts hart c.index-self-hart.result (omega (arith, c.requires.on.fit.four, c.requires.few)) in
+    let put = words_put old hart _ c.put_call.new.here c.args.words.now c.requires.on.fit at c.put_call.ensures in
+    let there = read_at (slice_set old.harts hart c.put_call.new.here) hart c.index-self-hart-3.result (omega (arith, put.fit.four, c.requires.few)) in
+    (put.fit.each hart _ there).limited ∙ ap (λ l. limit_number l.limit) (sym c.serve-served.ensures.platform)
 
 pub returns-clause-served : goal.returns-clause-served
 returns-clause-served c =
-    let s = state_in c.args.self.now in
-    let before = state_by c.args.self.now.monitor in
-    let core = state_by c.serve-served.new.self in
+    let old = c.args.self.now in
+    let hart = c.args.hart in
+    let core = c.serve-served.new.self in
+    let e = c.serve-served.ensures in
     let r = c.serve-served.result in
-    let file = with_words (running_registers before c.args.hart) (17 ∷ (16 ∷ (10 ∷ (11 ∷ (12 ∷ (13 ∷ (14 ∷ (15 ∷ [])))))))) c.args.words.now in (
-      r.zero,
-      core,
-      call_there before (state_by c.put_call.new.monitor) core c.args.hart file
-          (measured_in s.bytes) r.answer r.zero c.put_call.ensures.state c.serve-served.ensures.step,
-      ap₂ (λ m y. shown (state_by m) y) c.load_where.ensures.monitor c.load_where.ensures.memory ∙ c.zero.ensures.state,
-    )
+    let harts = slice_set old.harts hart c.put_call.new.here in
+    let at = read_at old.harts hart c.index-self-hart.result (omega (arith, c.requires.on.fit.four, c.requires.few)) in
+    let put = words_put old hart _ c.put_call.new.here c.args.words.now c.requires.on.fit at c.put_call.ensures in
+    let second = read_at harts hart c.index-self-hart-2.result (omega (arith, put.fit.four, c.requires.few)) in
+    let third = read_at harts hart c.index-self-hart-3.result (omega (arith, put.fit.four, c.requires.few)) in
+    let asked = running_in (record old { harts = harts }) hart _ put.fit second ∙ sym c.registers.ensures in
+    let both = call_followed old core harts c.follow.new.contexts hart _ c.follow.new.here
+    (with_words (running_registers (core_in old) hart) call_places c.args.words.now) c.serve-served.new.changes r.load (measured_in (byte_at old.memory)) r.answer
+    r.zero put third e.platform e.others e.load c.follow.ensures (e.step (registers_in harts old.contexts) (ap call_of asked)) in
+    let new = state_of core (registers_in (slice_set harts hart c.follow.new.here) c.follow.new.contexts) in
+    (r.zero, new, both.1, c.zero.ensures new)
 
 pub returns-clause-frame : goal.returns-clause-frame
 returns-clause-frame c =
     let old = c.args.self.now in
+    let hart = c.args.hart in
+    let core = c.serve-served.new.self in
     let e = c.serve-served.ensures in
-    let load = c.serve-served.result.load in
-    let before = state_by old.monitor in
-    let mid = state_by c.put_call.new.monitor in
-    let served = c.serve-served.new.self in
-    let new = c.load_where.new.self in
-    let file = with_words (running_registers before c.args.hart) (17 ∷ (16 ∷ (10 ∷ (11 ∷ (12 ∷ (13 ∷ (14 ∷ (15 ∷ [])))))))) c.args.words.now in
-    let put = c.put_call.ensures.state in
-    let is : new.monitor ≡ served = c.load_where.ensures.monitor ∙ c.zero.ensures.monitor in
-    frame_served old new c.args.hart load c.requires.on c.requires.few c.requires.awake
-    (subst (λ m. KeepsOthers before (state_by m) c.args.hart) (sym is) (others_put before mid (state_by served) c.args.hart file put e.others))
-    (subst (λ m. LoadsAnew load before (state_by m) c.args.hart) (sym is) (loads_put load before mid (state_by served) c.args.hart file put e.load))
-    (ap (λ m. (state_by m).table.layout) is ∙ e.platform ∙ ap (λ s. s.table.layout) put)
-    (subst (λ m. AreBanks new.banks (state_by m).table.layout.limit) (sym c.load_where.ensures.monitor) c.load_where.ensures.limited)
-    (λ same. ap kept_by is ∙ e.lists (ap (λ m. (state_by m).table) (sym is) ∙ same ∙ sym (ap (λ s. s.table) put)) ∙ c.put_call.ensures.kept)
-    (λ i other. c.load_where.ensures.others i other ∙ ap (λ bs. slice_get bs i) c.zero.ensures.banks)
-    (λ yes. let f = c.load_where.ensures.fewest yes in (
-      f.0,
-      f.1,
-      subst (λ m. LoadsFewest f.0 (view_on (shown (state_by m) old.memory) c.args.hart))
-          (sym c.load_where.ensures.monitor) f.2,
-    ))
-    (λ no. c.load_where.ensures.calm no ∙ c.zero.ensures.banks)
+    let r = c.serve-served.result in
+    let harts = slice_set old.harts hart c.put_call.new.here in
+    let at = read_at old.harts hart c.index-self-hart.result (omega (arith, c.requires.on.fit.four, c.requires.few)) in
+    let put = words_put old hart _ c.put_call.new.here c.args.words.now c.requires.on.fit at c.put_call.ensures in
+    let second = read_at harts hart c.index-self-hart-2.result (omega (arith, put.fit.four, c.requires.few)) in
+    let third = read_at harts hart c.index-self-hart-3.result (omega (arith, put.fit.four, c.requires.few)) in
+    let asked = running_in (record old { harts = harts }) hart _ put.fit second ∙ sym c.registers.ensures in
+    let file = with_words (running_registers (core_in old) hart) call_places c.args.words.now in
+    let f = (call_followed old core harts c.follow.new.contexts hart _ c.follow.new.here file c.serve-served.new.changes r.load
+    (measured_in (byte_at old.memory)) r.answer r.zero put third e.platform e.others e.load c.follow.ensures
+    (e.step (registers_in harts old.contexts) (ap call_of asked))).0 in
+    let now = slice_set harts hart c.follow.new.here in
+    let sets = registers_in harts old.contexts in
+    let after = registers_in now c.follow.new.contexts in
+    frame_served old (record old { core = core; memory = c.zero.new.memory; harts = now; contexts = c.follow.new.contexts }) hart r.load c.requires.on
+    c.requires.few c.requires.awake
+    (others_put (core_in old) (state_of old.core sets) (state_of core after) hart file put.state (e.others sets after))
+    (loads_put r.load (core_in old) (state_of old.core sets) (state_of core after) hart file put.state (e.load sets after)) e.platform f.fit e.lists
+    (λ i other. f.others i other ∙ put.banks i) f.loaded f.own (λ off. f.calm off ∙ put.banks hart)

@@ -48,4 +48,4 @@ returns-clause-others c = λ before after.
     let stays = others_irq (s.worlds c.args.hart) s c.args.hart (state_in c.pause.new.self (changed c.args.hart c.pause.new.changes (λ who. zeros))) refl
     c.requires.hart
     (record { current = placed.current; alone = placed.alone; held = placed.held; marked = placed.marked }) (c.pause.ensures.step (λ who. zeros)) in
-    record { awake = stays.awake; views = stays.views }
+    record { worlds = stays.worlds; awake = stays.awake; views = stays.views }

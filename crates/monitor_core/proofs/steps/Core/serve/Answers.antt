@@ -75,7 +75,7 @@ returns-clause-others g c = λ before after.
     let stays = others_call (call_of c.args.asked.now) (g.D.Digests.digest_of c.args.digests.now) there c.args.hart c.serve.result.answer c.serve.result.zero
     (state_in c.serve.new.self (changed c.args.hart c.serve.new.changes (λ who. zeros))) c.requires.hart
     (record { current = placed.current; alone = placed.alone; held = placed.held; marked = placed.marked }) (c.serve.ensures.step (λ who. zeros)) in
-    record { awake = stays.awake; views = stays.views }
+    record { worlds = stays.worlds; awake = stays.awake; views = stays.views }
 
 pub returns-clause-zeroed : goal.returns-clause-zeroed
 unfolding kept_of
