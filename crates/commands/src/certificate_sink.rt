@@ -9,10 +9,10 @@ ghost use Rattle.plan_certificate.specs.Written.{certificate_for};
 ghost use Rattle.commands.specs.CertifiedPlan.{placing, CertificateNotWritten};
 
 use byte_streams::{DeviceFault, Sink};
-use entry_planner::PackedPlan;
+use entry_planner::Plan;
 use permission_map::PermissionMap;
 use plan_certificate::send_map;
-use pmp_encoding::Limit;
+use pmp_encoding::{Limit, PackedEntry};
 use program_files::WholeSink;
 
 /// A certificate is put in its place whole, or not at all.
@@ -33,7 +33,7 @@ pub trait CertificateSink<M>: Sink {
     fn take(
         &mut self,
         map: &PermissionMap,
-        plan: &PackedPlan,
+        plan: &Plan<PackedEntry>,
         limit: Limit,
     ) -> Result<(), DeviceFault>
         requires splits { splits (tree_of (view_of_runs map.now)) ≡ length plan.now.costs }
@@ -54,7 +54,7 @@ impl<C: WholeSink> CertificateSink<Whole> for C {
     fn take(
         &mut self,
         map: &PermissionMap,
-        plan: &PackedPlan,
+        plan: &Plan<PackedEntry>,
         limit: Limit,
     ) -> Result<(), DeviceFault> {
         send_map(map, plan, limit, self.inner())?;
@@ -70,7 +70,7 @@ impl<C: Sink> CertificateSink<Straight> for C {
     fn take(
         &mut self,
         map: &PermissionMap,
-        plan: &PackedPlan,
+        plan: &Plan<PackedEntry>,
         limit: Limit,
     ) -> Result<(), DeviceFault> {
         send_map(map, plan, limit, self)

@@ -18,13 +18,13 @@ ghost use Rattle.commands.specs.CertifiedPlan.{placing, AreNeeded, IsBeyond, IsC
 use crate::certificate_sink::CertificateSink;
 use byte_streams::DeviceFault;
 use command_inputs::{Trouble, map_by};
-use entry_planner::{PackedPlan, plan_map};
+use entry_planner::{Plan, plan_map};
 use permission_map::{Memory, PermissionMap};
 use pmp_encoding::{Bank, Limit, PackedEntry, Xlen};
 use std::alloc::Global;
 
 /// The plan of a map: the fewest entries that mean it, of the lists of that many the one that the planner chooses.
-pub fn plan_of_map(alloc: Global, map: &PermissionMap) -> Result<PackedPlan, Memory>
+pub fn plan_of_map(alloc: Global, map: &PermissionMap) -> Result<Plan<PackedEntry>, Memory>
     ensures fewest { IfOk result (λ plan. IsFewest (view_of_runs map.now) plan.entries) }
     ensures choice { IfOk result (λ plan.
         AreChosen (tree_of (view_of_runs map.now)) plan.entries) }
@@ -79,7 +79,7 @@ pub fn planned_within<'a>(
     alloc: Global,
     map: &PermissionMap,
     most: Option<u64>,
-) -> Result<PackedPlan, Trouble<'a>>
+) -> Result<Plan<PackedEntry>, Trouble<'a>>
     ensures planned { IfOk result (λ plan. IsPlanned (view_of_runs map.now) most plan.entries) }
     ensures small { IfOk result (λ plan. length plan.entries < 2 ^ 32) }
     ensures refused { IfErr result (λ trouble.
@@ -91,7 +91,7 @@ pub fn planned_within<'a>(
 }
 
 /// Refuses a plan that is beyond the bound.
-fn within<'a>(plan: &PackedPlan, most: Option<u64>) -> Result<(), Trouble<'a>>
+fn within<'a>(plan: &Plan<PackedEntry>, most: Option<u64>) -> Result<(), Trouble<'a>>
     ensures within { IfOk result (λ _. IsWithin most (length plan.now.entries)) }
     ensures small { length plan.now.entries < 2 ^ 32 }
     ensures beyond { IfErr result (λ trouble.
@@ -106,7 +106,7 @@ fn within<'a>(plan: &PackedPlan, most: Option<u64>) -> Result<(), Trouble<'a>>
 }
 
 /// Refuses a plan that has an entry which the hart's address registers do not reach.
-fn check_reach<'a>(plan: &PackedPlan, xlen: Xlen, file: &'a str) -> Result<(), Trouble<'a>>
+fn check_reach<'a>(plan: &Plan<PackedEntry>, xlen: Xlen, file: &'a str) -> Result<(), Trouble<'a>>
     ensures reached { IfOk result (λ _. AreReached xlen plan.now.entries) }
     ensures beyond { IfErr result (λ trouble. (AreReached xlen plan.now.entries → ⊥)
         × (trouble ≡ Trouble.TooFar file.entry)) }
@@ -124,7 +124,7 @@ pub fn planned_near<'a>(
     map: &PermissionMap,
     xlen: Xlen,
     most: Option<u64>,
-) -> Result<PackedPlan, Trouble<'a>>
+) -> Result<Plan<PackedEntry>, Trouble<'a>>
     ensures planned { IfOk result (λ plan. IsPlanned (view_of_runs map.now) most plan.entries) }
     ensures reached { IfOk result (λ plan. AreReached xlen plan.entries) }
     ensures small { IfOk result (λ plan. length plan.entries < 2 ^ 32) }
@@ -142,7 +142,7 @@ pub fn planned_near<'a>(
 #[inline(never)]
 fn put_certificate<'a, M, C: CertificateSink<M>>(
     map: &PermissionMap,
-    plan: &PackedPlan,
+    plan: &Plan<PackedEntry>,
     limit: Limit,
     file: &'a str,
     sink: &mut C,
@@ -174,7 +174,7 @@ pub fn plan_and_certify<'a, M, C: CertificateSink<M>>(
     most: Option<u64>,
     cert: Option<&'a str>,
     sink: &mut C,
-) -> Result<PackedPlan, Trouble<'a>>
+) -> Result<Plan<PackedEntry>, Trouble<'a>>
     ensures planned { IfOk result (λ plan. IsPlanned (view_of_runs map.now) most plan.entries) }
     ensures reached { IfOk result (λ plan. AreReached xlen plan.entries) }
     ensures small { IfOk result (λ plan. length plan.entries < 2 ^ 32) }

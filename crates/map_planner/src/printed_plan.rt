@@ -7,9 +7,9 @@ ghost use Rattle.map_text.specs.MapFile.{FaultAt, IsUnknown, MakesFirst, MakesTo
 ghost use Rattle.map_planner.specs.PrintedPlan.{BreaksOff, HasFault, IsPlanOf, IsRead, IsTooLarge, NeedsMore, PrintsPlan};
 
 use byte_streams::{DeviceFault, Sink, Source, SourceFault};
-use entry_planner::{PackedPlan, plan_map};
+use entry_planner::{Plan, plan_map};
 use map_text::{MAP_BYTES, MapFileFault, map_of};
-use pmp_encoding::{Limit, Xlen};
+use pmp_encoding::{Limit, PackedEntry, Xlen};
 use printed_lines::print_plan;
 use program_files::read_whole;
 use std::alloc::Global;
@@ -30,7 +30,7 @@ pub enum PlanFault {
 }
 
 /// The plan of the map that the bytes of a map file make, where it has at most sixteen entries.
-fn plan_of(alloc: Global, bytes: &[u8]) -> Result<PackedPlan, PlanFault>
+fn plan_of(alloc: Global, bytes: &[u8]) -> Result<Plan<PackedEntry>, PlanFault>
     requires { length bytes.now < 2 ^ 64 - 1 }
     ensures plan { IfOk result (λ plan. IsPlanOf bytes.now plan.entries) }
     ensures line { (n : ℕ) → result ≡ Err (PlanFault.Map (MapFileFault.Line n))

@@ -29,4 +29,4 @@ mod registers;
 #[cfg(test)]
 mod trees;
 
-pub use laws::{boot_row, worked_rows};
+pub use laws::{boot_row, checked_plan, worked_rows};

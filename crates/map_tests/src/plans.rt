@@ -1,7 +1,7 @@
 //! Maps, and the fewest entries that mean them.
 
 use crate::certificates::{by_map, by_tree};
-use entry_planner::{PackedPlan, Plan, plan, plan_map};
+use entry_planner::{Plan, plan, plan_map};
 use permission_map::PermissionMap;
 use pmp_encoding::{Bank, Limit, PackedEntry, Perm};
 use prefix_tree::build;
@@ -44,7 +44,7 @@ fn are_written(entries: &[PackedEntry], pairs: &[Pair]) -> bool {
 }
 
 /// Whether two plans have the same entries, in the same order.
-fn have_same_entries(one: &Plan, other: &PackedPlan) -> bool {
+fn have_same_entries(one: &Plan, other: &Plan<PackedEntry>) -> bool {
     for (entry, same) in one.entries().iter().zip(other.entries()) {
         if *entry != same.entry() {
             return false;
@@ -54,7 +54,7 @@ fn have_same_entries(one: &Plan, other: &PackedPlan) -> bool {
 }
 
 /// Whether two plans have the same costs of all split blocks under all permissions.
-fn have_same_costs(one: &Plan, other: &PackedPlan) -> bool {
+fn have_same_costs(one: &Plan, other: &Plan<PackedEntry>) -> bool {
     if one.branches() != other.branches() {
         return false;
     }
@@ -82,7 +82,7 @@ fn have_costs(plan: &Plan, wanted: &[[u32; 6]]) -> bool {
 }
 
 /// Whether a plan without a tree is that of the map's tree, with the same entries and costs.
-fn is_of_tree(rt: &impl Abort, alloc: Global, map: &PermissionMap, of_map: &PackedPlan) -> bool {
+fn is_of_tree(rt: &impl Abort, alloc: Global, map: &PermissionMap, of_map: &Plan<PackedEntry>) -> bool {
     let tree = build(alloc, map).expect(rt, "memory");
     let plan = plan(alloc, &tree).expect(rt, "memory");
     plan.branches() == tree.branches()

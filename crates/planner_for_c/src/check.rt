@@ -18,24 +18,7 @@ use std::alloc::Global;
 fn code_of(refusal: CheckRefusal) -> i64
     ensures { result ≡ certificate_code refusal }
 {
-    match refusal {
-        CheckRefusal::BadMagic => -101,
-        CheckRefusal::BadVersion => -102,
-        CheckRefusal::Truncated => -103,
-        CheckRefusal::BadTag => -104,
-        CheckRefusal::BadPerm => -105,
-        CheckRefusal::BadEntry => -106,
-        CheckRefusal::SubPageEntry => -107,
-        CheckRefusal::TooDeep => -108,
-        CheckRefusal::LeafNotUniform => -109,
-        CheckRefusal::WrongLeaf => -110,
-        CheckRefusal::CostTooHigh => -111,
-        CheckRefusal::CostOverflow => -112,
-        CheckRefusal::EntriesTooMany => -113,
-        CheckRefusal::WrongMeaning => -114,
-        CheckRefusal::Trailing => -115,
-        CheckRefusal::BadLimit => -116,
-    }
+    -100 - i64::from(refusal.number())
 }
 
 /// The number that says a verdict.

@@ -11,11 +11,12 @@ ghost use Rattle.planner_for_c.specs.Plans.{IsNumberOf, IsPlanOf, IsPlanned};
 
 use crate::registers::Registers;
 use crate::settings::{NoMap, Setting, map_of};
-use entry_planner::{PackedPlan, plan_map};
+use entry_planner::{Plan, plan_map};
+use pmp_encoding::PackedEntry;
 use std::alloc::Global;
 
 /// The plan of the map that the settings make.
-fn plan_of(alloc: Global, settings: &[Setting]) -> Result<PackedPlan, NoMap>
+fn plan_of(alloc: Global, settings: &[Setting]) -> Result<Plan<PackedEntry>, NoMap>
     ensures plan { IfOk result (λ plan. IsPlanOf settings.now plan.entries) }
     ensures fault { (i : ℕ) (fault : SettingFault) → result ≡ Err (NoMap.Setting i fault)
         → FaultIn [] settings.now i fault }
