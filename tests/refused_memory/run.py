@@ -6,8 +6,9 @@
 Each command below is run once with all it needs, and then for K = 1, 2, .. until a run meets no refusal, with the K-th
   allocation refused: it prints what the ample run prints, or it stops with 'out of memory' and status 4 after a beginning of
     that, or it leaves out the hints alone; of `run` the first answer that is another may be -109, and where each call is asked
-    for twice, the second is then answered as the first of the ample run, and all behind it as there; a comment may leave out
-    how many entries a view needs;
+    for twice, the second is then answered as the first of the ample run, and all behind it as there; where accesses stand
+    before and behind each call, those behind one that was refused are answered as those before it (world, entries in use,
+    owners and bytes are as they were); a comment may leave out how many entries a view needs;
   read failed: the same, or 'cannot read' and status 3 after a beginning, with its hint where hints are told, or without the
     hints alone;
   write failed: the same, or 'cannot write' and status 3 after a beginning that is not all (where standard error itself fails,
@@ -42,6 +43,26 @@ MOST = 100_000
 CALL = "ecall 0x08454E43"
 PLATFORM = "[monitor]\nbase = 0x80000000\nsize = 0x200000\n[[ram]]\nbase = 0x80000000\nsize = 0x8000000\n"
 ASKED_TWICE = ["0 0x80200000 1 1 0x80300000 1 0", "0 0x80204000 2 0 0 0 0", "1 1", "0 0x80208000 7 0 0 0 0", "1 2", "1 1"]
+DEVICE = '[[device]]\nbase = 0x10000000\nsize = 0x1000\nperm = "rw"\n'
+
+
+def watched(stores, calls, probes):
+    """A trace of some stores, and of each call twice, with the same accesses before the first, between the two and behind the second."""
+    seen = "".join(f"{it}\n" for it in probes)
+    return "".join(f"{it}\n" for it in stores) + "".join(f"{seen}{CALL} {it}\n{seen}{CALL} {it}\n{seen}" for it in calls)
+
+
+# The accesses and the interrupt tell owners, bytes, the world and the entries in use: of one enclave's page, of enclaves without gaps
+# of which every second goes, and of an enclave's life.
+STORE = ["store s 8 0x80200000 0x1122334455667788"]
+PAGE = ["load s 8 0x80200000", "fetch s 4 0x80200000", "load u 1 0x80201fff", "irq"]
+GAPS = ["load s 8 0x80200000", "store s 8 0x80220000 1", "load s 8 0x80218000", "load s 8 0x8021f000", "irq"]
+EACH = [f"0 {0x80200000 + place * 4096} 1 0 0 0 0" for place in range(32)]
+WATCHED = {
+    "page.trace": (watched(STORE, ["0 0x80200000 1 0 0 0 0", "1 1"], PAGE), len(PAGE)),
+    "gaps.trace": (watched(STORE, EACH + [f"1 {2 * place + 1}" for place in range(13)], GAPS), len(GAPS)),
+    "lives.trace": (watched(STORE, ["0 0x80200000 1 0 0 0 0", "2 1", "4 1", "5 7", "0 0x80201000 1 0 0 0 0", "1 1", "1 2"], PAGE), len(PAGE)),
+}
 FILES = {
     "map.txt": "0x80000000 0x8000000 rwx\n0x80000000 0x200000 none\n0x10000000 0x1000 rw\n",
     "wrong.txt": "0x80000000 0x1000 rwx\n0x80001000 0x800 rwx\n",
@@ -66,6 +87,8 @@ FILES = {
     f"@0 store s 8 0x80400000 7\n@1 {CALL} 3\n@0 {CALL} 4 1\n@0 {CALL} 5 7\n@1 {CALL} 1 1\nfoo\n",
     "few.trace": f"{CALL} 0 0x804AB000 170 342 0x81000000 11 0\n",
     "twice.trace": "".join(f"{CALL} {it}\n{CALL} {it}\n" for it in ASKED_TWICE),
+    "example.toml": PLATFORM + DEVICE,
+    **{name: trace for name, (trace, _) in WATCHED.items()},
 }
 
 COMMANDS = """
@@ -272,6 +295,19 @@ class Tried:
         got, ample = self.got.out.split(b"\n"), self.ample.out.split(b"\n")
         return got[n].split(b" ")[1:] == ample[n - 1].split(b" ")[1:] and got[n + 1 :] == ample[n + 1 :]
 
+    def refused_unchanged(self):
+        """As above, where the same accesses stand around each call: those behind a refused one are answered as those before it."""
+        if self.stopped_for_memory():
+            return True
+        if not self.refused_for_memory():
+            return False
+        n, probes = self.first_refused(), WATCHED[self.words[-1]][1]
+        got, ample = ([it.split(b" ")[1:] for it in run.out.split(b"\n")] for run in (self.got, self.ample))
+        again = n + probes
+        # (a call that is refused in the ample run too changes nothing when it is asked again)
+        served = got[n:] == ample[n:] or (got[again] == ample[n - 1] and got[again + 1 :] == ample[again + 1 :])
+        return served and got[n - 1 - probes : n - 1] == got[n:again]
+
     def stopped_for_read(self):
         if self.lacks_hints():
             return True
@@ -366,9 +402,9 @@ class Tried:
         self.note(self.same(), "one byte a write")
         return self
 
-    def once(self):
+    def once(self, for_memory):
         if self.begun():
-            self.sweep("memory", self.refused_once)
+            self.sweep("memory", for_memory)
         return self
 
 
@@ -429,7 +465,10 @@ def main():
         tried = lambda words: Tried(words, program, work)
         runs = [tried(it) for it in RUNS.strip().split("\n")]
         # those that take longest come first
-        begun = [pool.submit(tried(TWICE).once), pool.submit(Booted(folder).all)]
+        around = [tried(f"run example.toml {it}") for it in WATCHED]
+        twice = tried(TWICE)
+        begun = [pool.submit(it.once, it.refused_unchanged) for it in around]
+        begun += [pool.submit(twice.once, twice.refused_once), pool.submit(Booted(folder).all)]
         begun += [pool.submit(it.all, it.refused_for_memory) for it in runs]
         few = tried(FEW)
         begun += [pool.submit(few.all, few.refused_or_unnumbered)]

@@ -1,2 +1,3 @@
 pub mod Booted
 pub mod BootNeeds
+pub mod Accepted

@@ -270,6 +270,16 @@ fn one_page_more_needs_one_entry_more(rt: HostRuntime) {
 }
 
 #[test]
+fn thirteen_scattered_pages_fill_both_configuration_words(rt: HostRuntime) {
+    let map = host_beside_scattered_pages(&rt, rt.alloc(), 13);
+    let plan = plan_map(rt.alloc(), &map).expect(&rt, "memory");
+    assert!(rt; plan.needed() == 16);
+    let bank = Bank::of_packed(plan.entries(), Limit::Sixteen);
+    assert!(rt; bank.cfg0() == 0x1818_1818_1818_181B);
+    assert!(rt; bank.cfg2() == 0x1F18_1818_1818_1818);
+}
+
+#[test]
 fn the_lower_half_costs_one_under_either_permission(rt: HostRuntime) {
     const RANGES: &[Range] = &[(0, 1 << 43, Perm::ReadWriteExecute)];
     costs(&rt, rt.alloc(), RANGES, &[[1, 2, 2, 2, 2, 1]]);
