@@ -1,5 +1,5 @@
 -- The banks stay right where each event loads entries on its own hart alone.
-use Rattle.std.proofs.Common.{◌≡◌, ◌≢◌, ◌∙◌, ℕ, ◌<◌, ◌==◌, false, Bool, List, [], if◌then◌else◌, Option, refl, ap, sym, subst}
+use Rattle.std.proofs.Common.{◌≢◌, ◌∙◌, ℕ, ◌<◌, ◌==◌, false, Bool, List, [], if◌then◌else◌, Option, refl, ap, sym, subst}
 use Rattle.std.proofs.lemmas.Bool.{eq-eqb, eqb-true, ne_eqb, both_ways}
 use Rattle.pmp_encoding.specs.declared.bank.Bank.{Bank}
 use Rattle.platforms.specs.Platform.{PlatformLayout, IsLayout}
