@@ -2,10 +2,8 @@
 use Rattle.std.proofs.Common.{◌≡◌, ◌≢◌, ◌∙◌, ℕ, ◌==◌, Bool, true, false, List, [], ◌∷◌, Option, Some, slice_get, slice_set, refl, ap, sym, subst}
 use Rattle.std.specs.Prelude.{option_map}
 use Rattle.std.proofs.lemmas.Bool.{eqb-true, eq-eqb, both_ways}
-use Rattle.pmp_encoding.specs.declared.limit.Limit.{Limit}
 use Rattle.pmp_encoding.specs.declared.bank.Bank.{Bank}
 use Rattle.pmp_encoding.specs.Banks.{IsBankOf}
-use Rattle.pmp_encoding.specs.Limits.{limit_number}
 use Rattle.sbi_decode.specs.Registers.{RegisterFile, with_x}
 use Rattle.sbi_decode.specs.Runners.{Runner, EnclaveOf, HostOf, runner_of}
 use Rattle.sbi_decode.specs.declared.world.World.{World}
@@ -33,7 +31,7 @@ use Rattle.monitor_core.proofs.Cores.{core_alone, core_current}
 use Rattle.monitor_core.proofs.Cases.{both}
 use Rattle.monitor_core.proofs.Equal.{equal}
 use Rattle.hart_sim.specs.declared.parts.MachineParts.{MachineParts}
-use Rattle.hart_sim.specs.Banks.{IsOwnBank, LoadsFewest}
+use Rattle.hart_sim.specs.Banks.{LoadsFewest}
 use Rattle.hart_sim.specs.Changes.{call_places, with_words}
 use Rattle.hart_sim.specs.Follows.{Follows, Loads}
 use Rattle.hart_sim.specs.Parts.{AreHarts, FitTogether, IsHart, bank_at, bank_in, core_in, registers_in}
@@ -136,12 +134,12 @@ put_there_is old hart h now file fit at is =
     subst (λ x. PutThere old (slice_set old.harts hart x) hart file) (sym is) (record {
       fit = now_fit;
       state = equal (record {
-          table = refl;
-          worlds = λ i. refl;
-          registers = put_running old.harts (worlds_of old.core) limit old.contexts hart h file fit now_fit (core_alone old.core) at
-              (put_here old.harts hart h new at);
-          marked = λ i. refl;
-        });
+        table = refl;
+        worlds = λ i. refl;
+        registers = put_running old.harts (worlds_of old.core) limit old.contexts hart h file fit now_fit (core_alone old.core) at
+            (put_here old.harts hart h new at);
+        marked = λ i. refl;
+      });
       banks = λ i. same_banks old.harts hart i h new at refl;
     })
 

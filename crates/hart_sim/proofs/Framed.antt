@@ -1,5 +1,5 @@
 -- What parts of an event keep, one after another.
-use Rattle.std.proofs.Common.{◌≡◌, ◌≢◌, ◌⊎◌, ◌∙◌, inl, inr, ℕ, ◌<◌, false, Bool, true, Option, Some, refl, ap, ap₂, sym, subst, arith}
+use Rattle.std.proofs.Common.{◌≡◌, ◌≢◌, ◌∙◌, inl, inr, ℕ, ◌<◌, false, Bool, true, Option, Some, refl, ap, ap₂, sym, subst, arith}
 use Rattle.std.specs.Prelude.{option_map}
 use Rattle.std.proofs.lemmas.Bool.{both_ways}
 use Rattle.pmp_encoding.specs.Banks.{IsBankOf}
@@ -65,11 +65,11 @@ frame_after old mid new hart same stood kept awake x y = record {
       | inl own ↦ inl (own_stays (state_in mid) (state_in new) (kept_of mid.core) (kept_of new.core) (bank_in mid) (bank_in new) hart
           still.world (y.lists still.table) still.bank own)
       | inr none ↦ inr (record {
-          awake = none.awake;
-          table = still.table ∙ none.table;
-          world = still.world ∙ none.world;
-          bank = still.bank ∙ none.bank;
-        })
+        awake = none.awake;
+        table = still.table ∙ none.table;
+        world = still.world ∙ none.world;
+        bank = still.bank ∙ none.bank;
+      })
     ]
   ];
   lists = λ table. y.lists (table ∙ sym same) ∙ kept;

@@ -1,18 +1,17 @@
 -- The registers of the hosts and enclaves, on the harts and saved.
 use Rattle.std.proofs.Common.{◌≡◌, ◌≢◌, ◌∙◌, ℕ, zero, suc, Bool, true, false, ◌==◌, if◌then◌else◌, List, [], ◌∷◌, Option, None, Some, slice_get, slice_set}
-use Rattle.std.proofs.Common.{length, refl, ap, ap₂, sym, subst, arith}
-use Rattle.std.specs.Prelude.{◌⊎◌, unwrap_or}
+use Rattle.std.proofs.Common.{refl, ap, ap₂, sym, subst, arith}
+use Rattle.std.specs.Prelude.{unwrap_or}
 use Rattle.std.proofs.lemmas.Bool.{eqb-true, eq-eqb, both_ways, false_from_ne_true}
 use Rattle.std.proofs.lemmas.Option.{same_Some}
 use Rattle.pmp_encoding.specs.declared.limit.Limit.{Limit}
-use Rattle.sbi_decode.specs.Registers.{RegisterFile, zeros}
+use Rattle.sbi_decode.specs.Registers.{RegisterFile}
 use Rattle.sbi_decode.specs.Runners.{Runner, HostOf, EnclaveOf, runner_of}
 use Rattle.sbi_decode.specs.declared.world.World.{World}
 use Rattle.sbi_decode.specs.declared.world.World.TheVariants.{Host, Enclave as InEnclave}
 use Rattle.context_switch.specs.declared.contexts.Contexts.{Contexts}
 use Rattle.context_switch.specs.declared.hart.Hart.{Hart}
-use Rattle.context_switch.specs.Contexts.{saved_of}
-use Rattle.context_switch.specs.Harts.{number_of, world_of, registers_of, with_registers}
+use Rattle.context_switch.specs.Harts.{number_of, world_of, registers_of}
 use Rattle.monitor_core.specs.Changes.{is_same}
 use Rattle.monitor_core.proofs.Cases.{both}
 use Rattle.monitor_core.proofs.Put.{same_self}

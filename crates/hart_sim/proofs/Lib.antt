@@ -21,6 +21,7 @@ mod SoundTables
 mod Switched
 mod Promises
 mod Headlined
+mod StaysRight
 mod GoneOn
 mod AnsweredLines
 pub mod Bytes

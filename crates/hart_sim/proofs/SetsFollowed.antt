@@ -4,7 +4,7 @@ use Rattle.std.proofs.Common.{refl, ap, ap₂, sym}
 use Rattle.std.specs.Prelude.{unwrap_or}
 use Rattle.std.proofs.lemmas.Bool.{both_ways}
 use Rattle.pmp_encoding.specs.declared.limit.Limit.{Limit}
-use Rattle.sbi_decode.specs.Registers.{RegisterFile, with_x, zeros}
+use Rattle.sbi_decode.specs.Registers.{RegisterFile, zeros}
 use Rattle.sbi_decode.specs.Runners.{Runner, runner_of}
 use Rattle.sbi_decode.specs.declared.world.World.{World}
 use Rattle.context_switch.specs.declared.contexts.Contexts.{Contexts}
@@ -12,16 +12,16 @@ use Rattle.context_switch.specs.declared.hart.Hart.{Hart}
 use Rattle.context_switch.specs.Contexts.{saved_of}
 use Rattle.context_switch.specs.Harts.{number_of, world_of, registers_of, with_registers}
 use Rattle.context_switch.specs.Switch.{Switches}
-use Rattle.monitor_core.specs.Changes.{is_same, past_call}
-use Rattle.monitor_core.specs.SetChanges.{change, changed, changed_by, later, owner_of}
+use Rattle.monitor_core.specs.Changes.{is_same}
+use Rattle.monitor_core.specs.SetChanges.{change, changed, changed_by, owner_of}
 use Rattle.monitor_core.specs.declared.set_changes.ChangeKind.{ChangeKind}
 use Rattle.monitor_core.specs.declared.set_changes.ChangeKind.TheVariants as kinds
 use Rattle.monitor_core.specs.declared.set_changes.SetChange.{SetChange}
 use Rattle.monitor_core.specs.declared.set_changes.SetChanges.{SetChanges}
 use Rattle.monitor_core.proofs.Cases.{both}
-use Rattle.monitor_core.proofs.Put.{same_not, same_self}
+use Rattle.monitor_core.proofs.Put.{same_self}
 use Rattle.hart_sim.specs.Parts.{AreHarts, registers_in}
-use Rattle.hart_sim.proofs.HartSets.{IsAlone, free, others, others_at, others_put, parted, runner_is, running_are, runs, same_is}
+use Rattle.hart_sim.proofs.HartSets.{IsAlone, free, others, others_at, others_put, parted, runner_is, runs, same_is}
 
 -- a value where a test holds, and where it does not
 yes_is : {A : Type 0} (t : Bool) (x y : A) → t ≡ true → (if t then x else y) ≡ x
@@ -60,10 +60,10 @@ change_alike : (hart : ℕ) (x : SetChange) (sets those : Runner → RegisterFil
 change_alike hart x sets those who same =
     let owner = owner_of hart x.enclave in
     by_owner hart x sets who ∙ both (is_same who owner)
-        (λ yes.
-        let is = same_is who owner yes in
-        yes_is (is_same who owner) _ _ yes ∙ ap (turned hart x) (ap sets (sym is) ∙ same ∙ ap those is) ∙ sym (yes_is (is_same who owner) _ _ yes))
-        (λ no. no_is (is_same who owner) _ _ no ∙ same ∙ sym (no_is (is_same who owner) _ _ no))
+    (λ yes.
+    let is = same_is who owner yes in
+    yes_is (is_same who owner) _ _ yes ∙ ap (turned hart x) (ap sets (sym is) ∙ same ∙ ap those is) ∙ sym (yes_is (is_same who owner) _ _ yes))
+    (λ no. no_is (is_same who owner) _ _ no ∙ same ∙ sym (no_is (is_same who owner) _ _ no))
     ∙ sym (by_owner hart x those who)
 
 pub changed_alike : (hart : ℕ) (changes : SetChanges) (sets those : Runner → RegisterFile) (who : Runner) → sets who ≡ those who
@@ -84,10 +84,10 @@ change_here hart now contexts x own is who =
     let saved = registers_in [] contexts who in
     let own_set : sets owner ≡ registers_of hart = yes_is (is_same owner runner) _ _ (ap (λ r. is_same r runner) own ∙ same_self runner) in
     ap (λ h. registers_in (h ∷ []) contexts who) is ∙ both (is_same who runner)
-        (λ yes. yes_is (is_same who runner) file saved yes ∙ ap (turned n x) (sym own_set)
-        ∙ sym (yes_is (is_same who owner) _ _ (ap (is_same who) own ∙ yes)))
-        (λ no. no_is (is_same who runner) file saved no ∙ sym (no_is (is_same who runner) (registers_of hart) saved no)
-        ∙ sym (no_is (is_same who owner) _ _ (ap (is_same who) own ∙ no)))
+    (λ yes. yes_is (is_same who runner) file saved yes ∙ ap (turned n x) (sym own_set)
+    ∙ sym (yes_is (is_same who owner) _ _ (ap (is_same who) own ∙ yes)))
+    (λ no. no_is (is_same who runner) file saved no ∙ sym (no_is (is_same who runner) (registers_of hart) saved no)
+    ∙ sym (no_is (is_same who owner) _ _ (ap (is_same who) own ∙ no)))
     ∙ sym (by_owner n x sets who)
 
 -- a change of a set that is saved
@@ -104,13 +104,13 @@ change_saved hart before after x file apart was now stay who =
     let sets = registers_in (hart ∷ []) before in
     let own_set : sets owner ≡ file = no_is (is_same owner runner) _ _ apart ∙ ap (λ o. unwrap_or o zeros) was in
     both (is_same who owner)
-        (λ yes.
-        let is = same_is who owner yes in
-        no_is (is_same who runner) _ _ (ap (λ w. is_same w runner) is ∙ apart) ∙ ap (λ w. unwrap_or (saved_of after w) zeros) is
-        ∙ ap (λ o. unwrap_or o zeros) now ∙ ap (turned n x) (sym own_set) ∙ sym (yes_is (is_same who owner) _ _ yes))
-        (λ no.
-        let other : who ≢ owner = λ same. both_ways (is_same who owner) no (ap (is_same who) (sym same) ∙ same_self who) in
-        ap (λ o. if is_same who runner then registers_of hart else unwrap_or o zeros) (stay who other) ∙ sym (no_is (is_same who owner) _ _ no))
+    (λ yes.
+    let is = same_is who owner yes in
+    no_is (is_same who runner) _ _ (ap (λ w. is_same w runner) is ∙ apart) ∙ ap (λ w. unwrap_or (saved_of after w) zeros) is
+    ∙ ap (λ o. unwrap_or o zeros) now ∙ ap (turned n x) (sym own_set) ∙ sym (yes_is (is_same who owner) _ _ yes))
+    (λ no.
+    let other : who ≢ owner = λ same. both_ways (is_same who owner) no (ap (is_same who) (sym same) ∙ same_self who) in
+    ap (λ o. if is_same who runner then registers_of hart else unwrap_or o zeros) (stay who other) ∙ sym (no_is (is_same who owner) _ _ no))
     ∙ sym (by_owner n x sets who)
 
 -- a switch to another world leaves every register set
@@ -122,13 +122,13 @@ switched_sets old new before after to s who =
     let kept = unwrap_or (saved_of after who) zeros in
     let goes : saved_of after runner ≡ Some (registers_of new) = ap (saved_of after) (ap₂ runner_of s.number s.world) ∙ s.loaded in
     both (is_same who runner)
-        (λ yes. yes_is (is_same who runner) (registers_of new) kept yes ∙ sym (ap (λ o. unwrap_or o zeros) (ap (saved_of after) (same_is who runner yes) ∙ goes)))
-        (λ no. no_is (is_same who runner) (registers_of new) kept no)
+    (λ yes. yes_is (is_same who runner) (registers_of new) kept yes ∙ sym (ap (λ o. unwrap_or o zeros) (ap (saved_of after) (same_is who runner yes) ∙ goes)))
+    (λ no. no_is (is_same who runner) (registers_of new) kept no)
     ∙ both (is_same who left)
-        (λ yes. ap (λ o. unwrap_or o zeros) (ap (saved_of after) (same_is who left yes) ∙ s.saved) ∙ sym (yes_is (is_same who left) _ _ yes))
-        (λ no.
-        ap (λ o. unwrap_or o zeros) (s.others who (λ same. both_ways (is_same who left) no (ap (is_same who) (sym same) ∙ same_self who)))
-        ∙ sym (no_is (is_same who left) _ _ no))
+    (λ yes. ap (λ o. unwrap_or o zeros) (ap (saved_of after) (same_is who left yes) ∙ s.saved) ∙ sym (yes_is (is_same who left) _ _ yes))
+    (λ no.
+    ap (λ o. unwrap_or o zeros) (s.others who (λ same. both_ways (is_same who left) no (ap (is_same who) (sym same) ∙ same_self who)))
+    ∙ sym (no_is (is_same who left) _ _ no))
 
 -- registers that are put on a hart are those of the world that runs there
 pub put_running : (harts : List Hart) (worlds : ℕ → World) (limit : Limit) (contexts : Contexts) (n : ℕ) (hart : Hart) (file : RegisterFile)
@@ -145,10 +145,10 @@ put_running harts worlds limit contexts n hart file are now alone at there who =
     let before = parted harts worlds limit contexts n hart who are alone at in
     let named : is_same who (runner_of n (worlds n)) ≡ runs hart who = ap (is_same who) (sym (runner_is hart n (worlds n) limit (are.each n hart at))) in
     after ∙ both (runs hart who)
-        (λ yes. ap (λ p. unwrap_or p (registers_in (new ∷ []) contexts who)) (free harts worlds limit n hart who are alone at yes)
-        ∙ yes_is (runs hart who) file saved yes ∙ sym (yes_is (is_same who (runner_of n (worlds n))) _ _ (named ∙ yes)))
-        (λ no. ap (unwrap_or o) (no_is (runs hart who) file saved no ∙ sym (no_is (runs hart who) (registers_of hart) saved no)) ∙ sym before
-        ∙ sym (no_is (is_same who (runner_of n (worlds n))) _ _ (named ∙ no)))
+    (λ yes. ap (λ p. unwrap_or p (registers_in (new ∷ []) contexts who)) (free harts worlds limit n hart who are alone at yes)
+    ∙ yes_is (runs hart who) file saved yes ∙ sym (yes_is (is_same who (runner_of n (worlds n))) _ _ (named ∙ yes)))
+    (λ no. ap (unwrap_or o) (no_is (runs hart who) file saved no ∙ sym (no_is (runs hart who) (registers_of hart) saved no)) ∙ sym before
+    ∙ sym (no_is (is_same who (runner_of n (worlds n))) _ _ (named ∙ no)))
 
 -- the sets of all harts after the changes on one, where the changes leave what runs on the others
 pub sets_followed : (was now : List Hart) (worlds after : ℕ → World) (limit : Limit) (before then_ : Contexts) (n : ℕ) (h k : Hart) (changes : SetChanges)
@@ -164,8 +164,10 @@ sets_followed was now worlds after limit before then_ n h k changes are are_now 
     new : registers_in now then_ who ≡ unwrap_or (others was n who) (registers_in (k ∷ []) then_ who)
     new = parted now after limit then_ n k who are_now alone_now there
         ∙ ap (λ o. unwrap_or o (registers_in (k ∷ []) then_ who)) (ap (λ hs. others hs n who) put ∙ others_put was n k who)
+
     old : registers_in was before who ≡ unwrap_or (others was n who) (registers_in (h ∷ []) before who)
     old = parted was worlds limit before n h who are alone at
+
     by_other : (o : Option RegisterFile) → others was n who ≡ o
         → unwrap_or (others was n who) (registers_in (k ∷ []) then_ who) ≡ changed n changes (registers_in was before) who
     by_other None is = ap (λ o. unwrap_or o (registers_in (k ∷ []) then_ who)) is ∙ here who

@@ -1,16 +1,16 @@
 //! Calls to the monitor and interrupts: what the monitor makes of them, done in memory and in the hart's bank.
 
+ghost use Rattle.std.specs.Prelude.{◌≡◌, ◌+◌, ◌^◌, ◌≤◌, IfSome};
+ghost use Rattle.monitor_core.specs.States.{MonitorState};
+ghost use Rattle.hart_sim.specs.Changes.{zeroing};
+ghost use Rattle.hart_sim.specs.Parts.{shown};
+
 use crate::Memory;
 use crate::hart_registers::{follow, put_call};
 use crate::parts::MachineParts;
 use arrayvec::ArrayVec;
 use hart_trace::Reply;
 use monitor_core::{Answer, MeasuresPages, PageRange, SetChanges};
-
-ghost use Rattle.std.specs.Prelude.{◌≡◌, ◌+◌, ◌^◌, ◌≤◌, IfSome};
-ghost use Rattle.monitor_core.specs.States.{MonitorState};
-ghost use Rattle.hart_sim.specs.Changes.{zeroing};
-ghost use Rattle.hart_sim.specs.Parts.{shown};
 
 /// Zeroes pages, if any.
 fn zero(memory: &mut Memory, pages: Option<PageRange>)

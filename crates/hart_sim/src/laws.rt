@@ -1,6 +1,7 @@
 //! Laws of the machine: the headline, and what else holds of every run.
 
-ghost use Rattle.std.specs.Prelude.{◌≡◌, ℕ, List};
+ghost use Rattle.std.specs.Prelude.{◌≡◌, ℕ, List, Option};
+ghost use Rattle.pmp_encoding.specs.declared.bank.Bank.{Bank};
 ghost use Rattle.enclave_table.specs.Tables.{IsTable};
 ghost use Rattle.hart_trace.specs.declared.event.Event.{Event};
 ghost use Rattle.hart_trace.specs.declared.reply.Reply.{Reply};
@@ -10,11 +11,27 @@ ghost use Rattle.hart_sim.specs.After.{After};
 ghost use Rattle.hart_sim.specs.States.{MachineState};
 ghost use Rattle.hart_sim.specs.Steps.{Step};
 ghost use Rattle.hart_sim.specs.Headline.{Headline};
+ghost use Rattle.hart_sim.specs.Loaded.{Loaded, StaysRight};
+ghost use Rattle.hart_sim.specs.Machines.{bank_on, state_of};
 ghost use Rattle.hart_sim.specs.Privacy.{IsPrivate, KeepsPrivate};
 ghost use Rattle.hart_sim.specs.Promises.{Promises};
 ghost use Rattle.hart_sim.specs.Reports.{IsReported};
 ghost use Rattle.hart_sim.specs.Wants.{CreatesByNeed, DestroysByNeed};
 ghost use Rattle.hart_sim.specs.Worlds.{RunsKeepWorlds};
+
+/// What the headline says of loaded entries, without the machine: where each event is a step of the small machine that
+/// leaves the right entries on its own hart and changes no other bank, the entries are right on every hart that is not
+/// marked. Boot makes such a machine, and each step keeps it one.
+pub fn loaded_law()
+    ensures small { (platform : PlatformLayout) (events : List (ℕ × Event))
+        (replies : List Reply) (s : MachineState) (banks : ℕ → Option Bank)
+        → Loaded platform events replies s banks
+        → StaysRight platform events replies s banks }
+    ensures machine { (platform : PlatformLayout) (events : List (ℕ × Event))
+        (replies : List Reply) (machine : Machine)
+        → After platform events replies machine
+        → Loaded platform events replies (state_of machine) (bank_on machine) }
+{}
 
 /// The headline: what holds of a machine after boot and any list of events. The replies are a run of the small machine,
 /// on each hart that is not marked the loaded list means the view of its world and none that does so is shorter, each

@@ -44,8 +44,8 @@ mod trace_run;
 pub use byte_streams::{Counted, DeviceFault, Sink, Source, fakes};
 pub use hart_trace::{Event, Reply, parse_line, push_reply};
 pub use laws::{
-    creation_law, destruction_law, headline_law, platform_law, privacy_law, private_bytes_law,
-    report_law, step_law, worlds_law,
+    creation_law, destruction_law, headline_law, loaded_law, platform_law, privacy_law,
+    private_bytes_law, report_law, step_law, worlds_law,
 };
 pub use machine::Machine;
 pub use memory::Memory;

@@ -1,7 +1,7 @@
 use Rattle.std.proofs.Common.{◌≡◌, ◌∙◌, Some, ap, sym}
 use Rattle.sbi_decode.specs.Runners.{runner_of}
 use Rattle.context_switch.specs.Contexts.{saved_of}
-use Rattle.context_switch.specs.Harts.{number_of, registers_of, with_registers, world_of}
+use Rattle.context_switch.specs.Harts.{number_of, with_registers, world_of}
 use Rattle.monitor_core.specs.Changes.{is_same}
 use Rattle.monitor_core.specs.SetChanges.{change, owner_of}
 use Rattle.hart_sim.proofs.HartSets.{same_is}

@@ -30,12 +30,12 @@ returns-then-load c =
       number = s.switches.number ∙ number;
       limited = ap limit_number (limit ∙ ap (λ b. b.limit) stood) ∙ c.requires.limited;
       loaded = λ on. record {
-          world = s.switches.world ∙ c.world.ensures.value ∙ ap (worlds_of core) place;
-          list = subst (HasList (bank_of now)) list s.list;
-          exact = subst (λ l. IsBankOf (bank_of now) l (list_of (kept_of core) (worlds_of core (number_of was)))) (sym limit)
-              (subst (IsBankOf (bank_of now) (bank_of c.change-3.new.here).limit) list s.bank);
-          fewest = subst (λ n. IsFewest (current_view (kept_of core).table (worlds_of core n)) (list_of (kept_of core) (worlds_of core (number_of was)))) place
-              (subst (IsFewest (current_view (kept_of core).table (worlds_of core c.number-number.result))) list c.entries.ensures.fewest);
-        };
+        world = s.switches.world ∙ c.world.ensures.value ∙ ap (worlds_of core) place;
+        list = subst (HasList (bank_of now)) list s.list;
+        exact = subst (λ l. IsBankOf (bank_of now) l (list_of (kept_of core) (worlds_of core (number_of was)))) (sym limit)
+            (subst (IsBankOf (bank_of now) (bank_of c.change-3.new.here).limit) list s.bank);
+        fewest = subst (λ n. IsFewest (current_view (kept_of core).table (worlds_of core n)) (list_of (kept_of core) (worlds_of core (number_of was)))) place
+            (subst (IsFewest (current_view (kept_of core).table (worlds_of core c.number-number.result))) list c.entries.ensures.fewest);
+      };
       stays = λ off. absurd (let on = sym c.if-load.true ∙ off in cc);
     }

@@ -6,7 +6,7 @@ use Rattle.pmp_encoding.specs.declared.limit.Limit.{Limit}
 use Rattle.pmp_encoding.specs.Banks.{HasList, IsBankOf}
 use Rattle.pmp_encoding.specs.Limits.{limit_number}
 use Rattle.sbi_decode.specs.Registers.{RegisterFile, zeros}
-use Rattle.sbi_decode.specs.Runners.{Runner, runner_of}
+use Rattle.sbi_decode.specs.Runners.{runner_of}
 use Rattle.context_switch.specs.Contexts.{saved_of}
 use Rattle.context_switch.specs.Harts.{bank_of, number_of, world_of}
 use Rattle.context_switch.specs.declared.hart.Hart.{Hart}
@@ -14,7 +14,7 @@ use Rattle.monitor_core.specs.Changes.{is_same}
 use Rattle.monitor_core.specs.Cores.{kept_of, worlds_of}
 use Rattle.enclave_table.specs.Views.{current_view}
 use Rattle.hart_sim.specs.Banks.{LoadsFewest}
-use Rattle.hart_sim.specs.Parts.{IsHart, bank_at}
+use Rattle.hart_sim.specs.Parts.{IsHart}
 use Rattle.hart_sim.proofs.parts.MachineParts.boot.Goals as goal
 
 -- what holds of each of four harts

@@ -1,10 +1,6 @@
-use Rattle.std.proofs.Common.{◌≡◌, ◌∙◌, ap, refl, slice_set, subst, sym, arith}
+use Rattle.std.proofs.Common.{◌∙◌, ap, refl, slice_set, sym, arith}
 use Rattle.pmp_encoding.specs.Limits.{limit_number}
-use Rattle.context_switch.specs.Harts.{bank_of}
-use Rattle.monitor_core.specs.Cores.{kept_of, state_of, worlds_of}
-use Rattle.monitor_core.specs.SetChanges.{changed}
-use Rattle.monitor_core.specs.Steps.{Interrupts}
-use Rattle.monitor_core.proofs.Switched.{interrupt_keeps_registers}
+use Rattle.monitor_core.specs.Cores.{state_of}
 use Rattle.hart_sim.specs.Parts.{registers_in}
 use Rattle.hart_sim.proofs.BankPlaces.{read_at}
 use Rattle.hart_sim.proofs.Followed.{interrupt_followed}

@@ -1,4 +1,4 @@
-use Rattle.std.proofs.Common.{◌≡◌, ◌∙◌, Some, ap, refl, arith}
+use Rattle.std.proofs.Common.{◌∙◌, Some, ap, refl, arith}
 use Rattle.pmp_encoding.specs.Limits.{limit_number}
 use Rattle.monitor_core.specs.Cores.{kept_of, state_of, worlds_of}
 use Rattle.monitor_core.proofs.Said.{same_sets}

@@ -1,4 +1,4 @@
-use Rattle.std.proofs.Common.{◌≡◌, ◌∙◌, ◌+◌, ◌^◌, ◌≤◌, Option, None, Some, slice_set, ap, sym, arith}
+use Rattle.std.proofs.Common.{◌∙◌, ◌+◌, ◌^◌, ◌≤◌, Option, None, Some, slice_set, ap, sym, arith}
 use Rattle.std.specs.Prelude.{IfSome}
 use Rattle.pmp_encoding.specs.Limits.{limit_number}
 use Rattle.pmp_encoding.specs.declared.pages.PageRange.{PageRange}
@@ -10,7 +10,7 @@ use Rattle.sbi_decode.specs.Calls.{call_of}
 use Rattle.monitor_core.specs.States.{running_registers}
 use Rattle.hart_sim.specs.Changes.{call_places, with_words}
 use Rattle.hart_sim.specs.Memory.{byte_at, measured_in}
-use Rattle.hart_sim.specs.Parts.{core_in, registers_in, state_in}
+use Rattle.hart_sim.specs.Parts.{core_in, registers_in}
 use Rattle.hart_sim.proofs.BankPlaces.{read_at}
 use Rattle.hart_sim.proofs.Followed.{call_followed, running_in, words_put}
 use Rattle.hart_sim.proofs.Framed.{frame_served}

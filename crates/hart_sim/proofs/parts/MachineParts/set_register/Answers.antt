@@ -1,12 +1,7 @@
-use Rattle.std.proofs.Common.{◌∙◌, refl, ap, sym, arith, slice_index_or, slice_set}
-use Rattle.sbi_decode.specs.Registers.{with_x}
-use Rattle.context_switch.specs.Harts.{with_registers}
-use Rattle.context_switch.specs.declared.hart.Hart.{Hart}
-use Rattle.monitor_core.specs.States.{running_registers}
-use Rattle.hart_sim.specs.declared.parts.MachineParts.{MachineParts}
-use Rattle.hart_sim.specs.Parts.{core_in, shown}
+use Rattle.std.proofs.Common.{refl, ap, arith, slice_set}
+use Rattle.hart_sim.specs.Parts.{shown}
 use Rattle.hart_sim.proofs.BankPlaces.{read_at}
-use Rattle.hart_sim.proofs.Followed.{PutThere, register_put}
+use Rattle.hart_sim.proofs.Followed.{register_put}
 use Rattle.hart_sim.proofs.Framed.{frame_still}
 use Rattle.hart_sim.proofs.parts.MachineParts.set_register.Goals as goal
 

@@ -70,8 +70,7 @@ returns-clause-frame c =
     frame_woken old new hart (sym c.is_marked.ensures ∙ c.if-not-is_marked.false) fit (ap (λ kept. kept.table) c.wake.ensures.kept)
     (λ i. ap (λ s. s.worlds i) woken)
     (λ i other. ap (λ s. s.marked i) woken ∙ ap (λ (b : Bool). if b then false else marks_of old.core i) (ne_eqb i hart other))
-    c.wake.ensures.kept (λ i other. bank_there old.harts hart i k other)
-    (
+    c.wake.ensures.kept (λ i other. bank_there old.harts hart i k other) (
       bank_of k,
       bank_here old.harts hart _ k at,
       record {
@@ -80,8 +79,7 @@ returns-clause-frame c =
         fewest = c.entries.ensures.fewest;
         exact = exact;
       },
-    )
-    (
+    ) (
       bank_of k,
       bank_here old.harts hart _ k at,
       subst (λ l. IsBankOf (bank_of k) (bank_of k).limit l)
