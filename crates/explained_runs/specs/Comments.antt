@@ -3,7 +3,7 @@
 use Rattle.std.specs.Prelude.{◌≡◌, ℕ, ◌+◌, ◌-◌, ◌^◌, ◌==◌, if◌then◌else◌, List, [], ◌++◌, Option}
 use Rattle.std.specs.Prelude.{Some, None, codes, decimal, min}
 use Rattle.pmp_match.specs.declared.access.Access.{Access}
-use Rattle.lint_texts.specs.Pieces.{address_text}
+use Rattle.text_lines.specs.Pieces.{address_text}
 use Rattle.sbi_decode.specs.declared.calls.Call.{Call}
 use Rattle.sbi_decode.specs.declared.calls.Call.TheVariants as calls
 use Rattle.sbi_decode.specs.declared.world.World.{World}

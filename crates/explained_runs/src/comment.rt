@@ -11,7 +11,7 @@ use crate::refusals::refusal_text;
 use arrayvec::ArrayVec;
 use enclave_table::Table;
 use hart_sim::Reply;
-use lint_texts::append;
+use text_lines::append;
 use pmp_match::{Access, Kind};
 use sbi_decode::{Call, World};
 use trace_answers::{Comment, push_address, push_number, push_reason};

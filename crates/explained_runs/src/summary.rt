@@ -15,7 +15,7 @@ use crate::tally::Tally;
 use arrayvec::ArrayVec;
 use byte_streams::{DeviceFault, Sink, write_whole};
 use hart_sim::Machine;
-use lint_texts::append;
+use text_lines::append;
 use trace_answers::push_number;
 
 /// Appends the line of a subject, where anything belongs to it.

@@ -6,7 +6,7 @@ ghost use Rattle.explained_runs.specs.Summaries.{event_name, function_name, kind
 
 use crate::groups::{Count, Subject};
 use arrayvec::ArrayVec;
-use lint_texts::append;
+use text_lines::append;
 use trace_answers::push_number;
 
 /// A text that is being written.

@@ -6,10 +6,9 @@ ghost use Rattle.register_text.specs.Texts.{foreign_bit_text, notes_text, passed
 use crate::listing::Listing;
 use crate::security_bits::foreign_bit;
 use arrayvec::ArrayVec;
-use lint_texts::append;
 use pmp_match::{Registers, Reserved, ReservedAt};
 use std::alloc::{AllocError, Global};
-use text_lines::{Line, push_decimal, push_hex, push_text};
+use text_lines::{Line, append, push_decimal, push_hex, push_text};
 
 fn reserved_name(value: Reserved) -> &'static str
     ensures value { result.now ≡ reserved_name value }

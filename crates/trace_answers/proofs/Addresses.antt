@@ -1,7 +1,7 @@
 -- An address that is appended in two pieces.
 use Rattle.std.proofs.Common.{ℕ, List, ◌≡◌, ◌∙◌, ◌++◌, ap, append_assoc, codes}
 use Rattle.text_lines.specs.Written.{hex}
-use Rattle.lint_texts.specs.Pieces.{address_text, without_zeros}
+use Rattle.text_lines.specs.Pieces.{address_text, without_zeros}
 
 pub address_put :
     (n : ℕ) (old mid new digits shown : List ℕ) → digits ≡ hex 16 n → shown ≡ without_zeros digits → mid ≡ old ++ codes "0x" → new ≡ mid ++ shown

@@ -5,7 +5,7 @@ use Rattle.std.specs.List.{prefix_len}
 use Rattle.text_lines.specs.Lines.{without_return}
 use Rattle.text_lines.specs.LineLoop.{Meaning, Does, DoesAll}
 use Rattle.text_lines.specs.Words.{is_allowed}
-use Rattle.lint_texts.specs.Lines.{unended}
+use Rattle.text_lines.specs.Lines.{unended}
 use Rattle.trace_answers.specs.Comments.{agrees, answer_agrees, comment_of}
 use Rattle.trace_answers.specs.Mistaken.{mistaken_text}
 

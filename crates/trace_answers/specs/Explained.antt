@@ -1,7 +1,7 @@
 -- An answer with a comment after it.
 use Rattle.std.specs.Prelude.{◌≡◌, ℕ, List, ◌++◌, take, Option, Some, None, codes}
 use Rattle.text_lines.specs.LineLoop.{Meaning}
-use Rattle.lint_texts.specs.Lines.{unended}
+use Rattle.text_lines.specs.Lines.{unended}
 
 -- an answer with a comment after it, and of the comment as much as a line of 128 bytes has room
 -- for

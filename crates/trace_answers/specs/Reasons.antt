@@ -4,7 +4,7 @@ use Rattle.std.specs.Prelude.{List, ◌++◌, Option, Some, None, codes, decimal
 use Rattle.pmp_encoding.specs.declared.extent.Extent.{Extent}
 use Rattle.pmp_match.specs.declared.access.Access.{Access}
 use Rattle.pmp_match.specs.Accesses.{IsAligned}
-use Rattle.lint_texts.specs.Pieces.{address_text}
+use Rattle.text_lines.specs.Pieces.{address_text}
 use Rattle.printed_lines.specs.Fields.{letters_of}
 use Rattle.hart_trace.specs.Answers.{access_on}
 use Rattle.trace_answers.specs.declared.deciders.Decider.{Decider}

@@ -2,12 +2,11 @@
 
 ghost use Rattle.std.specs.Prelude.{◌≡◌, ◌+◌, ◌≤◌, ◌++◌, decimal, length};
 ghost use Rattle.arrayvec.specs.ArrayVec.{array_vec_len};
-ghost use Rattle.lint_texts.specs.Pieces.{address_text};
+ghost use Rattle.text_lines.specs.Pieces.{address_text};
 
 use arrayvec::ArrayVec;
 use itoa::Buffer;
-use lint_texts::{append, without_zeros};
-use text_lines::{Line, push_hex};
+use text_lines::{Line, append, push_hex, without_zeros};
 
 /// A comment that is being written.
 pub type Comment = ArrayVec<u8, 256>;
@@ -23,7 +22,7 @@ pub fn push_number<const N: usize>(text: &mut ArrayVec<u8, N>, n: u64)
 }
 
 /// Appends a number as `0x1000`.
-#[tactic(auto, unfolding(lint_texts::specs::Pieces::address_text))]
+#[tactic(auto, unfolding(text_lines::specs::Pieces::address_text))]
 pub fn push_address(comment: &mut Comment, n: u64)
     requires { array_vec_len comment.old + 18 ≤ 256 }
     ensures items { comment.new.items ≡ comment.old.items ++ address_text n }

@@ -7,8 +7,7 @@ ghost use Rattle.trace_answers.specs.Comparisons.{difference_text, shown_comment
 use crate::comments::comment_of;
 use arrayvec::ArrayVec;
 use itoa::Buffer;
-use lint_texts::{allowed_len, append, unended};
-use text_lines::Line;
+use text_lines::{Line, allowed_len, append, unended};
 
 /// How many bytes of a comment are shown.
 const SHOWN: usize = 128;

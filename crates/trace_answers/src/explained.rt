@@ -5,8 +5,7 @@ ghost use Rattle.trace_answers.specs.Explained.{explained};
 
 use crate::comment::Comment;
 use arrayvec::ArrayVec;
-use lint_texts::{append, unended};
-use text_lines::{Line, push_decimal, push_text};
+use text_lines::{Line, append, push_decimal, push_text, unended};
 
 /// How many bytes of a line come before its LF at most.
 const ROOM: usize = 127;

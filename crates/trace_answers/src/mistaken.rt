@@ -6,8 +6,7 @@ ghost use Rattle.text_lines.specs.Words.{content_of, split_words};
 ghost use Rattle.trace_answers.specs.Mistaken.{is_kind_written, is_mistaken, is_opening, is_some_word, is_written, looks_like_answer, resembles_answer, written, written_words};
 
 use crate::comments::{is_numbered, is_spoken, remark_of, says_answer};
-use lint_texts::len_before;
-use text_lines::{Words, is_name};
+use text_lines::{Words, is_name, len_before};
 
 /// Whether a byte may occur in a word that looks like one of an answer.
 fn is_written(byte: u8) -> bool

@@ -8,7 +8,7 @@ ghost use Rattle.trace_answers.specs.Notes.{count_with, numbers_with};
 use crate::comment::push_number;
 use crate::mistaken::is_mistaken;
 use arrayvec::ArrayVec;
-use lint_texts::append;
+use text_lines::append;
 
 /// How many lines are named.
 const NAMED: usize = 8;
