@@ -5,7 +5,7 @@ use Rattle.permission_map.specs.declared.runs.Run.{Run}
 use Rattle.board_ranges.specs.Meaning.{Range}
 use Rattle.platforms.specs.Platform.{PlatformLayout}
 use Rattle.platforms.specs.declared.platform.PlatformFault.{PlatformFault}
-use Rattle.platform_file.specs.Document.{Builds, IsPlatformFile}
+use Rattle.input_files.specs.Document.{Builds, IsPlatformFile}
 use Rattle.board_texts.specs.Platforms.{IsRuleBroken, built, devices_of, harts_used, layout_of, ram_of}
 use Rattle.board_texts.specs.ReadBack.{IsTextOf}
 

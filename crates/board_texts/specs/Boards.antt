@@ -14,7 +14,7 @@ use Rattle.device_tree.specs.Refusals.{IsTreeFault}
 use Rattle.board_ranges.specs.declared.fault.BoardFault.{BoardFault}
 use Rattle.board_ranges.specs.Meaning.{Range, TreeSays}
 use Rattle.board_ranges.specs.Refusals.{IsBoardFaultIn}
-use Rattle.lint_texts.specs.Pieces.{address_text}
+use Rattle.text_lines.specs.Pieces.{address_text}
 use Rattle.device_tree.specs.declared.fault.TreeFault.{TreeFault}
 use Rattle.device_tree.specs.declared.fault.TreeReason.TheVariants as tree_reasons
 use Rattle.board_texts.specs.declared.fault.BoardTextFault.{BoardTextFault}

@@ -12,7 +12,7 @@ use Rattle.board_ranges.specs.declared.kinds.Kind.{Kind}
 use Rattle.board_ranges.specs.declared.kinds.Kind.TheVariants.{Memory, Device, Machine}
 use Rattle.board_ranges.specs.declared.kinds.Kind.TheVariants.{Reserved, Hart}
 use Rattle.board_ranges.specs.Meaning.{Range}
-use Rattle.lint_texts.specs.Pieces.{address_text}
+use Rattle.text_lines.specs.Pieces.{address_text}
 use Rattle.board_texts.specs.Pages.{pages_of}
 
 -- a byte of a name as it is shown: `?` where it is no visible ASCII

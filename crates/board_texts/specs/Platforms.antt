@@ -21,8 +21,8 @@ use Rattle.platforms.specs.declared.platform.PlatformFault.{PlatformFault}
 use Rattle.platforms.specs.declared.platform.PlatformFault.TheVariants.{BadHarts}
 use Rattle.platforms.specs.CheckLists.{FailsFirst}
 use Rattle.platforms.specs.Platform.{PlatformLayout, platform_rules}
-use Rattle.platform_file.specs.Document.{IsPlatformFile}
-use Rattle.lint_texts.specs.Pieces.{address_text}
+use Rattle.input_files.specs.Document.{IsPlatformFile}
+use Rattle.text_lines.specs.Pieces.{address_text}
 use Rattle.board_texts.specs.declared.fault.BoardTextFault.{BoardTextFault}
 use Rattle.board_texts.specs.declared.fault.BoardTextFault.TheVariants as faults
 use Rattle.board_texts.specs.Boards.{IsBoard, IsNoTree}

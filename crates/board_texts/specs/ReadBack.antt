@@ -4,7 +4,7 @@ use Rattle.std.specs.Str.{IsUtf8}
 use Rattle.toml.specs.Data.{Members}
 use Rattle.toml.specs.Parse.{parse_document}
 use Rattle.pmp_encoding.specs.declared.perm.Perm.{Perm}
-use Rattle.platform_file.specs.Document.{devices_at, has_only, known, monitor_at, number_or, ram_at}
+use Rattle.input_files.specs.Document.{devices_at, has_only, known, monitor_at, number_or, ram_at}
 
 -- no other keys than a platform's, this monitor, that many harts, and sixteen entries
 pub record HasNumbers (document : Members) (monitor : ℕ × ℕ) (harts : ℕ) : Type 0 where

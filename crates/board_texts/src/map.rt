@@ -17,7 +17,7 @@ use crate::read_back::makes;
 use crate::view::{NOWHERE, board_map};
 use board_ranges::{Found, ranges_of};
 use device_tree::{PlacedPiece, Reservation, read_tree};
-use lint_texts::{push, push_address};
+use text_lines::{push, push_address};
 use permission_map::{MapFault, PermissionMap, Run};
 use pmp_encoding::PAGE_SIZE;
 use std::alloc::{AllocError, Global};

@@ -11,7 +11,7 @@ ghost use Rattle.board_texts.specs.Monitors.{monitor_of};
 ghost use Rattle.board_texts.specs.Platforms.{IsBoardPlatform, IsBoardRefusal, IsMapRefusal, IsNoPlatform, IsPlatformOfTree, IsTreeRefusal, IsRuleBroken, board_platform_text, built, devices_of, harts_used, layout_of, pages_of_bytes, ram_of};
 ghost use Rattle.board_texts.specs.Views.{board_view};
 ghost use Rattle.pmp_encoding.specs.Views.{SameView};
-ghost use Rattle.platform_file.specs.Document.{Builds, IsPlatformFile};
+ghost use Rattle.input_files.specs.Document.{Builds, IsPlatformFile};
 ghost use Rattle.pmp_encoding.specs.declared.perm.Perm.TheVariants.{ReadWrite};
 
 use crate::comments::gives;

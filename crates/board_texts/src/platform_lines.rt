@@ -10,7 +10,7 @@ use crate::comments::{gives, push_comments, push_lefts, push_reservations};
 use crate::harts::{harts_of, harts_used};
 use board_ranges::{Found, Kind};
 use device_tree::Reservation;
-use lint_texts::{push, push_address, push_number};
+use text_lines::{push, push_address, push_number};
 use permission_map::{PermissionMap, Run};
 use pmp_encoding::PAGE_SIZE;
 use std::alloc::{AllocError, Global};

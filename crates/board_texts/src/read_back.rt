@@ -7,7 +7,7 @@ ghost use Rattle.board_texts.specs.ReadBack.{HasNumbers, HasRanges, IsTextOf};
 
 use map_text::{MapFileFault, map_of};
 use permission_map::{PermissionMap, Run};
-use platform_file::{TextFault, devices_at, monitor_at, number_or, ram_at, unknown_key};
+use input_files::{TextFault, devices_at, monitor_at, number_or, ram_at, unknown_key};
 use pmp_encoding::Perm;
 use std::alloc::Global;
 use toml::Table;

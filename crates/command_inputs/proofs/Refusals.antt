@@ -8,7 +8,7 @@ use Rattle.map_text.specs.declared.map_file.MapFileFault.TheVariants as maps
 use Rattle.map_text.specs.MapFile.{FaultAt, IsUnknown, Makes, MakesFirst, MakesTooMany}
 use Rattle.permission_map.specs.declared.runs.Run.{Run}
 use Rattle.platforms.specs.Platform.{PlatformLayout}
-use Rattle.platform_file.specs.Document.{IsPlatformFile}
+use Rattle.input_files.specs.Document.{IsPlatformFile}
 use Rattle.command_inputs.specs.declared.trouble.Trouble.{Trouble}
 use Rattle.command_inputs.specs.declared.trouble.Trouble.TheVariants.{NotAPlatform, Memory}
 use Rattle.byte_streams.specs.declared.fault.SourceFault.{SourceFault}

@@ -2,7 +2,7 @@
 use Rattle.std.specs.Prelude.{ℕ, ◌^◌, List}
 use Rattle.std.specs.Borrow.{Bor}
 use Rattle.platforms.specs.Platform.{PlatformLayout}
-use Rattle.platform_file.specs.Document.{IsPlatformFile}
+use Rattle.input_files.specs.Document.{IsPlatformFile}
 use Rattle.command_inputs.specs.declared.trouble.Trouble.{Trouble}
 use Rattle.command_inputs.specs.declared.trouble.Trouble.TheVariants.{NotAPlatform, Memory}
 use Rattle.command_inputs.specs.Inputs.{HasBytes, HasNoBytes, Reading}

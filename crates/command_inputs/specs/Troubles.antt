@@ -6,8 +6,8 @@ use Rattle.text_lines.specs.declared.fault.RunFault.{RunFault}
 use Rattle.text_lines.specs.declared.fault.RunFault.TheVariants as runs
 use Rattle.map_text.specs.declared.map_file.MapFileFault.{MapFileFault}
 use Rattle.map_text.specs.declared.map_file.MapFileFault.TheVariants as maps
-use Rattle.platform_file.specs.declared.fault.TextFault.{TextFault}
-use Rattle.platform_file.specs.declared.fault.TextFault.TheVariants as texts
+use Rattle.input_files.specs.declared.fault.TextFault.{TextFault}
+use Rattle.input_files.specs.declared.fault.TextFault.TheVariants as texts
 use Rattle.platforms.specs.declared.boot_fault.BootFault.{BootFault}
 use Rattle.platforms.specs.declared.boot_fault.BootFault.TheVariants as boots
 use Rattle.byte_streams.specs.declared.fault.SourceFault.{SourceFault}
@@ -15,8 +15,8 @@ use Rattle.byte_streams.specs.declared.fault.SourceFault.TheVariants as whole
 use Rattle.board_texts.specs.declared.fault.BoardTextFault.{BoardTextFault}
 use Rattle.board_texts.specs.Faults.{fault_text}
 use Rattle.command_inputs.specs.BoardFaults.{is_of_memory}
-use Rattle.lint_texts.specs.declared.lint_fault.LintFault.{LintFault}
-use Rattle.lint_texts.specs.declared.lint_fault.LintFault.TheVariants as lints
+use Rattle.input_files.specs.declared.lint_fault.LintFault.{LintFault}
+use Rattle.input_files.specs.declared.lint_fault.LintFault.TheVariants as lints
 use Rattle.command_inputs.specs.declared.trouble.Trouble.{Trouble}
 use Rattle.command_inputs.specs.declared.trouble.Trouble.TheVariants.{NotUnderstood, TooManyRanges}
 use Rattle.command_inputs.specs.declared.trouble.Trouble.TheVariants.{TooLarge, NotAPlatform}

@@ -2,14 +2,14 @@
 
 ghost use Rattle.std.specs.Prelude.{◌≡◌, ◌-◌, ◌^◌, ◌<◌, ◌⊎◌, IfErr, IfOk};
 ghost use Rattle.platforms.specs.Platform.{PlatformLayout};
-ghost use Rattle.platform_file.specs.Document.{IsPlatformFile};
+ghost use Rattle.input_files.specs.Document.{IsPlatformFile};
 ghost use Rattle.command_inputs.specs.Inputs.{reading};
 ghost use Rattle.command_inputs.specs.PlatformInputs.{HasNoPlatform, HasPlatform};
 
 use crate::Trouble;
 use crate::inputs::bytes_in;
 use byte_streams::Source;
-use platform_file::platform_of;
+use input_files::platform_of;
 use platforms::Platform;
 use std::alloc::Global;
 use std::str;

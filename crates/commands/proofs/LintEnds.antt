@@ -1,8 +1,8 @@
 -- How a lint ends that gives no answer.
 use Rattle.std.proofs.Common.{ℕ, ◌≡◌, Bool, List, Result, Err, refl}
 use Rattle.byte_streams.specs.Writings.{Breaks, IsUnwritten, Writing}
-use Rattle.lint_texts.specs.declared.lint_fault.LintFault.{LintFault}
-use Rattle.lint_texts.specs.declared.lint_fault.LintFault.TheVariants as faults
+use Rattle.input_files.specs.declared.lint_fault.LintFault.{LintFault}
+use Rattle.input_files.specs.declared.lint_fault.LintFault.TheVariants as faults
 use Rattle.command_inputs.specs.declared.trouble.Trouble.{Trouble}
 use Rattle.command_inputs.specs.Troubles.{lint_trouble}
 use Rattle.commands.specs.Lint as lints

@@ -6,9 +6,8 @@ use Rattle.std.specs.List.{ends_with}
 use Rattle.std.specs.Option.{is_some}
 use Rattle.std.specs.Borrow.{Bor}
 use Rattle.byte_streams.specs.Writings.{Breaks, IsUnwritten, TakesAll, Writing}
-use Rattle.file_lints.specs.PlatformLints.{IsPlatformLintText}
-use Rattle.map_lint.specs.Findings.{IsLintText}
-use Rattle.map_lint.specs.Lints.{IsVerdictOfLines}
+use Rattle.input_files.specs.Platforms.{IsPlatformVerdict}
+use Rattle.input_files.specs.Maps.{IsVerdictOfLines}
 use Rattle.pmp_encoding.specs.declared.xlen.Xlen.{Xlen}
 use Rattle.pmp_encoding.specs.declared.xlen.Xlen.TheVariants.{Rv32, Rv64}
 use Rattle.register_audit.specs.declared.listing.Listing.{Listing}
@@ -17,17 +16,15 @@ use Rattle.command_inputs.specs.declared.trouble.Trouble.{Trouble}
 use Rattle.command_inputs.specs.declared.trouble.Trouble.TheVariants.{Output, Memory}
 use Rattle.command_inputs.specs.Inputs.{Reading, HasBytes, HasNoBytes}
 use Rattle.command_inputs.specs.Statuses.{answer_status}
-use Rattle.command_inputs.specs.Shown.{shown, IsShown}
+use Rattle.command_inputs.specs.Shown.{shown}
 
 -- a file whose name ends in `.toml` should be a platform, and any other one a map
 abbrev pub names_platform : List ℕ → Bool
 names_platform name = ends_with (λ a b. a == b) name (codes ".toml")
 
--- what is written of the bytes of a file that should be a map, under its name as it is shown, and
--- whether they are one
+-- something is written of the bytes of a file that should be a map, and this is whether they are one
 abbrev pub IsMapLint : List ℕ → List ℕ → Bool → List ℕ → Type 0
 IsMapLint name bytes is_map text = IsVerdictOfLines bytes is_map
-    × ((named : List ℕ) × IsShown name named × IsLintText named bytes is_map text)
 
 -- the other width
 abbrev pub other_width : Xlen → Xlen
@@ -60,11 +57,9 @@ IsListingLint xlen name bytes true text = ((leaves : Listing) × (listed xlen by
 IsListingLint xlen name bytes false text = (n : ℕ) × IsFirstUnknown xlen bytes n
     × (text ≡ listing_fault xlen name (is_some (listed (other_width xlen) bytes)) n)
 
--- of a file that should be a platform, under its name as it is shown: warnings where it is one,
--- otherwise one line
+-- the same of a file that should be a platform
 abbrev pub IsPlatformLint : List ℕ → List ℕ → Bool → List ℕ → Type 0
-IsPlatformLint name bytes is text = (named : List ℕ) × IsShown name named
-    × IsPlatformLintText named bytes is text
+IsPlatformLint name bytes is text = IsPlatformVerdict bytes is
 
 -- what is written of the bytes of a file, by whether its name is that of a platform
 abbrev pub IsLint : Bool → List ℕ → List ℕ → Bool → List ℕ → Type 0

@@ -14,7 +14,6 @@ use Rattle.pmp_encoding.specs.declared.xlen.Xlen.{Xlen}
 use Rattle.pmp_encoding.specs.Widths.{AreReached}
 use Rattle.map_table.specs.Tables.{IsTable}
 use Rattle.map_table.specs.FormattedTables.{IsJsonTable, IsPicture}
-use Rattle.map_lint.specs.Costs.{IsCostText}
 use Rattle.register_audit.specs.Tables.{IsRegisterTable}
 use Rattle.register_audit.specs.RegisterListings.{IsFirstUnknown}
 use Rattle.program_tasks.specs.declared.options.TableFormat.{TableFormat}
@@ -30,7 +29,7 @@ use Rattle.command_inputs.specs.Statuses.{answer_status}
 abbrev pub IsText : Bool → List ℕ → View → List Entry → Limit → List ℕ → Type 0
 IsText false bytes view entries limit text = IsTable view entries limit text
 IsText true bytes view entries limit text = (table : List ℕ) × (said : List ℕ)
-    × IsTable view entries limit table × IsCostText bytes said × (text ≡ table ++ said)
+    × IsTable view entries limit table × (text ≡ table ++ said)
 
 -- the table of a map in a format
 abbrev pub IsShown : TableFormat → Bool → List ℕ → View → List Entry → Limit → List ℕ → Type 0

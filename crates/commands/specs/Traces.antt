@@ -6,12 +6,11 @@ use Rattle.byte_streams.specs.Writings.{IsUnwritten, Writing}
 use Rattle.platforms.specs.Platform.{PlatformLayout}
 use Rattle.command_inputs.specs.declared.trouble.Trouble.{Trouble}
 use Rattle.command_inputs.specs.Inputs.{HasBytes, HasNoBytes, IsUnread, Reading}
-use Rattle.command_inputs.specs.Shown.{IsShown}
 use Rattle.commands.specs.Lint.{Tells}
 use Rattle.command_inputs.specs.PlatformInputs.{HasNoPlatform, HasPlatform}
-use Rattle.file_lints.specs.declared.taker.Taker.{Taker}
-use Rattle.file_lints.specs.declared.taker.Taker.TheVariants.{Run}
-use Rattle.file_lints.specs.TraceLints.{IsLintText, is_trace}
+use Rattle.input_files.specs.declared.taker.Taker.{Taker}
+use Rattle.input_files.specs.declared.taker.Taker.TheVariants.{Run}
+use Rattle.input_files.specs.Traces.{is_trace}
 
 -- how many harts a trace is for: those of a platform where one is named, otherwise four
 abbrev pub HasHarts : {R : Type 0} → Option (Bor (List ℕ)) → Reading R → ℕ → Type 0
@@ -25,11 +24,10 @@ HasNoHarts None source trouble = ⊥
 HasNoHarts (Some file) source trouble = HasNoPlatform file source trouble
 
 -- what is written of the bytes of a file that should be a trace for `run` or `judge`, and whether
--- they are one: nothing where they are, and otherwise lines under its name as it is shown
+-- they are one: nothing where they are
 abbrev pub IsTraceLint : List ℕ → Taker → List ℕ → Bool → List ℕ → Type 0
 IsTraceLint name taker bytes true text = (is_trace taker bytes ≡ true) × (text ≡ [])
-IsTraceLint name taker bytes false text = (is_trace taker bytes ≡ false)
-    × ((named : List ℕ) × IsShown name named × IsLintText named taker bytes text)
+IsTraceLint name taker bytes false text = is_trace taker bytes ≡ false
 
 -- `lint --trace`: the platform is read where one is named, then the trace, and what is wrong with
 -- it is printed

@@ -5,7 +5,7 @@ ghost use Rattle.commands.specs.Answered.{noted, said};
 
 use arrayvec::ArrayVec;
 use command_inputs::Trouble;
-use lint_texts::append;
+use text_lines::append;
 use register_audit::ListingNotes;
 use trace_answers::CommentNote;
 

@@ -9,8 +9,7 @@ use byte_streams::{DeviceFault, Sink, Source, write_whole};
 use command_inputs::{
     MAP_BYTES, REGISTER_BYTES, ShownName, Trouble, answer_status, bytes_in, write_shown,
 };
-use file_lints::lint_platform;
-use map_lint::lint;
+use input_files::lint_platform;
 use pmp_encoding::Xlen;
 use register_audit::{is_listing, listing_of};
 use std::alloc::Global;
@@ -35,7 +34,7 @@ pub fn lint_map<W: Sink>(
         (writing W.contents W.failures W.stalls out.old out.new) result }
 {
     let name = ShownName::of(alloc, name)?;
-    let is_map = lint(alloc, name.text(), bytes, out)?;
+    let is_map = input_files::lint_map(alloc, name.text(), bytes, out)?;
     Ok(answer_status(is_map))
 }
 

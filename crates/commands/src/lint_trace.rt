@@ -8,7 +8,7 @@ ghost use Rattle.commands.specs.Traces.{HasHarts, HasNoHarts, IsTraceLint, Lints
 
 use byte_streams::{Sink, Source};
 use command_inputs::{ShownName, Trouble, answer_status, bytes_in, read_platform};
-use file_lints::{Taker, lint_trace};
+use input_files::{Taker, lint_trace};
 use std::alloc::Global;
 
 /// How many bytes a trace may have that is linted.

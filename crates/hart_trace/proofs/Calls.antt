@@ -1,9 +1,10 @@
 -- The words of a call, read one after another.
-use Rattle.std.proofs.Common.{ℕ, List, [], ◌∷◌, ◌++◌, ◌≡◌, ◌∙◌, ◌+◌, ◌≤◌, length, length-append, true, Option, None, Some, option_map, refl, ap, sym, nat_le}
+use Rattle.std.proofs.Common.{ℕ, List, [], ◌∷◌, ◌++◌, ◌≡◌, ◌∙◌, ◌+◌, ◌≤◌, length, length-append, true, suc, ◌<◌, ◌-◌, replicate, Option, None, Some, option_map, refl, ap, sym, nat_le}
 use Rattle.std.proofs.Common.{arith, append-nil, append_assoc}
 use Rattle.std.proofs.lemmas.Bool.{le-leb}
 use Rattle.hart_trace.specs.declared.event.Event.TheVariants as events
 use Rattle.text_lines.specs.Numbers.{number_of}
+use Rattle.hart_trace.specs.declared.fault.Slot.TheVariants.{Argument}
 use Rattle.hart_trace.specs.Events.{numbers_of, call_in}
 
 -- all words have been read
@@ -31,3 +32,7 @@ one_read word words all numbers more n is pushed told count = (
     behind (Some ns) e =
         let whole : numbers_of all ≡ Some (numbers ++ n ∷ ns) = sym told ∙ rw (is, e) refl in
         rw e (ap Some (ap (λ xs. xs ++ ns) pushed ∙ append_assoc numbers (n ∷ []) ns) ∙ sym whole)
+
+-- how many words a call may have more, as what is asked of them
+pub one_argument : (n : ℕ) → n < 8 → replicate (8 - n) Argument ≡ Argument ∷ replicate (8 - (n + 1)) Argument
+one_argument n less = let more : 8 - n ≡ suc (8 - (n + 1)) = omega (arith, less) in rw more refl

@@ -1,9 +1,10 @@
 mod PlainLines
 mod Keywords
 mod Calls
+mod EventWords
+mod ForJudge
 mod PlainEvents
 mod PlainFronts
-mod SpacedLines
 pub mod Judged
 mod OneDigit
 mod FaultTexts

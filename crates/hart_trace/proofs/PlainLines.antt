@@ -131,7 +131,7 @@ cut text behind rest digits mode size address st h e =
     (st.0, st.1, st.2, st.3 ∙ ap (λ xs. st.0 ∷ 32 ∷ st.1 ∷ 32 ∷ 48 ∷ st.2 ∷ xs) whole, st.4, st.5, st.6, st.7, st.8)
 
 -- no word names a hart where there is none
-no_hart : (word : List ℕ) → hart_of 0 word ≡ None
+pub no_hart : (word : List ℕ) → hart_of 0 word ≡ None
 no_hart [] = refl
 no_hart (at ∷ []) = refl
 no_hart (at ∷ digit ∷ []) = grind (arith, nat_tests, common_steps)

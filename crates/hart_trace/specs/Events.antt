@@ -10,6 +10,8 @@ use Rattle.pmp_match.specs.declared.access.Access.{Access}
 use Rattle.pmp_match.specs.Kinds.{has_size}
 use Rattle.hart_trace.specs.declared.event.Event.{Event}
 use Rattle.hart_trace.specs.declared.event.Event.TheVariants as events
+use Rattle.hart_trace.specs.declared.fault.EventKind.{EventKind}
+use Rattle.hart_trace.specs.declared.fault.EventKind.TheVariants as kinds
 use Rattle.text_lines.specs.Words.{words_of}
 use Rattle.text_lines.specs.Numbers.{numeral_of, number_of}
 
@@ -93,17 +95,30 @@ abbrev pub interrupt_of : List Word → Option Event
 interrupt_of [] = Some events.Irq
 interrupt_of (word ∷ words) = None
 
+-- the event that a word begins
+abbrev pub kind_of : Word → Option EventKind
+kind_of word =
+    if bytes_eq word (codes "fetch") then Some kinds.Fetch
+    else if bytes_eq word (codes "load") then Some kinds.Load
+    else if bytes_eq word (codes "store") then Some kinds.Store
+    else if bytes_eq word (codes "reg") then Some kinds.Reg
+    else if bytes_eq word (codes "ecall") then Some kinds.Ecall
+    else if bytes_eq word (codes "irq") then Some kinds.Irq
+    else None
+
+-- the event of this kind that the words after that one say
+abbrev pub event_by : EventKind → List Word → Option Event
+event_by kinds.Fetch words = access_of Fetch words >>= with_no_value
+event_by kinds.Load words = access_of Load words >>= with_no_value
+event_by kinds.Store words = access_of Store words >>= with_value
+event_by kinds.Reg words = setting_of words
+event_by kinds.Ecall words = call_in words
+event_by kinds.Irq words = interrupt_of words
+
 -- the event of a line's words, hart aside
 abbrev pub event_of : List Word → Option Event
 event_of [] = None
-event_of (keyword ∷ words) =
-    if bytes_eq keyword (codes "fetch") then access_of Fetch words >>= with_no_value
-    else if bytes_eq keyword (codes "load") then access_of Load words >>= with_no_value
-    else if bytes_eq keyword (codes "store") then access_of Store words >>= with_value
-    else if bytes_eq keyword (codes "reg") then setting_of words
-    else if bytes_eq keyword (codes "ecall") then call_in words
-    else if bytes_eq keyword (codes "irq") then interrupt_of words
-    else None
+event_of (keyword ∷ words) = kind_of keyword >>= (λ kind. event_by kind words)
 
 -- `@H`, H one digit below the number of harts
 abbrev pub hart_of : ℕ → Word → Option ℕ

@@ -4,11 +4,9 @@ ghost use Rattle.std.specs.Prelude.{◌≡◌, ℕ, ◌-◌, ◌≤◌, List, []
 ghost use Rattle.text_lines.specs.Lines.{BeginsLine};
 ghost use Rattle.hart_trace.specs.declared.event.Event.TheVariants as events;
 ghost use Rattle.hart_trace.specs.Events.{meaning_of};
-ghost use Rattle.hart_trace.specs.Plain.{BeginsEvent};
 
-use crate::event::Event;
 use crate::plain::{hart_in, plain_access};
-use crate::plain_events::{plain_call, plain_event, plain_interrupt, plain_setting};
+use crate::plain_events::{plain_call, plain_interrupt, plain_setting};
 use arrayvec::ArrayVec;
 use pmp_match::Access;
 
@@ -33,7 +31,7 @@ fn len_before(ahead: &[u8], behind: &[u8]) -> Option<usize>
 /// The access of the plain line that some bytes begin with: its hart of `harts`, the access, the value that a store writes, 0 else, and
 /// how many bytes the line has before its LF. None says nothing of the bytes.
 ///
-/// There is a function for each form of event, and none of them returns an [`Event`]: it has room for a call's eight words, which
+/// There is a function for each form of event, and none of them returns an `Event`: it has room for a call's eight words, which
 /// would be copied with each.
 #[inline(always)]
 pub fn access_ahead(ahead: &[u8], harts: u8) -> Option<(u8, Access, u64, usize)>
@@ -51,30 +49,6 @@ pub fn access_ahead(ahead: &[u8], harts: u8) -> Option<(u8, Access, u64, usize)>
     let (access, value, behind) = plain_access(rest)?;
     let len = len_before(front, behind)?;
     Some((hart, access, value, len))
-}
-
-/// The event of the plain line that a text begins with, which names no hart, and what follows it. None says nothing of the text.
-#[inline(always)]
-fn plain_front(text: &[u8]) -> Option<(Event, &[u8])>
-    ensures { IfSome result (λ found. BeginsEvent text.now found.0 found.1.now) }
-{
-    if let Some((access, value, behind)) = plain_access(text) {
-        return Some((Event::Access(access, value), behind));
-    }
-    plain_event(text)
-}
-
-/// The event of a plain line, which names no hart. None says nothing of the line.
-#[inline(always)]
-pub(crate) fn plain_line(line: &[u8]) -> Option<Event>
-    ensures { IfSome result (λ event.
-        (harts : ℕ) → meaning_of harts line.now ≡ Some (Some (0, event))) }
-{
-    let (event, behind) = plain_front(line)?;
-    if !behind.is_empty() {
-        return None;
-    }
-    Some(event)
 }
 
 /// The setting of a register by the plain line that some bytes begin with: its hart of `harts`, the register, the value, and how many

@@ -1,17 +1,16 @@
 //! The accesses of a trace, judged line by line.
 
 ghost use Rattle.std.specs.Prelude.{◌≡◌, ℕ, ◌+◌, ◌-◌, ◌^◌, ◌<◌, Some, Err, IfOk, IfSome};
-ghost use Rattle.std.specs.Result.{result_ok};
 ghost use Rattle.text_lines.specs.LineLoop.{CountsReads, CountsWrites, DoesAll, StopsAt, StopsReading, StopsTooLong, StopsWriting};
-ghost use Rattle.hart_trace.specs.Answers.{access_on, answered_by, is_no_access, judged_by};
+ghost use Rattle.hart_trace.specs.Answers.{answered_by, is_no_access, judged_by};
 
 use crate::access_judge::AccessJudge;
 use crate::answers::push_answer;
-use crate::{Event, access_ahead, is_wordless, parse_by_words, spaced_access};
+use crate::{access_ahead, read_access};
 use byte_streams::{Direct, LineSink, Sink, Source};
 use pmp_encoding::Bank;
 use pmp_match::{Access, Segments};
-use text_lines::{Interpreter, Line, LineRefusal, NotUnderstood, RunFault, interpret_lines};
+use text_lines::{Interpreter, Line, LineRefusal, RunFault, interpret_lines};
 
 /// The same access, field by field. As a whole it would be read in one piece while its fields, written just before, are on
 /// their way to memory, and the processor would wait for them.
@@ -24,24 +23,6 @@ fn taken_apart(access: Access) -> Access
         kind: access.kind,
         size: access.size,
         address: access.address,
-    }
-}
-
-/// The access of a line, and none where it has no words.
-#[inline(never)]
-fn access_in(line: &[u8]) -> Result<Option<Access>, NotUnderstood>
-    ensures { result_ok result ≡ access_on line.now }
-{
-    if let Some((access, _)) = spaced_access(line) {
-        return Ok(Some(access));
-    }
-    if is_wordless(line) {
-        return Ok(None);
-    }
-    match parse_by_words(line, 0) {
-        Ok(None) => Ok(None),
-        Ok(Some((_, Event::Access(access, _)))) => Ok(Some(access)),
-        _ => Err(NotUnderstood),
     }
 }
 
@@ -71,7 +52,7 @@ impl<J: AccessJudge> Interpreter for LineJudge<'_, J> {
         count: u64,
         answer: &mut Line,
     ) -> Result<bool, LineRefusal> {
-        let Ok(found) = access_in(line) else {
+        let Ok(found) = read_access(line) else {
             return Err(LineRefusal::NotUnderstood);
         };
         let Some(access) = found else {

@@ -8,7 +8,7 @@ ghost use Rattle.hart_trace.specs.declared.event.Event.TheVariants as events;
 ghost use Rattle.hart_trace.specs.Events.{hart_of, mode_of};
 ghost use Rattle.hart_trace.specs.Plain.{BeginsEvent, BeginsWith, Named, Starts, Tells, is_letter, keyword};
 
-use crate::trace::sized;
+use crate::event_words::sized;
 use pmp_match::{Access, Kind, Mode};
 use std::simd::prelude::*;
 use text_lines::leading_hexadecimal;

@@ -8,8 +8,7 @@ ghost use Rattle.hart_trace.specs.declared.event.Event.TheVariants as events;
 ghost use Rattle.hart_trace.specs.Events.{register_of};
 ghost use Rattle.hart_trace.specs.Plain.{BeginsCall, BeginsEvent, BeginsNumber, is_letter};
 
-use crate::event::Event;
-use crate::trace::has_leading_zero;
+use crate::event_words::has_leading_zero;
 use arrayvec::ArrayVec;
 use text_lines::{behind_mark, behind_space, leading_hexadecimal, leading_numeral};
 
@@ -169,26 +168,4 @@ pub(crate) fn plain_interrupt(text: &[u8]) -> Option<&[u8]>
     ensures { IfSome result (λ behind. BeginsEvent text.now events.Irq behind.now) }
 {
     behind_irq(text)
-}
-
-/// The event of the plain line that a text begins with, which is no access and names no hart, and what follows it. None says
-/// nothing of the text.
-pub(crate) fn plain_event(text: &[u8]) -> Option<(Event, &[u8])>
-    ensures { IfSome result (λ found. BeginsEvent text.now found.0 found.1.now) }
-{
-    match text {
-        [b'r', ..] => {
-            let (register, value, behind) = plain_setting(text)?;
-            Some((Event::Reg(register, value), behind))
-        }
-        [b'e', ..] => {
-            let mut words = ArrayVec::new();
-            let behind = plain_call(text, &mut words)?;
-            Some((Event::Ecall(words), behind))
-        }
-        _ => {
-            let behind = plain_interrupt(text)?;
-            Some((Event::Irq, behind))
-        }
-    }
 }

@@ -1,179 +1,26 @@
-//! The lines of a trace.
+//! The lines of a trace, read word by word: what each says, or which word is at fault and why.
 
-ghost use Rattle.std.specs.Prelude.{◌≡◌, ◌-◌, ◌<◌, Some, None, IfSome, false, refl, option_map, bytes_eq};
+ghost use Rattle.std.specs.Prelude.{◌≡◌, Some, IfErr, IfOk, IfSome, option_map};
 ghost use Rattle.std.specs.Result.{result_ok};
-ghost use Rattle.pmp_match.specs.Kinds.{has_size};
-ghost use Rattle.text_lines.specs.Words.{split_words};
-ghost use Rattle.hart_trace.specs.Events.{mode_of, sized, access_of, with_no_value, with_value, has_leading_zero, register_of, setting_of, call_in, interrupt_of, event_of, hart_of, on_hart, meaning_of};
+ghost use Rattle.text_lines.specs.Columns.{placed_words, words_in};
+ghost use Rattle.text_lines.specs.Words.{content_of};
+ghost use Rattle.hart_trace.specs.Answers.{access_on};
+ghost use Rattle.hart_trace.specs.Events.{hart_of, meaning_of, said_by};
+ghost use Rattle.hart_trace.specs.EventWords.{event_said, BeginsWith};
+ghost use Rattle.hart_trace.specs.Faults.{access_fault, access_of_event, begins_with_at, bytes_fault, judged, line_fault, run_fault, told, words_fault};
 
-use crate::ahead::plain_line;
 use crate::event::Event;
-use crate::plain::hart_in;
-use crate::spaced::{is_wordless, spaced_access};
-use arrayvec::ArrayVec;
-use pmp_match::{Access, Kind, Mode};
-use text_lines::{NotUnderstood, Words, is_text, number, numeral};
+use crate::event_words::{event_in, fault_at};
+use crate::fault::{LineFault, Reason};
+use pmp_match::Access;
+use text_lines::{
+    NotUnderstood, Placed, allowed_len, are_allowed, content_of, has_mark, next_word,
+};
 
-fn mode_of(word: &[u8]) -> Option<Mode>
-    ensures { result ≡ mode_of word.now }
-{
-    match word {
-        b"s" => Some(Mode::Supervisor),
-        b"u" => Some(Mode::User),
-        _ => None,
-    }
-}
+/// How many harts a line may speak of at most.
+const MOST_HARTS: u8 = 4;
 
-/// Which sizes up to 8 a fetch has.
-static FETCHES: [bool; 9] = [false, false, true, false, true, false, false, false, false];
-
-/// Which sizes up to 8 a load and a store have.
-static OTHERS: [bool; 9] = [false, true, true, false, true, false, false, false, true];
-
-/// Whether the kind has the size, without a branch on the size: it would be guessed wrong too often.
-#[inline(always)]
-fn has_size(kind: Kind, size: u64) -> bool
-    ensures { result ≡ has_size kind size }
-{
-    if size > 8 {
-        return false;
-    }
-    match kind {
-        Kind::Fetch => FETCHES[size as usize],
-        Kind::Load | Kind::Store => OTHERS[size as usize],
-    }
-}
-
-#[inline(always)]
-pub(crate) fn sized(mode: Mode, kind: Kind, size: u64, address: u64) -> Option<Access>
-    ensures { result ≡ sized mode kind size address (has_size kind size) refl }
-{
-    if !has_size(kind, size) {
-        return None;
-    }
-    Some(Access {
-        mode,
-        kind,
-        size: size as u8,
-        address,
-    })
-}
-
-fn access_of(kind: Kind, words: &mut Words<'_>) -> Option<Access>
-    ensures { option_map (λ access.
-        (access, split_words words.new.rest.now))
-        result ≡ access_of kind (split_words words.old.rest.now) }
-{
-    let mode = mode_of(words.next_word()?)?;
-    let size = number(words.next_word()?)?;
-    let address = number(words.next_word()?)?;
-    sized(mode, kind, size, address)
-}
-
-fn with_no_value(access: Access, mut words: Words<'_>) -> Option<Event>
-    ensures { result ≡ with_no_value (access, split_words words.entry.rest.now) }
-{
-    match words.next_word() {
-        None => Some(Event::Access(access, 0)),
-        Some(_) => None,
-    }
-}
-
-fn with_value(access: Access, mut words: Words<'_>) -> Option<Event>
-    ensures { result ≡ with_value (access, split_words words.entry.rest.now) }
-{
-    let value = number(words.next_word()?)?;
-    match words.next_word() {
-        None => Some(Event::Access(access, value)),
-        Some(_) => None,
-    }
-}
-
-pub(crate) fn has_leading_zero(digits: &[u8]) -> bool
-    ensures { result ≡ has_leading_zero digits.now }
-{
-    match digits {
-        [first, _, ..] => *first == b'0',
-        _ => false,
-    }
-}
-
-fn register_of(word: &[u8]) -> Option<u8>
-    ensures value { result ≡ register_of word.now }
-    ensures most { IfSome result (λ n. n < 32) }
-{
-    let [x, digits @ ..] = word else {
-        return None;
-    };
-    let n = numeral(digits, 10)?;
-    if *x == b'x' && !has_leading_zero(digits) && n < 32 {
-        Some(n as u8)
-    } else {
-        None
-    }
-}
-
-fn setting_of(mut words: Words<'_>) -> Option<Event>
-    ensures { result ≡ setting_of (split_words words.entry.rest.now) }
-{
-    let register = register_of(words.next_word()?)?;
-    let value = number(words.next_word()?)?;
-    match words.next_word() {
-        None => Some(Event::Reg(register, value)),
-        Some(_) => None,
-    }
-}
-
-fn call_of(mut words: Words<'_>) -> Option<Event>
-    ensures { result ≡ call_in (split_words words.entry.rest.now) }
-{
-    let mut numbers = ArrayVec::new();
-    while let Some(word) = words.next_word() {
-        let number = number(word)?;
-        if numbers.try_push(number).is_err() {
-            return None;
-        }
-    }
-    Some(Event::Ecall(numbers))
-}
-
-fn interrupt_of(mut words: Words<'_>) -> Option<Event>
-    ensures { result ≡ interrupt_of (split_words words.entry.rest.now) }
-{
-    match words.next_word() {
-        None => Some(Event::Irq),
-        Some(_) => None,
-    }
-}
-
-fn event_of(mut words: Words<'_>) -> Option<Event>
-    ensures { result ≡ event_of (split_words words.entry.rest.now) }
-{
-    let keyword = words.next_word()?;
-    if is_text(keyword, b"fetch") {
-        let access = access_of(Kind::Fetch, &mut words)?;
-        return with_no_value(access, words);
-    }
-    if is_text(keyword, b"load") {
-        let access = access_of(Kind::Load, &mut words)?;
-        return with_no_value(access, words);
-    }
-    if is_text(keyword, b"store") {
-        let access = access_of(Kind::Store, &mut words)?;
-        return with_value(access, words);
-    }
-    if is_text(keyword, b"reg") {
-        return setting_of(words);
-    }
-    if is_text(keyword, b"ecall") {
-        return call_of(words);
-    }
-    if is_text(keyword, b"irq") {
-        return interrupt_of(words);
-    }
-    None
-}
-
+/// The hart that a word names, of `harts`.
 fn hart_of(word: &[u8], harts: u8) -> Option<u8>
     ensures { result ≡ hart_of harts word.now }
 {
@@ -183,47 +30,152 @@ fn hart_of(word: &[u8], harts: u8) -> Option<u8>
     }
 }
 
-fn on_hart(hart: u8, words: Words<'_>) -> Result<Option<(u8, Event)>, NotUnderstood>
-    ensures { result_ok result ≡ option_map (λ event. Some (hart, event))
-        (event_of (split_words words.entry.rest.now)) }
+fn begins_with_at(word: &[u8]) -> bool
+    ensures { result ≡ begins_with_at word.now }
 {
-    match event_of(words) {
-        Some(event) => Ok(Some((hart, event))),
-        None => Err(NotUnderstood),
+    matches!(word, [b'@', ..])
+}
+
+/// What is wrong with a line that has a byte outside its comment that may not be there.
+#[cold]
+fn byte_fault(line: &[u8]) -> LineFault<'_>
+    ensures { told result ≡ bytes_fault line.now }
+{
+    if has_mark(line) {
+        return LineFault {
+            before: 0,
+            word: &[],
+            reason: Reason::ByteOrderMark,
+        };
+    }
+    let before = allowed_len(line);
+    LineFault {
+        before,
+        word: &line[before..],
+        reason: Reason::NoText,
     }
 }
 
-/// The event of a line, and the hart that it happens on, where there are `harts` of them. A line
-/// without words has none.
-#[inline(always)]
+/// What a line says that has words.
+#[derive(Drop)]
+struct Said<'a> {
+    /// Its first word.
+    first: Placed<'a>,
+    /// The hart that this word names, where it names one.
+    hart: Option<u8>,
+    /// What happens there, or on the first hart.
+    event: Event,
+}
+
+/// What the words of a line say.
+fn said_by<'a>(content: &'a [u8], harts: u8) -> Result<Option<Said<'a>>, LineFault<'a>>
+    ensures value { option_map (λ found. option_map event_said found) (result_ok result)
+        ≡ said_by harts (words_in (placed_words content.now)) }
+    ensures first { IfOk result (λ found.
+        IfSome found (BeginsWith harts (placed_words content.now))) }
+    ensures fault { IfErr result (λ fault.
+        words_fault harts (placed_words content.now) ≡ Some (told fault)) }
+{
+    let Some(first) = next_word(content, 0) else {
+        return Ok(None);
+    };
+    let hart = hart_of(first.word, harts);
+    if hart.is_none() {
+        if begins_with_at(first.word) {
+            return Err(fault_at(first, Reason::NoHart));
+        }
+        let event = event_in(content, first)?;
+        return Ok(Some(Said { first, hart, event }));
+    }
+    let Some(keyword) = next_word(content, first.end) else {
+        return Err(LineFault {
+            before: first.end,
+            word: &[],
+            reason: Reason::NoEvent,
+        });
+    };
+    let event = event_in(content, keyword)?;
+    Ok(Some(Said { first, hart, event }))
+}
+
+/// What a line says that comes without its LF and its CR.
+fn said_in<'a>(line: &'a [u8], harts: u8) -> Result<Option<Said<'a>>, LineFault<'a>>
+    ensures value { option_map (λ found. option_map event_said found) (result_ok result)
+        ≡ meaning_of harts line.now }
+    ensures first { IfOk result (λ found.
+        IfSome found (BeginsWith harts (placed_words (content_of line.now)))) }
+    ensures fault { IfErr result (λ fault. line_fault harts line.now ≡ Some (told fault)) }
+{
+    let content = content_of(line);
+    if !are_allowed(content) {
+        return Err(byte_fault(line));
+    }
+    said_by(content, harts)
+}
+
+/// The event of a line, and the hart that it happens on, where there are `harts` of them; otherwise what is wrong with the line. One
+/// without words has no event.
+pub fn read_line<'a>(line: &'a [u8], harts: u8) -> Result<Option<(u8, Event)>, LineFault<'a>>
+    ensures value { result_ok result ≡ meaning_of harts line.now }
+    ensures fault { IfErr result (λ fault. line_fault harts line.now ≡ Some (told fault)) }
+{
+    match said_in(line, harts)? {
+        None => Ok(None),
+        Some(said) => {
+            let Said {
+                first: _,
+                hart,
+                event,
+            } = said;
+            Ok(Some((hart.unwrap_or(0), event)))
+        }
+    }
+}
+
+/// The access of an event.
+fn access_of_event(event: Event) -> Option<Access>
+    ensures { result ≡ access_of_event event }
+{
+    match event {
+        Event::Access(access, _) => Some(access),
+        Event::Reg(..) | Event::Ecall(_) | Event::Irq => None,
+    }
+}
+
+/// The access that a line says for `judge`, or why it is for `run` alone.
+fn judged<'a>(said: Said<'a>) -> Result<Access, LineFault<'a>>
+    ensures value { result_ok result ≡ judged said.entry.hart said.entry.event }
+    ensures fault { IfErr result (λ fault. run_fault said.entry.hart
+        (said.entry.first.before, said.entry.first.word.now) said.entry.event ≡ Some (told fault)) }
+{
+    let Said { first, hart, event } = said;
+    if hart.is_some() {
+        return Err(fault_at(first, Reason::HartOfRun));
+    }
+    match access_of_event(event) {
+        Some(access) => Ok(access),
+        None => Err(fault_at(first, Reason::EventOfRun)),
+    }
+}
+
+/// The access of a line, which names no hart, or what is wrong with the line for `judge`. One without words has none.
+pub fn read_access<'a>(line: &'a [u8]) -> Result<Option<Access>, LineFault<'a>>
+    ensures value { result_ok result ≡ access_on line.now }
+    ensures fault { IfErr result (λ fault. access_fault line.now ≡ Some (told fault)) }
+{
+    let Some(said) = said_in(line, MOST_HARTS)? else {
+        return Ok(None);
+    };
+    let access = judged(said)?;
+    Ok(Some(access))
+}
+
+/// The event of a line, as [`read_line`] reads it.
 pub fn parse_line(line: &[u8], harts: u8) -> Result<Option<(u8, Event)>, NotUnderstood>
     ensures { result_ok result ≡ meaning_of harts line.now }
 {
-    let (hart, rest) = hart_in(line, harts);
-    if let Some(event) = plain_line(rest) {
-        return Ok(Some((hart, event)));
-    }
-    if let Some((access, value)) = spaced_access(line) {
-        return Ok(Some((0, Event::Access(access, value))));
-    }
-    if is_wordless(line) {
-        return Ok(None);
-    }
-    parse_by_words(line, harts)
-}
-
-/// The same as [`parse_line`], word by word in any case: for those who know that the line is not plain.
-#[inline(never)]
-pub fn parse_by_words(line: &[u8], harts: u8) -> Result<Option<(u8, Event)>, NotUnderstood>
-    ensures { result_ok result ≡ meaning_of harts line.now }
-{
-    let words = Words::of(line)?;
-    let mut behind = words;
-    let Some(first) = behind.next_word() else {
-        return Ok(None);
-    };
-    match hart_of(first, harts) {
-        Some(hart) => on_hart(hart, behind),
-        None => on_hart(0, words),
+    match read_line(line, harts) {
+        Ok(said) => Ok(said),
+        Err(_) => Err(NotUnderstood),
     }
 }

@@ -11,7 +11,7 @@ use Rattle.commands.specs.Lint.{Tells}
 use Rattle.command_inputs.specs.Statuses.{answer_status}
 use Rattle.commands.specs.Lint as lints
 use Rattle.monitor_cli.specs.Hints.{AreHints, AreRunHints, HasTaskHints, InOrder, PrintsHints, boot_hint, cut, hints_in, of_boot, of_second, told}
-use Rattle.platform_file.specs.Document.{IsPlatformFile}
+use Rattle.input_files.specs.Document.{IsPlatformFile}
 
 pub wrong : (IsText : Bool → List ℕ → Type 0) (status : ℕ) (is : Bool) (text : List ℕ) → status ≡ answer_status is → IsText is text → status ≢ 0
     → AreHints IsText (Some (hints_in text))

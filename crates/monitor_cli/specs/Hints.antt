@@ -18,11 +18,11 @@ use Rattle.program_tasks.specs.declared.options.Options.{Options}
 use Rattle.program_tasks.specs.declared.request.Request.{Request}
 use Rattle.program_tasks.specs.declared.task.Task.{Task}
 use Rattle.program_tasks.specs.declared.task.Task.TheVariants as tasks
-use Rattle.file_lints.specs.declared.taker.Taker.TheVariants as takers
+use Rattle.input_files.specs.declared.taker.Taker.TheVariants as takers
 use Rattle.commands.specs.CertifiedPlan.{AreNeeded}
 use Rattle.command_inputs.specs.Inputs.{HasBytes, IsUnread, Reading}
 use Rattle.commands.specs.Lint.{IsListingLint, IsMapLint, IsPlatformLint, names_platform}
-use Rattle.platform_file.specs.Document.{IsPlatformFile}
+use Rattle.input_files.specs.Document.{IsPlatformFile}
 use Rattle.board_texts.specs.Boards.{is_tree}
 use Rattle.monitor_cli.specs.declared.forms.Form.{Form}
 use Rattle.monitor_cli.specs.declared.forms.Form.TheVariants.{Map, Platform, Listing, Trace}

@@ -11,8 +11,8 @@ use crate::sizes::{FileKind, FileOrHint, bytes_or_hint};
 use byte_streams::{Counted, Sink, Source};
 use command_inputs::Trouble;
 use commands::{lint_as_platform, lint_as_trace, lint_listing, lint_map};
-use file_lints::Taker;
-use lint_texts::split_line;
+use input_files::Taker;
+use text_lines::split_line;
 use pmp_encoding::Xlen;
 use std::alloc::{AllocError, Global};
 

@@ -15,7 +15,7 @@ use board_texts::is_tree;
 use byte_streams::{Sink, Source, write_whole};
 use command_inputs::{Trouble, platform_in};
 use commands::{names_platform, needed_by};
-use file_lints::Taker;
+use input_files::Taker;
 use hart_sim::Machine;
 use platforms::{BootFault, Platform};
 use pmp_encoding::Xlen;

@@ -50,7 +50,7 @@ pub use hart_trace::judge_trace;
 pub use held_output::{close_output, perform_and_close};
 pub use hints::tell_hints;
 pub use on_files::{Lent, perform_on_files};
-pub use platform_file::{TextFault, platform_of};
+pub use input_files::{TextFault, platform_of};
 pub use printed_lines::digest_text;
 pub use program::{perform, perform_request};
 pub use program_tasks::{Options, Request, Task};

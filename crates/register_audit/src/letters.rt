@@ -3,9 +3,8 @@
 ghost use Rattle.std.specs.Prelude.{◌≡◌, option_map};
 ghost use Rattle.register_audit.specs.Letters.{are_letters, before_end, has_letter, is_letter, letters_of, perm_by, perm_of};
 
-use lint_texts::len_before;
 use pmp_encoding::Perm;
-use text_lines::{after_text, is_text};
+use text_lines::{after_text, is_text, len_before};
 
 /// What comes before a closing parenthesis at the end.
 fn before_end(text: &[u8]) -> Option<&[u8]>

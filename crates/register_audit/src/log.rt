@@ -9,9 +9,8 @@ ghost use Rattle.text_lines.specs.Lines.{raw_lines};
 use crate::listing::Left;
 use crate::log_says;
 use crate::setting::{Setting, nothing_set};
-use lint_texts::split_line;
 use pmp_encoding::Xlen;
-use text_lines::NotUnderstood;
+use text_lines::{NotUnderstood, split_line};
 
 /// What a line of a boot log sets after so many regions, where it is understood.
 fn log_sets(xlen: Xlen, next: u64, raw: &[u8]) -> Result<Setting, NotUnderstood>

@@ -17,3 +17,5 @@ mod WordLines
 mod Hexadecimals
 mod Digits
 mod DecimalPairs
+pub mod PlacedWords
+pub mod RawLines

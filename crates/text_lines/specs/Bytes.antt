@@ -1,6 +1,6 @@
 -- How a word of a line compares with a text.
-use Rattle.std.specs.Prelude.{ℕ, ◌&&◌, Bool, nat_le, if◌then◌else◌, List, length, take}
-use Rattle.std.specs.Prelude.{drop, Option, Some, None, bytes_eq}
+use Rattle.std.specs.Prelude.{ℕ, ◌==◌, ◌&&◌, Bool, false, nat_le, if◌then◌else◌, List, ◌∷◌, length}
+use Rattle.std.specs.Prelude.{take, drop, Option, Some, None, bytes_eq}
 use Rattle.std.specs.Str.{str_eq_ignore_ascii_case}
 
 -- what comes after a text that a word begins with
@@ -17,3 +17,8 @@ begins_with word name = nat_le (length name) (length word)
 -- what comes after a name that a word begins with, in upper or lower case
 abbrev pub after_name : List ℕ → List ℕ → Option (List ℕ)
 after_name word name = if begins_with word name then Some (drop (length name) word) else None
+
+-- the three bytes of a byte order mark at the front
+abbrev pub has_mark : List ℕ → Bool
+has_mark (first ∷ second ∷ third ∷ rest) = first == 239 && (second == 187 && third == 191)
+has_mark _ = false

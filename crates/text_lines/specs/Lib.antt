@@ -9,3 +9,5 @@ pub mod LineLoop
 pub mod WholeTexts
 pub mod Bytes
 pub mod Written
+pub mod Columns
+pub mod Pieces

@@ -2,7 +2,7 @@
 use Rattle.std.specs.Prelude.{◌≡◌, ◌⊎◌, ℕ, ◌-◌, ◌<◌, ◌≤◌, ◌==◌, Bool, true, not, List, [], ◌∷◌}
 use Rattle.std.specs.Prelude.{◌++◌, length, take, slice_index, if◌then◌else◌, Option, Result, Ok}
 use Rattle.std.specs.Prelude.{Err}
-use Rattle.std.specs.List.{list_all}
+use Rattle.std.specs.List.{before_first, list_all}
 use Rattle.std.specs.Io.KnownBytes.{Consumes, IsAtEnd}
 use Rattle.byte_streams.specs.Streams.{GrowsByOne}
 use Rattle.text_lines.specs.declared.fault.ReadFault.{ReadFault}
@@ -76,3 +76,7 @@ EndsInput (Err TooManyBytes) before after failures failed =
 EndsInput (Err Device) before after failures failed = Consumes before after []
     × GrowsByOne failures failed
 EndsInput (Err (LongLine n)) before after failures failed = ⊥
+
+-- a line without its LF: what comes before the first
+abbrev pub unended : List ℕ → List ℕ
+unended line = before_first (λ b. b == 10) line

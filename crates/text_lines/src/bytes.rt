@@ -2,7 +2,7 @@
 
 ghost use Rattle.std.specs.Prelude.{◌≡◌, bytes_eq, option_map};
 ghost use Rattle.std.specs.Str.{str_eq_ignore_ascii_case};
-ghost use Rattle.text_lines.specs.Bytes.{after_name, after_text, begins_with};
+ghost use Rattle.text_lines.specs.Bytes.{after_name, after_text, begins_with, has_mark};
 ghost use Rattle.text_lines.specs.Words.{is_allowed, is_blank};
 
 /// Whether a byte separates words: a space or a tab.
@@ -65,4 +65,11 @@ pub fn after_name<'a>(word: &'a [u8], name: &[u8]) -> Option<&'a [u8]>
     } else {
         None
     }
+}
+
+/// Whether a line begins with a byte order mark.
+pub fn has_mark(line: &[u8]) -> bool
+    ensures { result ≡ has_mark line.now }
+{
+    matches!(line, [0xEF, 0xBB, 0xBF, ..])
 }

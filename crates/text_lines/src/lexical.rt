@@ -7,8 +7,8 @@ ghost use Rattle.text_lines.specs.Words.{is_blank, is_allowed, is_plain, split_w
 ghost use Rattle.text_lines.specs.Numbers.{BeginsNumeral, EndsDigits, digit_of, value_of, numeral_of, number_of};
 
 use crate::bytes::{is_allowed, is_blank};
+use crate::columns::len_before;
 use crate::hexadecimal::{LANES, digits_before, value_of_all};
-use memchr::memchr;
 use thiserror::Error;
 
 /// A line, or a word of it, fits no form.
@@ -23,8 +23,9 @@ fn is_plain(byte: u8) -> bool
     is_allowed(byte) & (byte != b'#')
 }
 
-/// Each byte is looked at in any case, here and in the next function, so that many can be at once.
-fn all_allowed(text: &[u8]) -> bool
+/// Whether each byte may occur outside a comment. Each is looked at in any case, here and in the next function, so that many can be
+/// at once.
+pub fn are_allowed(text: &[u8]) -> bool
     ensures { result ≡ list_all is_allowed text.now }
 {
     let mut all = true;
@@ -45,16 +46,8 @@ fn all_plain(text: &[u8]) -> bool
     all
 }
 
-/// How many bytes a line has before its comment.
-fn content_len(line: &[u8]) -> usize
-    ensures within { result ≤ length line.now }
-    ensures len { result ≡ position_or_len (λ b. b == 35) line.now }
-{
-    memchr(b'#', line).unwrap_or(line.len())
-}
-
 /// How many blanks a text begins with.
-fn blanks_len(text: &[u8]) -> usize
+pub(crate) fn blanks_len(text: &[u8]) -> usize
     ensures within { result ≤ length text.now }
     ensures len { result ≡ prefix_len is_blank text.now }
 {
@@ -317,8 +310,8 @@ impl<'a> Words<'a> {
         if all_plain(line) {
             return Ok(Words { rest: line });
         }
-        let content = &line[..content_len(line)];
-        if !all_allowed(content) {
+        let content = &line[..len_before(b'#', line)];
+        if !are_allowed(content) {
             return Err(NotUnderstood);
         }
         Ok(Words { rest: content })

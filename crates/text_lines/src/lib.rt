@@ -25,26 +25,34 @@
 #![tactic(auto)]
 
 mod bytes;
+mod columns;
 mod counter;
 mod fault;
+mod file_lines;
 mod hexadecimal;
 mod laws;
 mod lexical;
 mod line_loop;
 mod lines;
+mod texts;
 mod whole_text;
 mod written;
 
-pub use bytes::{after_name, after_text, begins_with, is_allowed, is_blank, is_name, is_text};
+pub use bytes::{
+    after_name, after_text, begins_with, has_mark, is_allowed, is_blank, is_name, is_text,
+};
+pub use columns::{Placed, len_before, next_word, word_from};
 pub use counter::Counter;
 pub use fault::{ReadFault, RunFault};
+pub use file_lines::{allowed_len, content_of, split_line, unended};
 pub use hexadecimal::{hex_digits, word_digits};
 pub use laws::{lines_law, words_law};
 pub use lexical::{
-    NotUnderstood, Words, behind_mark, behind_space, leading_hexadecimal, leading_numeral, number,
-    numeral, word_len,
+    NotUnderstood, Words, are_allowed, behind_mark, behind_space, leading_hexadecimal,
+    leading_numeral, number, numeral, word_len,
 };
 pub use line_loop::{Interpreter, LineRefusal, interpret_lines};
 pub use lines::{LONGEST, LineReader, without_return};
+pub use texts::{append, push, push_address, push_number, without_zeros};
 pub use whole_text::{AT_ONCE, next_line};
 pub use written::{Line, hex_digit, push_decimal, push_hex, push_text, push_word_line};

@@ -4,24 +4,15 @@ ghost use Rattle.std.specs.Prelude.{◌≡◌, ◌+◌, ◌-◌, ◌^◌, ◌<�
 ghost use Rattle.std.specs.List.{position_or_len};
 ghost use Rattle.text_lines.specs.Lines.{without_return, EndsInput};
 
+use crate::columns::len_before;
 use crate::fault::ReadFault;
 use byte_streams::{Buffer, Source};
-use memchr::memchr;
 
 /// How many bytes may come in all to a reader for which nothing else is said.
 const LIMIT: u64 = 1 << 40;
 
 /// How many bytes a line may have before its LF, its CR counted.
 pub const LONGEST: usize = 1023;
-
-/// How many bytes come before the first LF.
-#[inline(always)]
-fn line_len(bytes: &[u8]) -> usize
-    ensures within { result ≤ length bytes.now }
-    ensures len { result ≡ position_or_len (λ b. b == 10) bytes.now }
-{
-    memchr(b'\n', bytes).unwrap_or(bytes.len())
-}
 
 /// How many bytes a line has without the CR at its end.
 #[inline(always)]
@@ -236,7 +227,7 @@ impl<const SIZE: usize> LineReader<SIZE> {
         self.let_go();
         let bytes = self.buffer.as_slice();
         let held = bytes.len();
-        let len = line_len(bytes);
+        let len = len_before(b'\n', bytes);
         if len > LONGEST || len == held {
             return false;
         }
@@ -259,7 +250,7 @@ impl<const SIZE: usize> LineReader<SIZE> {
         'reads: loop {
             let bytes = self.buffer.as_slice();
             let held = bytes.len();
-            let len = line_len(bytes);
+            let len = len_before(b'\n', bytes);
             if len > LONGEST {
                 return Err(ReadFault::LongLine(self.number + 1));
             }

@@ -1,6 +1,6 @@
 //! Texts, and the platforms that they are.
 
-use platform_file::platform_of;
+use input_files::platform_of;
 use pmp_encoding::Limit;
 use std::alloc::Global;
 use std::process::Abort;

@@ -1,8 +1,7 @@
 //! What reads a text and writes what it says of it, whatever a write takes: a row of each.
 
 use byte_streams::fakes::PieceSink;
-use file_lints::{Taker, lint_platform, lint_trace};
-use map_lint::lint;
+use input_files::{Taker, lint_map, lint_platform, lint_trace};
 use pmp_encoding::Xlen;
 use pmp_match::Mode;
 use register_audit::{print_map_of, print_registers};
@@ -27,7 +26,7 @@ enum Reader {
 /// The answer to the text, where there is one, and what is said of it is in the sink.
 fn answer_of(alloc: Global, reader: Reader, bytes: &[u8], out: &mut PieceSink) -> Option<bool> {
     match reader {
-        Reader::MapLint => lint(alloc, "m", bytes, out).ok(),
+        Reader::MapLint => lint_map(alloc, "m", bytes, out).ok(),
         Reader::PlatformLint => lint_platform(alloc, "p", bytes, out).ok(),
         Reader::TraceLint(taker) => lint_trace(alloc, "t", bytes, taker, out).ok(),
         Reader::Table => print_registers(alloc, Mode::User, Xlen::Rv64, bytes, out).ok(),

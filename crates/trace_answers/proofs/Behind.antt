@@ -7,7 +7,7 @@ use Rattle.std.specs.Int.Digits.{digits_of}
 use Rattle.std.proofs.Math.Seq.{take-append-add}
 use Rattle.std.proofs.lemmas.Bool.{ne_eqb}
 use Rattle.std.proofs.lemmas.Fmt.{decimal_digit, decimal-digits_of}
-use Rattle.lint_texts.specs.Lines.{unended}
+use Rattle.text_lines.specs.Lines.{unended}
 use Rattle.trace_answers.specs.Explained.{explained}
 
 -- the bytes of digits

@@ -1,7 +1,7 @@
 -- An answer with a comment after it.
 use Rattle.std.specs.Prelude.{◌≡◌, List, ℕ, ◌++◌, take, Option, Some, None, codes}
 use Rattle.text_lines.specs.LineLoop.{Meaning}
-use Rattle.lint_texts.specs.Lines.{unended}
+use Rattle.text_lines.specs.Lines.{unended}
 
 -- an answer followed by as much of a comment as fits into a line of 128 bytes
 abbrev pub explained : List ℕ → List ℕ → List ℕ

@@ -5,8 +5,7 @@ ghost use Rattle.std.specs.List.{prefix_len};
 ghost use Rattle.text_lines.specs.Words.{split_words};
 ghost use Rattle.trace_answers.specs.Comments.{answer_agrees, begins, comment_of, is_digit, is_kind, is_numbered, is_spoken, says_answer, says_it, spoken, spoken_words, remark_of};
 
-use lint_texts::len_before;
-use text_lines::Words;
+use text_lines::{Words, len_before};
 
 fn is_digit(byte: u8) -> bool
     ensures { result ≡ is_digit byte }

@@ -5,8 +5,7 @@ ghost use Rattle.std.specs.Prelude.{◌≡◌, ◌≤◌, ◌++◌, decimal, len
 use crate::comments::comment_of;
 use arrayvec::ArrayVec;
 use itoa::Buffer;
-use lint_texts::{allowed_len, append, unended};
-use text_lines::Line;
+use text_lines::{Line, allowed_len, append, unended};
 
 /// The most bytes of an answer.
 const ROOM: usize = 160;

@@ -4,7 +4,7 @@ ghost use Rattle.std.specs.Prelude.{◌≡◌, ◌≤◌, ◌++◌, codes, decim
 ghost use Rattle.trace_answers.specs.Explained.{explained};
 
 use arrayvec::{ArrayString, ArrayVec};
-use lint_texts::{append, unended};
+use text_lines::{append, unended};
 use text_lines::{Line, push_decimal, push_text};
 
 /// The words of a comment. A part that does not fit is left out.

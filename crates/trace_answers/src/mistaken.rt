@@ -5,7 +5,7 @@
 
 use crate::comments::{is_numbered, is_spoken, remark_of, says_answer};
 use arrayvec::{ArrayString, ArrayVec};
-use lint_texts::len_before;
+use text_lines::len_before;
 use std::fmt::Write;
 use text_lines::{Words, is_name};
 

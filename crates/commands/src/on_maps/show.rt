@@ -10,7 +10,7 @@ use crate::certified_plan::planned_near;
 use crate::listing_trouble::listing_trouble;
 use byte_streams::{Sink, Source, write_whole};
 use command_inputs::{MAP_BYTES, REGISTER_BYTES, Trouble, answer_status, bytes_in, map_by};
-use map_lint::push_line_costs;
+use input_files::push_line_costs;
 use map_table::{json_table, picture, table_of};
 use permission_map::{Memory, PermissionMap};
 use pmp_encoding::{Entry, Limit, Xlen};

@@ -1,10 +1,10 @@
 use Rattle.std.proofs.Common.{ℕ, List, ◌≡◌, ◌⊎◌, Err, ap, inl, inr, refl, sym}
 use Rattle.std.specs.Borrow.{Bor}
 use Rattle.platforms.specs.Platform.{PlatformLayout}
-use Rattle.platform_file.specs.declared.fault.TextFault.{TextFault}
-use Rattle.platform_file.specs.declared.fault.TextFault.TheVariants as texts
+use Rattle.input_files.specs.declared.fault.TextFault.{TextFault}
+use Rattle.input_files.specs.declared.fault.TextFault.TheVariants as texts
 use Rattle.command_inputs.specs.declared.trouble.Trouble.TheVariants.{NotAPlatform, Memory}
-use Rattle.platform_file.specs.Document.{IsPlatformFile}
+use Rattle.input_files.specs.Document.{IsPlatformFile}
 use Rattle.command_inputs.specs.Troubles.{text_trouble}
 use Rattle.command_inputs.proofs.platform_inputs.platform_in.Goals as goal
 

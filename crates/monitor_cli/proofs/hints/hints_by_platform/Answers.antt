@@ -1,6 +1,6 @@
 use Rattle.std.proofs.Common.{option_map, refl}
 use Rattle.command_inputs.specs.Inputs.{reading}
-use Rattle.file_lints.specs.declared.taker.Taker.TheVariants.{Run}
+use Rattle.input_files.specs.declared.taker.Taker.TheVariants.{Run}
 use Rattle.monitor_cli.specs.declared.forms.Form.TheVariants.{Trace}
 use Rattle.monitor_cli.specs.Hints.{AreRunHints, HasHints, of_platform, of_trace}
 use Rattle.monitor_cli.proofs.HintTexts.{carried, of_need}

@@ -1,5 +1,5 @@
 use Rattle.std.proofs.Common.{◌≡◌, ◌∙◌, ◌-◌, ◌++◌, codes, decimal, take, ap, rules, arith}
-use Rattle.lint_texts.specs.Lines.{unended}
+use Rattle.text_lines.specs.Lines.{unended}
 use Rattle.trace_answers.proofs.Behind.{explained_behind}
 use Rattle.trace_answers.proofs.explained.explain.Goals as goal
 

@@ -6,5 +6,4 @@ returns-then-costs c = rw c.if-costs.true (
   c.in_ok-push_line_costs.ensures.0,
   c.in_ok-text.ensures,
   c.in_ok-push_line_costs.ensures.1,
-  c.in_ok-push_line_costs.ensures.2,
 )

@@ -1,7 +1,0 @@
-use Rattle.std.proofs.Common.{◌≡◌, ◌+◌, drop}
-use Rattle.std.specs.List.{prefix_len}
-use Rattle.file_lints.specs.KeyPlaces.{is_bare}
-use Rattle.file_lints.proofs.key_places.bare_len.Given as goal
-
-abbrev pub invariant-loop-i : goal.invariant-loop-i
-invariant-loop-i l = l.i + prefix_len is_bare (drop l.i l.text) ≡ prefix_len is_bare l.text

@@ -1,5 +1,0 @@
-use Rattle.std.proofs.Common.{length}
-use Rattle.file_lints.proofs.keywords.+one_letter_off.Given as goal
-
-abbrev pub decreases-one_letter_off : goal.decreases-one_letter_off
-decreases-one_letter_off l = length l.word.now

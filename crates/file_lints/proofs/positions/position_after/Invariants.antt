@@ -1,8 +1,0 @@
-use Rattle.std.proofs.Common.{◌≡◌, ◌+◌, ◌≤◌, drop}
-use Rattle.file_lints.specs.Positions.{position_after}
-use Rattle.file_lints.proofs.positions.position_after.Given as goal
-
-abbrev pub invariant-loop-byte : goal.invariant-loop-byte
-invariant-loop-byte l =
-    (l.line ≤ l.byte-index + 1) × (l.column ≤ l.byte-index + 1)
-    × (position_after (drop l.byte-index l.before) l.line l.column ≡ position_after l.before 1 1)

@@ -1,0 +1,13 @@
+pub mod Breaches
+pub mod Costs
+pub mod Document
+pub mod Faults
+pub mod KeyPlaces
+pub mod Maps
+pub mod Masters
+pub mod Order
+pub mod Overlaps
+pub mod Platforms
+pub mod Positions
+pub mod Settings
+pub mod Traces

@@ -1,0 +1,70 @@
+//! The lint of a map file.
+
+ghost use Rattle.std.specs.Prelude.{◌≡◌, ◌-◌, ◌^◌, ◌<◌, Bool, Err, IfOk, Ok, ℕ, List, length, true, false};
+ghost use Rattle.byte_streams.specs.Writings.{writing, Breaks, TakesAll};
+ghost use Rattle.permission_map.specs.declared.runs.Run.{Run};
+ghost use Rattle.map_text.specs.MapFile.{Makes};
+ghost use Rattle.input_files.specs.declared.lint_fault.LintFault as LintFault;
+ghost use Rattle.input_files.specs.Maps.{IsAtFault, IsVerdictOfLines};
+
+use crate::LintFault;
+use crate::map_faults::{map_findings, push_map_findings};
+use byte_streams::{Sink, write_whole};
+use map_text::{MapFileFault, map_of};
+use permission_map::Memory;
+use std::alloc::{AllocError, Global};
+
+/// Whether the file is a map.
+fn is_map(alloc: Global, bytes: &[u8]) -> Result<bool, Memory>
+    requires { length bytes.now < 2 ^ 64 - 1 }
+    ensures map { result ≡ Ok true → (map : List Run) × Makes bytes.now map }
+    ensures fault { result ≡ Ok false → IsAtFault bytes.now }
+    ensures verdict { IfOk result (IsVerdictOfLines bytes.now) }
+{
+    match map_of(alloc, bytes) {
+        Ok(_) => Ok(true),
+        Err(MapFileFault::Line(_)) => Ok(false),
+        Err(MapFileFault::TooManyRanges) => Ok(false),
+        Err(MapFileFault::Memory) => Err(AllocError),
+    }
+}
+
+/// The lines for what is found in a file.
+fn lines_of(alloc: Global, name: &str, bytes: &[u8], is_map: bool) -> Result<Vec<u8>, Memory>
+    requires { length bytes.now < 2 ^ 64 - 1 }
+{
+    let findings = map_findings(alloc, bytes, is_map)?;
+    let mut text = Vec::new(alloc);
+    push_map_findings(&mut text, name, &findings)?;
+    Ok(text)
+}
+
+/// Writes what is wrong with a map file, a line for each of its lines at fault, and warnings. The answer is whether it is a
+/// map. Where memory is refused nothing was written.
+pub fn lint_map<W: Sink>(
+    alloc: Global,
+    name: &str,
+    bytes: &[u8],
+    out: &mut W,
+) -> Result<bool, LintFault>
+    requires short { length bytes.now < 2 ^ 64 - 1 }
+    ensures map { result ≡ Ok true → (map : List Run) × Makes bytes.now map }
+    ensures fault { result ≡ Ok false → IsAtFault bytes.now }
+    ensures written { IfOk result (λ is_map. (text : List ℕ)
+        × TakesAll text (writing W.contents W.failures W.stalls out.old out.new)) }
+    ensures untouched { result ≡ Err LintFault.Memory → out.new ≡ out.old }
+    ensures broken { result ≡ Err LintFault.Device → (is_map : Bool)
+        × IsVerdictOfLines bytes.now is_map × (text : List ℕ)
+        × Breaks text (writing W.contents W.failures W.stalls out.old out.new) }
+{
+    let Ok(answer) = is_map(alloc, bytes) else {
+        return Err(LintFault::Memory);
+    };
+    let Ok(text) = lines_of(alloc, name, bytes, answer) else {
+        return Err(LintFault::Memory);
+    };
+    let Ok(()) = write_whole(out, text.as_slice()) else {
+        return Err(LintFault::Device);
+    };
+    Ok(answer)
+}

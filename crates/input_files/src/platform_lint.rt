@@ -1,0 +1,124 @@
+//! The lint of a platform file.
+
+ghost use Rattle.std.specs.Prelude.{◌≡◌, Bool, List, ℕ, Err, IfOk};
+ghost use Rattle.byte_streams.specs.Writings.{writing, Breaks, TakesAll};
+ghost use Rattle.toml.specs.Errors.{IsMemory, IsWithin, span_start};
+ghost use Rattle.input_files.specs.Platforms.{IsPlatformVerdict, IsTextVerdict};
+ghost use Rattle.input_files.specs.declared.lint_fault.LintFault as LintFault;
+
+use crate::LintFault;
+use crate::breach::Breach;
+use crate::key_places::place_of;
+use crate::platform::{DocumentFault, read_document};
+use crate::platform_words::push_breach;
+use crate::positions::{push_found, push_position};
+use crate::warnings::warnings;
+use byte_streams::{Sink, write_whole};
+use std::alloc::{AllocError, Global};
+use std::str;
+use text_lines::push;
+use toml::de::Error;
+
+/// How many bytes of a text come before the place where the library stopped reading it.
+fn start_of(error: &Error) -> usize
+    requires { ¬ IsMemory error.now }
+    ensures { result ≡ span_start error.now }
+{
+    match error.span() {
+        Some(span) => span.start,
+        None => unreachable!(),
+    }
+}
+
+/// The line for a text that is no document: where it stops being one, and why, in the words of the library that reads it.
+fn syntax_line(alloc: Global, name: &str, text: &str, error: &Error) -> Result<Vec<u8>, AllocError>
+    requires within { IsWithin text.now error.now }
+    requires syntax { ¬ IsMemory error.now }
+{
+    let mut line = Vec::new(alloc);
+    push(&mut line, name)?;
+    push_position(&mut line, text, start_of(error))?;
+    push(&mut line, error.message())?;
+    push(&mut line, "\n")?;
+    Ok(line)
+}
+
+/// The line for what a document breaks first.
+fn breach_line(
+    alloc: Global,
+    name: &str,
+    text: &str,
+    breach: Breach<'_>,
+) -> Result<Vec<u8>, AllocError> {
+    let mut line = Vec::new(alloc);
+    push(&mut line, name)?;
+    push_found(&mut line, text, place_of(text, &breach))?;
+    push_breach(&mut line, breach)?;
+    push(&mut line, "\n")?;
+    Ok(line)
+}
+
+/// The line for bytes that are no text.
+fn no_text(alloc: Global, name: &str) -> Result<Vec<u8>, AllocError> {
+    let mut line = Vec::new(alloc);
+    push(&mut line, name)?;
+    push(&mut line, ": not UTF-8\n")?;
+    Ok(line)
+}
+
+/// Whether a text is a platform, and what is written of it.
+fn lint_text(alloc: Global, name: &str, text: &str) -> Result<(bool, Vec<u8>), AllocError>
+    ensures { IfOk result (λ answer. IsTextVerdict text.now answer.0) }
+{
+    let document = match toml::table_from_str(alloc, text) {
+        Ok(document) => document,
+        Err(error) => {
+            if error.is_memory() {
+                return Err(AllocError);
+            }
+            let line = syntax_line(alloc, name, text, &error)?;
+            return Ok((false, line));
+        }
+    };
+    match read_document(alloc, &document) {
+        Ok(_) => Ok((true, warnings(alloc, name, text, &document)?)),
+        Err(DocumentFault::Memory) => Err(AllocError),
+        Err(DocumentFault::Breach(breach)) => Ok((false, breach_line(alloc, name, text, breach)?)),
+    }
+}
+
+/// Whether bytes are a platform, and what is written of them.
+fn lint_bytes(alloc: Global, name: &str, bytes: &[u8]) -> Result<(bool, Vec<u8>), AllocError>
+    ensures { IfOk result (λ answer. IsPlatformVerdict bytes.now answer.0) }
+{
+    match str::from_utf8(bytes) {
+        Ok(text) => lint_text(alloc, name, text),
+        Err(_) => Ok((false, no_text(alloc, name)?)),
+    }
+}
+
+/// Writes what there is to say of a file that should be a platform, and answers whether it is one: of a platform a warning for
+/// each master of memory that its devices hold, and otherwise the first thing that keeps it from being one, on one line. Where
+/// memory is refused nothing was written.
+pub fn lint_platform<W: Sink>(
+    alloc: Global,
+    name: &str,
+    bytes: &[u8],
+    out: &mut W,
+) -> Result<bool, LintFault>
+    ensures verdict { IfOk result (IsPlatformVerdict bytes.now) }
+    ensures written { IfOk result (λ is_platform. (text : List ℕ)
+        × TakesAll text (writing W.contents W.failures W.stalls out.old out.new)) }
+    ensures untouched { result ≡ Err LintFault.Memory → out.new ≡ out.old }
+    ensures broken { result ≡ Err LintFault.Device → (is_platform : Bool)
+        × IsPlatformVerdict bytes.now is_platform × (text : List ℕ)
+        × Breaks text (writing W.contents W.failures W.stalls out.old out.new) }
+{
+    let Ok((is_platform, text)) = lint_bytes(alloc, name, bytes) else {
+        return Err(LintFault::Memory);
+    };
+    let Ok(()) = write_whole(out, text.as_slice()) else {
+        return Err(LintFault::Device);
+    };
+    Ok(is_platform)
+}

@@ -1,0 +1,106 @@
+//! The lint of a trace.
+
+ghost use Rattle.std.specs.Prelude.{◌≡◌, ◌==◌, ◌-◌, ◌^◌, ◌<◌, Err, IfOk, Ok, ℕ, List, false, length, map, true};
+ghost use Rattle.byte_streams.specs.Writings.{writing, Breaks, TakesAll};
+ghost use Rattle.input_files.specs.declared.lint_fault.LintFault as LintFault;
+ghost use Rattle.input_files.specs.Traces.{findings_in, is_trace, told_at};
+
+use crate::LintFault;
+use crate::taker::{Taker, fault_of};
+use crate::trace_words::push_line_fault;
+use byte_streams::{Sink, write_whole};
+use hart_trace::LineFault;
+use std::alloc::{AllocError, Global};
+use text_lines::split_line;
+
+/// A line that is not taken, and why.
+#[derive(Clone, Copy)]
+pub struct TraceFinding<'a> {
+    /// Its number, from 1.
+    pub line: u64,
+    /// What is wrong with it.
+    pub fault: LineFault<'a>,
+}
+
+/// The lines of a file that are not taken.
+pub fn trace_findings<'a>(
+    alloc: Global,
+    bytes: &'a [u8],
+    taker: Taker,
+) -> Result<Vec<TraceFinding<'a>>, AllocError>
+    requires { length bytes.now < 2 ^ 64 - 1 }
+    ensures found { IfOk result (λ findings.
+        map (λ finding. told_at finding) findings.items ≡ findings_in taker bytes.now) }
+    ensures verdict { IfOk result (λ findings.
+        (length findings.items == 0) ≡ is_trace taker bytes.now) }
+{
+    let mut findings = Vec::new(alloc);
+    let mut rest = bytes;
+    let mut line: u64 = 0;
+    while !rest.is_empty() {
+        let (raw, behind) = split_line(rest);
+        line += 1;
+        if let Some(fault) = fault_of(taker, raw) {
+            findings.push(TraceFinding { line, fault })?;
+        }
+        rest = behind;
+    }
+    Ok(findings)
+}
+
+/// Appends the line for a line that is not taken: its place, what is wrong there, and what would fix it.
+pub fn push_trace_finding(
+    text: &mut Vec<u8>,
+    name: &str,
+    taker: Taker,
+    finding: &TraceFinding<'_>,
+) -> Result<(), AllocError> {
+    push_line_fault(text, name, taker.harts(), finding.line, finding.fault)
+}
+
+/// The lines for findings.
+fn lines_of(
+    alloc: Global,
+    name: &str,
+    taker: Taker,
+    findings: &[TraceFinding<'_>],
+) -> Result<Vec<u8>, AllocError> {
+    let mut text = Vec::new(alloc);
+    for finding in findings {
+        push_trace_finding(&mut text, name, taker, finding)?;
+    }
+    Ok(text)
+}
+
+/// Writes a line for each line of a file that is not taken, and nothing where each is. The answer is whether each is. Where memory
+/// is refused nothing was written.
+pub fn lint_trace<W: Sink>(
+    alloc: Global,
+    name: &str,
+    bytes: &[u8],
+    taker: Taker,
+    out: &mut W,
+) -> Result<bool, LintFault>
+    requires { length bytes.now < 2 ^ 64 - 1 }
+    ensures trace { IfOk result (λ answer. answer ≡ is_trace taker bytes.now) }
+    ensures silent { result ≡ Ok true → out.new ≡ out.old }
+    ensures written { result ≡ Ok false → (text : List ℕ)
+        × TakesAll text (writing W.contents W.failures W.stalls out.old out.new) }
+    ensures untouched { result ≡ Err LintFault.Memory → out.new ≡ out.old }
+    ensures broken { result ≡ Err LintFault.Device → (is_trace taker bytes.now ≡ false)
+        × (text : List ℕ) × Breaks text (writing W.contents W.failures W.stalls out.old out.new) }
+{
+    let Ok(findings) = trace_findings(alloc, bytes, taker) else {
+        return Err(LintFault::Memory);
+    };
+    if findings.is_empty() {
+        return Ok(true);
+    }
+    let Ok(text) = lines_of(alloc, name, taker, findings.as_slice()) else {
+        return Err(LintFault::Memory);
+    };
+    let Ok(()) = write_whole(out, text.as_slice()) else {
+        return Err(LintFault::Device);
+    };
+    Ok(false)
+}

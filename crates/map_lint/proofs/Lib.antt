@@ -1,5 +1,0 @@
-mod Followed
-mod Named
-pub mod Denied
-pub mod Mended
-pub mod Addresses

@@ -1,2 +1,0 @@
-pub mod Document
-pub mod Faults

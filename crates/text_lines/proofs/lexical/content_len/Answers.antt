@@ -1,6 +1,0 @@
-use Rattle.std.proofs.Common.{◌∙◌}
-use Rattle.text_lines.proofs.FirstByte.{first_byte}
-use Rattle.text_lines.proofs.lexical.content_len.Goals as goal
-
-pub returns-clause-len : goal.returns-clause-len
-returns-clause-len c = c.unwrap_or.ensures ∙ first_byte 35 c.args.line.now c.memchr.result c.memchr.ensures
