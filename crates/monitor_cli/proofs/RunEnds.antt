@@ -6,7 +6,7 @@ use Rattle.text_lines.specs.declared.fault.RunFault.TheVariants as runs
 use Rattle.text_lines.specs.LineLoop.{StopsAt, StopsForMemory, StopsReading, StopsTooLong, StopsWriting}
 use Rattle.hart_sim.specs.declared.machine.Machine.{Machine}
 use Rattle.hart_sim.specs.Machines.{kept_of}
-use Rattle.commands.specs.Stops.{Stops}
+use Rattle.monitor_cli.specs.Stops.{Stops}
 use Rattle.explained_runs.specs.declared.tally.Tally.{Tally}
 use Rattle.explained_runs.specs.Accounts.{ExplainsLine, RefusesAccount, StarvesAccount, opened}
 use Rattle.explained_runs.specs.Tallies.{HasAccount}

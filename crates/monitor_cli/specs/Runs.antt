@@ -1,6 +1,5 @@
--- What `run` comes to, on the files and streams that are lent for it: a rule for each way in which
--- it ends.
-use Rattle.std.specs.Prelude.{◌≡◌, ℕ, ◌≤◌, Bool, true, false, List, [], Option, Some, Result, Ok}
+-- What `run` comes to, on the files and streams that are lent for it.
+use Rattle.std.specs.Prelude.{◌≡◌, ℕ, ◌≤◌, Bool, true, false, List, Option, Some, Result, Ok}
 use Rattle.std.specs.Prelude.{Err}
 use Rattle.std.specs.Borrow.{Bor}
 use Rattle.std.specs.Io.KnownBytes.{Appends}
@@ -19,16 +18,16 @@ use Rattle.trace_answers.specs.Comparisons.{ComparesAll}
 use Rattle.explained_runs.specs.Accounts.{Account, ExplainsLine, RefusesAccount, StarvesAccount}
 use Rattle.explained_runs.specs.Accounts.{opened}
 use Rattle.explained_runs.specs.Summaries.{summary_text}
-use Rattle.program_tasks.specs.declared.options.Answers.{Answers}
-use Rattle.program_tasks.specs.declared.options.Answers.TheVariants as answers
-use Rattle.command_inputs.specs.declared.trouble.Trouble.{Trouble}
-use Rattle.command_inputs.specs.declared.trouble.Trouble.TheVariants.{Output}
-use Rattle.command_inputs.specs.Troubles.{boot_trouble, run_trouble}
-use Rattle.command_inputs.specs.Inputs.{IsUnread, Reading}
-use Rattle.command_inputs.specs.PlatformInputs.{HasNoPlatform, HasPlatform}
-use Rattle.commands.specs.Answered.{Noting, Said}
-use Rattle.commands.specs.Expected.{IsTold}
-use Rattle.commands.specs.Stops.{Stops}
+use Rattle.command_line.specs.declared.options.Answers.{Answers}
+use Rattle.command_line.specs.declared.options.Answers.TheVariants as answers
+use Rattle.program_files.specs.declared.trouble.Trouble.{Trouble}
+use Rattle.program_files.specs.declared.trouble.Trouble.TheVariants.{Output}
+use Rattle.program_files.specs.Troubles.{run_trouble}
+use Rattle.monitor_cli.specs.Platforms.{boot_trouble}
+use Rattle.program_files.specs.Reading.{IsUnread, Reading}
+use Rattle.monitor_cli.specs.Platforms.{HasNoPlatform, HasPlatform}
+use Rattle.monitor_cli.specs.Expected.{IsTold}
+use Rattle.monitor_cli.specs.Stops.{Stops}
 use Rattle.monitor_cli.specs.Measurements.{AreMeasures}
 
 -- the measurements of a machine's live enclaves were written where they are asked for, and
@@ -101,9 +100,9 @@ pub data RunsExplaining {R W : Type 0} (booted : Machine) (trace : Bor (List ℕ
 
 -- a trace happens so and its answers are compared with those that its comments say: where one
 -- differs, the first that does is reported after the report and the measurements, and the status is
--- 1; beside it comes which comments look like an answer and are none
+-- 1
 pub data RunsExpecting {R W : Type 0} (does : Meaning Machine) (booted : Machine)
-    (trace : Bor (List ℕ)) (measure : Bool) (second : Reading R) (out : Writing W) : Said
+    (trace : Bor (List ℕ)) (measure : Bool) (second : Reading R) (out : Writing W) : Result ℕ Trouble
     → Type 0 where
   compared :
       (ended : Machine) (report measured difference : Option (List ℕ)) (note : List ℕ)
@@ -111,7 +110,7 @@ pub data RunsExpecting {R W : Type 0} (does : Meaning Machine) (booted : Machine
       → ComparesAll does booted ended second.before second.after out.before report difference note
       → IsMeasured measure ended report measured → IsTold difference measured out.after status
       → second.failed ≡ second.failures → IsWell out
-      → RunsExpecting does booted trace measure second out (Ok (status, note))
+      → RunsExpecting does booted trace measure second out (Ok status)
   unfinished :
       (ended : Machine) (fault : RunFault)
       → Stops does RefusesLine StarvesLine booted ended second.before second.after out.before
@@ -137,19 +136,19 @@ pub data RunsExpecting {R W : Type 0} (does : Meaning Machine) (booted : Machine
 -- a trace happens to a machine; with `--explain` a comment after each answer says what happened,
 -- and the summary comes last; with `--expect` the answers are compared
 abbrev pub RunsTraceAs : {R W : Type 0} → Answers → Machine → Bor (List ℕ) → Bool → Reading R
-    → Writing W → Said → Type 0
+    → Writing W → Result ℕ Trouble → Type 0
 RunsTraceAs answers.Plain booted trace measure second out done =
-    Noting [] (RunsTrace DoesLine booted trace measure second out) done
+    RunsTrace DoesLine booted trace measure second out done
 RunsTraceAs answers.Explained booted trace measure second out done =
-    Noting [] (RunsExplaining booted trace measure second out) done
+    RunsExplaining booted trace measure second out done
 RunsTraceAs answers.Compared booted trace measure second out done =
     RunsExpecting DoesLine booted trace measure second out done
 
 -- `run`: the platform is read and booted, and then the trace happens to its machine
 pub data Runs {R W : Type 0} (answers : Answers) (file trace : Bor (List ℕ)) (measure : Bool)
-    (first second : Reading R) (out : Writing W) : Said → Type 0 where
+    (first second : Reading R) (out : Writing W) : Result ℕ Trouble → Type 0 where
   ran :
-      (platform : PlatformLayout) (booted : Machine) (result : Said)
+      (platform : PlatformLayout) (booted : Machine) (result : Result ℕ Trouble)
       → HasPlatform first platform → IsBooted platform booted
       → RunsTraceAs answers booted trace measure second out result
       → Runs answers file trace measure first second out result

@@ -4,17 +4,20 @@ ghost use Rattle.std.specs.Prelude.{◌-◌, ◌^◌, ◌<◌};
 ghost use Rattle.byte_streams.specs.Writings.{writing};
 ghost use Rattle.hart_sim.specs.Machines.{KeepsBanksRight};
 ghost use Rattle.hart_sim.specs.Reports.{DoesLine};
-ghost use Rattle.command_inputs.specs.Inputs.{reading};
-ghost use Rattle.commands.specs.Answered.{said};
+ghost use Rattle.program_files.specs.Reading.{reading};
+ghost use Rattle.monitor_cli.specs.Answered.{status_in};
 ghost use Rattle.monitor_cli.specs.Runs.{Runs, RunsExpecting, RunsExplaining, RunsTrace, RunsTraceAs};
 
 use crate::measurements::{boot_machine, measure_where};
 use byte_streams::{Sink, Source};
-use command_inputs::{Trouble, read_platform};
-use commands::{Answered, compared, quiet, tell_first};
+use program_files::Trouble;
+use crate::answered::{Answered, noted, quiet};
+use crate::judge::tell_first;
+use crate::platform_inputs::read_platform;
+use arrayvec::ArrayVec;
 use explained_runs::{Ran, explain_run, print_summary};
 use hart_sim::{Machine, run};
-use program_tasks::Answers;
+use command_line::Answers;
 use std::alloc::Global;
 use trace_answers::{Compared, compare_lines};
 
@@ -75,7 +78,7 @@ fn run_expecting<'a, R: Source, W: Sink>(
     requires kept { KeepsBanksRight machine }
     ensures { RunsExpecting DoesLine machine trace.entry measure
         (reading R.remaining R.failures second.old second.new)
-        (writing W.contents W.failures W.stalls out.old out.new) (said result) }
+        (writing W.contents W.failures W.stalls out.old out.new) (status_in result) }
 {
     let Compared {
         lines,
@@ -86,7 +89,7 @@ fn run_expecting<'a, R: Source, W: Sink>(
     end.map_err(|fault| Trouble::of_run(trace, fault))?;
     measure_where(&lines, measure, out)?;
     let status = tell_first(&first, out)?;
-    Ok(compared(status, &note))
+    Ok(noted(status, &ArrayVec::new(), &note))
 }
 
 /// Runs a trace on a machine, and writes of the answers what is asked for.
@@ -101,7 +104,7 @@ fn run_on<'a, R: Source, W: Sink>(
     requires kept { KeepsBanksRight machine }
     ensures { RunsTraceAs answers machine trace.entry measure
         (reading R.remaining R.failures second.old second.new)
-        (writing W.contents W.failures W.stalls out.old out.new) (said result) }
+        (writing W.contents W.failures W.stalls out.old out.new) (status_in result) }
 {
     match answers {
         Answers::Plain => {
@@ -114,7 +117,7 @@ fn run_on<'a, R: Source, W: Sink>(
 }
 
 /// Boots a platform, runs a trace on it, and writes of the answers what is asked for.
-pub fn do_run_as<'a, R: Source, W: Sink>(
+pub(crate) fn do_run<'a, R: Source, W: Sink>(
     alloc: Global,
     answers: Answers,
     platform: &'a str,
@@ -127,7 +130,7 @@ pub fn do_run_as<'a, R: Source, W: Sink>(
     ensures { let source = reading R.remaining R.failures in
         Runs answers platform.entry trace.entry measure (source first.old first.new)
         (source second.old second.new) (writing W.contents W.failures W.stalls out.old out.new)
-        (said result) }
+        (status_in result) }
 {
     let platform = read_platform(alloc, platform, first)?;
     let machine = boot_machine(alloc, platform)?;

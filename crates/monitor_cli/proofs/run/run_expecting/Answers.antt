@@ -1,9 +1,9 @@
 use Rattle.std.proofs.Common.{◌≡◌, ◌∙◌, Err, ap, rules}
 use Rattle.std.proofs.lemmas.Result.{err_from_is_err_and}
-use Rattle.command_inputs.specs.Troubles.{run_trouble}
+use Rattle.program_files.specs.Troubles.{run_trouble}
 use Rattle.hart_sim.specs.Reports.{DoesLine, RefusesLine, StarvesLine}
 use Rattle.monitor_cli.specs.Runs.{compared, not_told, unfinished, unmeasured}
-use Rattle.commands.proofs.Ends.{stops, went_well, went_wrong}
+use Rattle.monitor_cli.proofs.Ends.{stops, went_well, went_wrong}
 use Rattle.monitor_cli.proofs.run.run_expecting.Goals as goal
 
 pub returns-in_err-map_err : goal.returns-in_err-map_err
@@ -52,5 +52,5 @@ returns g c =
     let before = rw ended at e.writes in
     let m = c.in_ok-measure_where.ensures in
     let w = c.in_ok-status.ensures in
-    rw (c.compared.ensures.status, c.compared.ensures.notes) (compared _ _ _ _ _ _ (rw ended at e.all c.requires.kept) m.measured w.told (rw ended at e.reads)
+    rw c.noted.ensures (compared _ _ _ _ _ _ (rw ended at e.all c.requires.kept) m.measured w.told (rw ended at e.reads)
     (w.well.0 ∙ m.well.0 ∙ before.0, w.well.1 ∙ m.well.1 ∙ before.1))

@@ -1,7 +1,7 @@
 use Rattle.std.proofs.Common.{◌≡◌, ◌∙◌, Err, ap, rules}
 use Rattle.std.proofs.lemmas.Result.{err_from_is_err_and}
-use Rattle.command_inputs.specs.Troubles.{run_trouble}
-use Rattle.commands.proofs.Ends.{went_well, went_wrong}
+use Rattle.program_files.specs.Troubles.{run_trouble}
+use Rattle.monitor_cli.proofs.Ends.{went_well, went_wrong}
 use Rattle.monitor_cli.specs.Runs.{explained, not_all_measured, not_summed_up, stopped}
 use Rattle.monitor_cli.proofs.RunEnds.{stops_with}
 use Rattle.monitor_cli.proofs.run.run_explaining.Goals as goal
