@@ -6,11 +6,12 @@ use Rattle.clap.specs.Words.{Row, Text, one_of, subcommand_rows, subcommand_rows
 use Rattle.clap.specs.declared.parser.matches.ArgMatches.{ArgMatches}
 use Rattle.clap.specs.declared.parser.matches.ArgMatches.TheViews.{out-ArgMatches, out-SubCommand}
 use Rattle.clap.specs.declared.parser.matches.SubCommand.{SubCommand}
-use Rattle.program_tasks.specs.declared.fault.Fault.{Fault}
-use Rattle.program_tasks.specs.declared.request.Request.{Request}
-use Rattle.program_tasks.specs.Requests.{HasRequest, IsFaultOfRequest, NamesNoRequest}
-use Rattle.program_tasks.specs.Subcommands.{word_of}
-use Rattle.command_line.specs.CommandLine.{AreNone, IsFaultIn, IsRequest, value_of}
+use Rattle.command_line.specs.declared.fault.Fault.{Fault}
+use Rattle.command_line.specs.declared.request.Request.{Request}
+use Rattle.command_line.specs.Requests.{HasRequest, IsFaultOfRequest, NamesNoRequest}
+use Rattle.command_line.specs.Subcommands.{word_of}
+use Rattle.command_line.specs.CommandLine.{AreNone, IsFaultIn, IsRequest}
+use Rattle.command_line.specs.Given.{value_of}
 
 joined : {Z : Type 0} (sub : Option (Box SubCommand Z)) (name : Text) (rows : List Row)
     → Some name ≡ option_map (λ b. (out-SubCommand (box_value b)).name.now) sub → Some rows ≡ option_map (λ p. p.1) (subcommand_rows sub)

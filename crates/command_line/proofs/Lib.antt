@@ -1,6 +1,10 @@
+pub mod Begins
 mod Building
 mod Entered
+pub mod Firsts
 mod Given
-pub mod Named
+mod Monitors
+pub mod Passed
 mod Program
+pub mod Refused
 mod Seconds

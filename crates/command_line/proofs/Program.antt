@@ -6,9 +6,9 @@ use Rattle.clap.specs.declared.error.kind.ErrorKind.{ErrorKind}
 use Rattle.clap.specs.declared.error.kind.ErrorKind.TheVariants.{OutOfMemory}
 use Rattle.clap.specs.declared.parser.matches.ArgMatches.{ArgMatches}
 use Rattle.command_line.specs.CommandLine.{program_app, AreNone, IsFaultIn, IsRequest, Refuses}
-use Rattle.command_line.specs.Faults.{fault_kind}
-use Rattle.program_tasks.specs.declared.fault.Fault.{Fault}
-use Rattle.program_tasks.specs.declared.request.Request.{Request}
+use Rattle.command_line.specs.Kinds.{IsMistake}
+use Rattle.command_line.specs.declared.fault.Fault.{Fault}
+use Rattle.command_line.specs.declared.request.Request.{Request}
 
 program_told : is_simple_and_free program_app ≡ true
 program_told = refl
@@ -36,7 +36,7 @@ some_request app words m request e h is = subst (λ found. IsRequest found reque
 pub no_request :
     (app : App) (words : List Text) (m : ArgMatches) (kind : ErrorKind) (fault : Fault) → app ≡ program_app → HasMatchesOf app words m
     → AreNone (subcommand_rows_of m)
-    → IsFaultIn (subcommand_rows_of m) fault → kind ≡ fault_kind fault → Refuses words kind
+    → IsFaultIn (subcommand_rows_of m) fault → IsMistake kind → Refuses words kind
 no_request app words m kind fault e h none first told =
     let same = (subst (λ a. HasMatchesOf a words m) e h program_simple).1 in
     inr (inr (record { none = subst AreNone same none; fault = fault; first = subst (λ found. IsFaultIn found fault) same first; told = told }))

@@ -1,21 +1,29 @@
 -- The program's command line, as `clap` sees it, and the request that it names.
 use Rattle.std.specs.Prelude.{Bool, true, false, List, [], ◌∷◌, Option, Some, None, codes, ◌≡◌, ◌⊎◌}
-use Rattle.std.specs.Prelude.{ℕ, bytes_eq, find, if◌then◌else◌, option_and_then, slice_get}
+use Rattle.std.specs.Prelude.{ℕ, length}
+use Rattle.std.specs.Borrow.{Bor}
 use Rattle.clap.specs.Kinds.{IsAmong}
-use Rattle.clap.specs.Words.{App, Row, Rule, Shape, Text, all_of, fault_of, first_of, one_of}
-use Rattle.clap.specs.Words.{new_app}
-use Rattle.clap.specs.Words.{new_rule, subcommand_of, with_rule, with_subcommand}
+use Rattle.clap.specs.Words.{App, Row, Rule, Text, app_of, fault_of, new_app, new_rule, one_of}
+use Rattle.clap.specs.Words.{subcommand_of, with_rule, with_subcommand}
 use Rattle.clap.specs.declared.builder.ArgAction.TheVariants.{Set, SetTrue}
+use Rattle.clap.specs.declared.builder.command.Command.{Command}
+use Rattle.clap.specs.declared.builder.command.Command.TheViews.{out-Command}
 use Rattle.clap.specs.declared.error.kind.ErrorKind.{ErrorKind}
 use Rattle.clap.specs.declared.error.kind.ErrorKind.TheVariants.{OutOfMemory}
-use Rattle.program_tasks.specs.declared.fault.Fault.{Fault}
-use Rattle.program_tasks.specs.declared.fault.Fault.TheVariants.{Missing}
-use Rattle.program_tasks.specs.declared.request.Request.{Request}
-use Rattle.program_tasks.specs.Monitors.{base_name, size_name}
-use Rattle.program_tasks.specs.Requests.{HasRequest, IsFaultOfRequest}
-use Rattle.program_tasks.specs.Subcommands.{word_of}
-use Rattle.program_tasks.specs.Tasks.{IsSound}
-use Rattle.command_line.specs.Faults.{fault_kind}
+use Rattle.command_line.specs.declared.arguments.Argument.{Argument}
+use Rattle.command_line.specs.declared.arguments.Argument.TheVariants.{File, Flag, MaybeFile}
+use Rattle.command_line.specs.declared.arguments.Argument.TheVariants.{Needed, Value, Values}
+use Rattle.command_line.specs.declared.fault.Fault.{Fault}
+use Rattle.command_line.specs.declared.fault.Fault.TheVariants.{Missing}
+use Rattle.command_line.specs.declared.request.Request.{Request}
+use Rattle.command_line.specs.declared.task.Subcommand.{Subcommand}
+use Rattle.command_line.specs.declared.task.Subcommand.TheVariants as subcommands
+use Rattle.command_line.specs.Given.{value_of}
+use Rattle.command_line.specs.Monitors.{base_name}
+use Rattle.command_line.specs.Kinds.{IsMistake}
+use Rattle.command_line.specs.Requests.{HasRequest, IsFaultOfRequest}
+use Rattle.command_line.specs.Subcommands.{word_of}
+use Rattle.command_line.specs.Tasks.{IsSound}
 
 -- a file that is named by its place among the words
 abbrev pub file_rule : Text → Bool → Rule
@@ -41,6 +49,25 @@ values_rule name count = record (option_rule name []) { value_names = count }
 -- an option without a value
 abbrev pub flag_rule : Text → Rule
 flag_rule name = record (new_rule name) { long = Some name; action = Some SetTrue }
+
+-- the value that an option has where it is not given, if it has one
+abbrev pub defaults_by : Option (Bor Text) → List Text
+defaults_by None = []
+defaults_by (Some word) = word.now ∷ []
+
+-- the rule of an argument
+abbrev pub rule_by : Argument → Rule
+rule_by (File name help) = file_rule name.now true
+rule_by (MaybeFile name help) = file_rule name.now false
+rule_by (Flag name help) = flag_rule name.now
+rule_by (Value name value default help) = option_rule name.now (defaults_by default)
+rule_by (Needed name value help) = needed_rule name.now
+rule_by (Values name values help) = values_rule name.now (length values.now)
+
+-- with the rules of these arguments, in turn
+unfoldable pub with_arguments : App → List Argument → App
+with_arguments app [] = app
+with_arguments app (argument ∷ rest) = with_arguments (with_rule app (rule_by argument)) rest
 
 -- `--entries`, which is 16 where it is not given
 abbrev pub entries_rule : Rule
@@ -126,6 +153,7 @@ entry_rule = option_rule (codes "entry") (codes "0" ∷ [])
 abbrev pub monitor_rule : Rule
 monitor_rule = values_rule base_name 2
 
+-- each subcommand as `clap` sees it: its files, its options, and the values that they have otherwise
 abbrev pub run_app : App
 run_app = with_rule
     (with_rule
@@ -235,6 +263,25 @@ abbrev pub platform_app : App
 platform_app = with_rule (with_rule (with_rule (new_app (codes "platform"))
     (file_rule (codes "BOARD") true)) monitor_rule) hints_rule
 
+-- what a subcommand is described as
+abbrev pub app_by : Subcommand → App
+app_by subcommands.Run = run_app
+app_by subcommands.Plan = plan_app
+app_by subcommands.Judge = judge_app
+app_by subcommands.Check = check_app
+app_by subcommands.Show = show_app
+app_by subcommands.Audit = audit_app
+app_by subcommands.Map = map_app
+app_by subcommands.Lint = lint_app
+app_by subcommands.Measure = measure_app
+app_by subcommands.Platform = platform_app
+
+-- with these subcommands, in turn
+unfoldable pub with_subcommands : App → List Subcommand → App
+with_subcommands app [] = app
+with_subcommands app (subcommand ∷ rest) =
+    with_subcommands (with_subcommand app (app_by subcommand).top) rest
+
 -- the program before its subcommands, which tells its version: one of them has to be named
 abbrev pub bare_app : App
 bare_app = record {
@@ -245,6 +292,7 @@ bare_app = record {
   subs = [];
 }
 
+-- the program with all its subcommands
 abbrev pub program_app : App
 program_app = with_subcommand
     (with_subcommand
@@ -262,24 +310,10 @@ program_app = with_subcommand
     measure_app.top)
     platform_app.top
 
--- a subcommand as a program of its own, and the whole program where there is none
-abbrev pub app_alone : Option Shape → App
-app_alone None = program_app
-app_alone (Some shape) = record { top = shape; subs = [] }
-
--- the program's subcommand of that name, and the whole program where it has none of that name
-abbrev pub app_named : Text → App
-app_named name = app_alone (find (λ shape. bytes_eq name shape.name) program_app.subs)
-
--- the second of an argument's values
-abbrev pub second_of : Text → List Row → Option Text
-second_of id rows = option_and_then (λ values. slice_get values 1) (all_of id rows)
-
--- the value that a name has in rows: the first of the argument of that name, but the size of
--- `--monitor` is its second
-abbrev pub value_of : List Row → Text → Option Text
-value_of rows name =
-    if bytes_eq name size_name then second_of base_name rows else first_of name rows
+-- a command is described so, and none of its arguments holds in the subcommands below it too
+pub record IsCommandOf (description : App) (command : Command) : Type 0 where
+  pub app : app_of command ≡ description
+  pub local : (out-Command command).has_globals ≡ false
 
 -- the request is the subcommand that was entered, with the values of its rows
 abbrev pub IsRequest : Option (Text × List Row) → Request → Type 0
@@ -299,16 +333,15 @@ IsFaultIn None fault = fault ≡ Missing
 IsFaultIn (Some (name, rows)) fault =
     IsFaultOfRequest name (value_of rows) (λ id. one_of id rows) fault
 
--- no request for a sound task was entered, and this is the kind of the fault of what was
+-- no request for a sound task was entered, for this fault, and the error is of a mistake
 pub record IsUnsound (found : Option (Text × List Row)) (kind : ErrorKind) : Type 0 where
   pub none : AreNone found
   pub fault : Fault
   pub first : IsFaultIn found fault
-  pub told : kind ≡ fault_kind fault
+  pub told : IsMistake kind
 
 -- words are refused by an error of this kind: where memory runs out, by a kind that `clap` has for
--- them, or where no request for a sound task is the subcommand that they enter, by the kind of its
--- fault
+-- them, or where no request for a sound task is the subcommand that they enter
 abbrev pub Refuses : List Text → ErrorKind → Type 0
 Refuses words kind = (kind ≡ OutOfMemory)
     ⊎ (IsAmong kind (fault_of program_app words) ⊎ IsUnsound (subcommand_of program_app words) kind)

@@ -1,4 +1,13 @@
-pub mod ClapModel
 pub mod CommandLine
 pub mod Faults
-pub mod Ends
+pub mod Given
+pub mod Hints
+pub mod Kinds
+pub mod Layouts
+pub mod Monitors
+pub mod Options
+pub mod Outlines
+pub mod Places
+pub mod Requests
+pub mod Subcommands
+pub mod Tasks

@@ -2,8 +2,7 @@
 
 ghost use Rattle.std.specs.Prelude.{◌≡◌, false, length};
 ghost use Rattle.clap.specs.Words.{rule_of};
-ghost use Rattle.command_line.specs.CommandLine.{file_rule, flag_rule, needed_rule, option_rule, values_rule};
-ghost use Rattle.command_line.specs.ClapModel.{defaults_by, rule_by};
+ghost use Rattle.command_line.specs.CommandLine.{defaults_by, file_rule, flag_rule, needed_rule, option_rule, rule_by, values_rule};
 
 use clap::{Arg, ArgAction};
 use std::alloc::Global;

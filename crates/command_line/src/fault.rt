@@ -1,73 +1,172 @@
-//! The errors of `clap` for words that it takes and that name no task.
+//! Why a subcommand with its values names no task, and what is said of each reason.
 
-ghost use Rattle.std.specs.Prelude.{◌≡◌, IfOk};
-ghost use Rattle.clap.specs.Words.{kind_of};
-ghost use Rattle.clap.specs.declared.error.kind.ErrorKind.TheVariants.{ArgumentConflict};
-ghost use Rattle.command_line.specs.Faults.{fault_kind};
+ghost use Rattle.command_line.specs.Kinds.{IsMistake};
 
-use crate::subcommands::subcommand_named;
-use clap::Error;
 use clap::error::ErrorKind;
-use program_tasks::Fault;
-use std::alloc::{AllocError, Global};
+use std::fmt;
 
-/// The kind of a fault, as `clap` has it.
-fn kind_of(fault: &Fault<'_>) -> ErrorKind
-    ensures { result ≡ fault_kind fault.now }
-{
-    match fault {
-        Fault::Missing | Fault::PlatformAlone => ErrorKind::MissingRequiredArgument,
-        Fault::Entries(_)
-        | Fault::Format(_)
-        | Fault::TableFormat(_)
-        | Fault::Xlen(_)
-        | Fault::Mode(_)
-        | Fault::Hints(_) => ErrorKind::InvalidValue,
-        Fault::AtMost(_)
-        | Fault::Name(_)
-        | Fault::First(_)
-        | Fault::Number { .. }
-        | Fault::Pages
-        | Fault::EntryOffset
-        | Fault::Monitor(_)
-        | Fault::MonitorPages => ErrorKind::ValueValidation,
-        Fault::InputTwice
-        | Fault::TwoKinds
-        | Fault::TwoAnswers
-        | Fault::NoPicture
-        | Fault::NoCosts
-        | Fault::NoMachine
-        | Fault::TakesPlace(_) => ErrorKind::ArgumentConflict,
+/// Why a subcommand with its values names no task.
+#[derive(Clone, Copy)]
+pub enum Fault<'a> {
+    /// There is no such subcommand, or an argument that it requires is not there.
+    Missing,
+    /// `--entries` has a value of another form.
+    Entries(&'a str),
+    /// `--format` has one.
+    Format(&'a str),
+    /// `--format` of a table has one.
+    TableFormat(&'a str),
+    /// `--at-most` has one.
+    AtMost(&'a str),
+    /// `--name` has one.
+    Name(&'a str),
+    /// `--first` has one, or names no entry of such a hart.
+    First(&'a str),
+    /// `--xlen` has one.
+    Xlen(&'a str),
+    /// `--mode` has one.
+    Mode(&'a str),
+    /// `--hints` has one.
+    Hints(&'a str),
+    /// Standard input is named twice.
+    InputTwice,
+    /// `--registers` and `--trace` are both given.
+    TwoKinds,
+    /// `--explain` and `--expect` are both given.
+    TwoAnswers,
+    /// `--platform` is given without `--trace`.
+    PlatformAlone,
+    /// Of registers another table is asked for than the text.
+    NoPicture,
+    /// Costs are asked for of what is no text of a map.
+    NoCosts,
+    /// Machine mode is asked for of a map.
+    NoMachine,
+    /// The certificate would take the place of the map of this name.
+    TakesPlace(&'a str),
+    /// An option that takes a number has another value.
+    Number {
+        /// The name of the option.
+        option: &'a str,
+        /// The value.
+        word: &'a str,
+    },
+    /// No enclave has that many pages.
+    Pages,
+    /// No enclave of that text is entered there.
+    EntryOffset,
+    /// A value of `--monitor` is no number.
+    Monitor(&'a str),
+    /// Its values are no whole pages of the space.
+    MonitorPages,
+    /// The certificate cannot be written where it is asked for, which is said so.
+    NoPlace(&'static str),
+}
+
+/// The option whose value is of another form, as its usage has it, that value, and what is said behind them.
+type Value<'a> = (&'a str, &'a str, &'static str);
+
+impl<'a> Fault<'a> {
+    /// The value of another form, where the fault is that of one.
+    fn value(&self) -> Option<Value<'a>> {
+        match *self {
+            Fault::Entries(word) => Some(("entries <16|64>", word, "16, 64")),
+            Fault::Format(word) => Some(("format <text|c|asm|json>", word, "text, c, asm, json")),
+            Fault::TableFormat(word) => Some(("format <text|svg|json>", word, "text, svg, json")),
+            Fault::Xlen(word) => Some(("xlen <32|64>", word, "32, 64")),
+            Fault::Mode(word) => Some(("mode <m|s|u>", word, "m, s, u")),
+            Fault::Hints(word) => Some(("hints <auto|always|never>", word, "auto, always, never")),
+            _ => None,
+        }
+    }
+
+    /// Its kind, as `clap` has it.
+    pub(crate) fn kind(&self) -> ErrorKind
+        ensures { IsMistake result }
+    {
+        match self {
+            Fault::Missing | Fault::PlatformAlone => ErrorKind::MissingRequiredArgument,
+            Fault::Entries(_)
+            | Fault::Format(_)
+            | Fault::TableFormat(_)
+            | Fault::Xlen(_)
+            | Fault::Mode(_)
+            | Fault::Hints(_) => ErrorKind::InvalidValue,
+            Fault::AtMost(_)
+            | Fault::Name(_)
+            | Fault::First(_)
+            | Fault::Number { .. }
+            | Fault::Pages
+            | Fault::EntryOffset
+            | Fault::Monitor(_)
+            | Fault::MonitorPages => ErrorKind::ValueValidation,
+            Fault::InputTwice
+            | Fault::TwoKinds
+            | Fault::TwoAnswers
+            | Fault::NoPicture
+            | Fault::NoCosts
+            | Fault::NoMachine
+            | Fault::TakesPlace(_)
+            | Fault::NoPlace(_) => ErrorKind::ArgumentConflict,
+        }
     }
 }
 
-/// The error of a fault, with the usage of the subcommand of that name.
-pub fn error_with_usage(alloc: Global, name: &str, fault: &Fault<'_>) -> Result<Error, AllocError>
-    ensures { IfOk result (λ error. kind_of error ≡ fault_kind fault.now) }
-{
-    let text = fault.text(alloc)?;
-    let mut command = subcommand_named(alloc, name)?;
-    command.error(kind_of(fault), text.as_str())
+impl fmt::Display for Fault<'_> {
+    fn fmt<W: fmt::Write>(&self, f: &mut fmt::Formatter<W>) -> fmt::Result {
+        if let Some((option, word, values)) = self.value() {
+            return write!(f, "invalid value '{word}' for '--{option}'\n  [possible values: {values}]");
+        }
+        match *self {
+            Fault::AtMost(word) => {
+                write!(f, "invalid value '{word}' for '--at-most <N>': no number below 2^64")
+            }
+            Fault::Name(word) => {
+                write!(f, "invalid value '{word}' for '--name <NAME>': no C identifier of at most 32 bytes")
+            }
+            Fault::First(word) => {
+                write!(f, "invalid value '{word}' for '--first <K>': no number below that of --entries")
+            }
+            Fault::Number { option, word } => {
+                write!(f, "invalid value '{word}' for '--{option} <N>': no number below 2^64")
+            }
+            Fault::Monitor(word) => {
+                write!(f, "invalid value '{word}' for '--monitor <BASE> <SIZE>': no number below 2^64")
+            }
+            Fault::TakesPlace(map) => {
+                write!(f, "the certificate would take the place of the map '{map}'")
+            }
+            Fault::NoPlace(said) => f.write_str(said),
+            _ => f.write_str(self.sentence()),
+        }
+    }
 }
 
-/// The error of a certificate that would take the place of its map, under another name of the same file.
-pub fn takes_place(alloc: Global, map: &str) -> Result<Error, AllocError>
-    ensures { IfOk result (λ error. kind_of error ≡ ArgumentConflict) }
-{
-    error_with_usage(alloc, "plan", &Fault::TakesPlace(map))
-}
-
-/// The error of a certificate that cannot be written where it is asked for, which is said in that text.
-pub fn no_certificate(alloc: Global, text: &str) -> Result<Error, AllocError>
-    ensures { IfOk result (λ error. kind_of error ≡ ArgumentConflict) }
-{
-    let mut command = subcommand_named(alloc, "plan")?;
-    command.error(ErrorKind::ArgumentConflict, text)
-}
-
-/// The error of two inputs of that subcommand that are both standard input.
-pub fn reads_twice(alloc: Global, name: &str) -> Result<Error, AllocError>
-    ensures { IfOk result (λ error. kind_of error ≡ ArgumentConflict) }
-{
-    error_with_usage(alloc, name, &Fault::InputTwice)
+impl Fault<'_> {
+    /// What is said of a fault that quotes no word.
+    fn sentence(&self) -> &'static str {
+        match self {
+            Fault::InputTwice => "standard input, '-', cannot be read twice",
+            Fault::TwoKinds => "the argument '--registers' cannot be used with '--trace'",
+            Fault::TwoAnswers => "the argument '--explain' cannot be used with '--expect'",
+            Fault::PlatformAlone => {
+                "the argument '--platform <PLATFORM>' cannot be used without '--trace'"
+            }
+            Fault::NoPicture => {
+                "'--format svg' and '--format json' are for a map, and cannot be used with '--registers'"
+            }
+            Fault::NoCosts => {
+                "'--costs' is for the text of a map, and cannot be used with '--registers', '--format svg' or '--format json'"
+            }
+            Fault::NoMachine => "'--mode m' is for registers, and cannot be used without '--registers'",
+            Fault::Pages => {
+                "an enclave has 1 to 1024 pages of text and data, 1 of text at least, and at most 256 shared"
+            }
+            Fault::EntryOffset => "'--entry <N>' has to be even and less than the bytes of the text",
+            Fault::MonitorPages => {
+                "'--monitor <BASE> <SIZE>' has to be whole pages of 4096 bytes, one at least, and none past 2^56"
+            }
+            _ => "a required argument is missing",
+        }
+    }
 }

@@ -1,60 +1,46 @@
-//! The values of a subcommand, as `clap` found them.
+//! What `clap` found among the words of a subcommand.
 
-ghost use Rattle.std.specs.Prelude.{◌≡◌, option_map};
-ghost use Rattle.clap.specs.Words.{first_of, found_of, one_of, rows_of};
-ghost use Rattle.command_line.specs.CommandLine.{second_of, value_of};
+ghost use Rattle.std.specs.Prelude.{◌≡◌, ◌↔◌, Some, codes, option_map, true};
+ghost use Rattle.clap.specs.Words.{first_of, found_of, rows_of};
+ghost use Rattle.command_line.specs.Given.{flags_of, second_of, values_of};
 
+use crate::monitor::SIZE_NAME;
 use clap::ArgMatches;
-use program_tasks::{SIZE_NAME, Values};
 
-/// What `clap` found among the words of a subcommand.
-#[derive(Clone, Copy)]
-pub struct Found<'m, 'a> {
-    matches: &'m ArgMatches<'a>,
+/// The first value of the argument of that name.
+fn first_in<'a>(given: &ArgMatches<'a>, name: &str) -> Option<&'a str>
+    ensures { option_map (λ s. s.now) result
+        ≡ first_of name.now (rows_of (found_of given.now)) }
+{
+    given.get_str(name)
 }
 
-impl<'m, 'a> Found<'m, 'a> {
-    /// What these matches hold.
-    pub fn new(matches: &'m ArgMatches<'a>) -> Found<'m, 'a>
-        ensures { result.matches ≡ matches.entry }
-    {
-        Found { matches }
-    }
-
-    /// The first value of the argument of that name.
-    fn first(&self, name: &str) -> Option<&'a str>
-        ensures { option_map (λ s. s.now) result
-            ≡ first_of name.now (rows_of (found_of self.now.matches.now)) }
-    {
-        self.matches.get_str(name)
-    }
-
-    /// The second value of the argument of that name.
-    fn second(&self, name: &str) -> Option<&'a str>
-        ensures { option_map (λ s. s.now) result
-            ≡ second_of name.now (rows_of (found_of self.now.matches.now)) }
-    {
-        let Some(values) = self.matches.get_strs(name) else {
-            return None;
-        };
-        values.get(1).copied()
-    }
+/// The second value of the argument of that name.
+fn second_in<'a>(given: &ArgMatches<'a>, name: &str) -> Option<&'a str>
+    ensures { option_map (λ s. s.now) result
+        ≡ second_of name.now (rows_of (found_of given.now)) }
+{
+    let Some(values) = given.get_strs(name) else {
+        return None;
+    };
+    values.get(1).copied()
 }
 
-impl<'a> Values<'a> for Found<'_, 'a> {
-    ghost value = { λ found name. value_of (rows_of (found_of found.matches.now)) name };
-
-    ghost flag = { λ found name. one_of name (rows_of (found_of found.matches.now)) };
-
-    fn value(&self, name: &str) -> Option<&'a str> {
-        if name == SIZE_NAME {
-            return self.second("monitor");
-        }
-        self.first(name)
+/// The value of the argument of that name, where it has one.
+#[tactic(auto, unfolding(crate::specs::Given::values_of))]
+pub(crate) fn word_in<'a>(given: &ArgMatches<'a>, name: &str) -> Option<&'a str>
+    ensures { option_map (λ s. s.now) result ≡ values_of given.now name.now }
+{
+    if name == SIZE_NAME {
+        return second_in(given, "monitor");
     }
+    first_in(given, name)
+}
 
-    fn is_given(&self, name: &str) -> bool {
-        let given: Option<bool> = self.matches.get_one(name);
-        given.unwrap_or(false)
-    }
+/// Whether the flag of that name was given.
+pub(crate) fn is_given(given: &ArgMatches<'_>, name: &str) -> bool
+    ensures { (result ≡ true) ↔ (flags_of given.now name.now ≡ Some (codes "true")) }
+{
+    let flag: Option<bool> = given.get_one(name);
+    flag.unwrap_or(false)
 }

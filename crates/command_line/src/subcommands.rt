@@ -1,15 +1,14 @@
 //! The program's subcommands, as `clap` gets them.
 
-ghost use Rattle.std.specs.Prelude.{◌≡◌, IfOk};
-ghost use Rattle.clap.specs.Words.{app_of, new_app};
-ghost use Rattle.command_line.specs.CommandLine.{app_named, bare_app, program_app};
-ghost use Rattle.command_line.specs.ClapModel.{app_by, with_arguments, IsCommandOf};
+ghost use Rattle.std.specs.Prelude.{IfOk};
+ghost use Rattle.clap.specs.Words.{new_app};
+ghost use Rattle.command_line.specs.CommandLine.{app_by, bare_app, program_app, with_arguments, IsCommandOf};
 
 use crate::arguments::Argument;
 use crate::table::{Row, row_of};
 use crate::texts::{ABOUT, EXAMPLE, VERSION};
 use clap::Command;
-use program_tasks::{SUBCOMMANDS, Subcommand};
+use crate::task::{SUBCOMMANDS, Subcommand};
 use std::alloc::{AllocError, Global};
 
 /// A command without arguments, with its texts for help.
@@ -66,10 +65,7 @@ pub fn program<'a>(alloc: Global) -> Result<Command<'a>, AllocError>
 }
 
 /// The subcommand of that name as the program calls it, and the program itself where it has none of that name.
-#[tactic(auto, using(crate::proofs::Named::named, crate::proofs::Named::not_named))]
-pub fn subcommand_named<'a>(alloc: Global, name: &str) -> Result<Command<'a>, AllocError>
-    ensures { IfOk result (λ c. app_of c ≡ app_named name.now) }
-{
+pub fn subcommand_named<'a>(alloc: Global, name: &str) -> Result<Command<'a>, AllocError> {
     let Some(subcommand) = Subcommand::of(name) else {
         return program(alloc);
     };

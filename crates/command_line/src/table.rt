@@ -3,14 +3,14 @@
 
 ghost use Rattle.std.specs.Prelude.{◌≡◌};
 ghost use Rattle.clap.specs.Words.{new_app};
-ghost use Rattle.program_tasks.specs.Subcommands.{subcommand_word};
-ghost use Rattle.command_line.specs.ClapModel.{app_by, with_arguments};
+ghost use Rattle.command_line.specs.CommandLine.{app_by, with_arguments};
+ghost use Rattle.command_line.specs.Subcommands.{subcommand_word};
 
 use crate::arguments::{
     ALL, AT_MOST, Argument, COSTS, DATA, ENTRIES, ENTRY, EXPECT, EXPLAIN, FIRST, FORMAT, HINTS,
     MEASURE, MODE, MONITOR, NAME, PLATFORM, SHARED, TABLE_FORMAT, TEXT, TRACE, XLEN,
 };
-use program_tasks::Subcommand;
+use crate::task::Subcommand;
 
 /// What help says of a subcommand, and its arguments.
 #[derive(Clone, Copy)]

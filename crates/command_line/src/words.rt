@@ -1,29 +1,15 @@
 //! What the words of a command line ask for.
 
 ghost use Rattle.std.specs.Prelude.{◌≡◌, IfErr, IfOk, [], map};
-ghost use Rattle.clap.specs.Words.{fault_of, kind_of, subcommand_of, subcommand_rows_of};
-ghost use Rattle.program_tasks.specs.Tasks.{IsSound};
-ghost use Rattle.command_line.specs.CommandLine.{program_app, AreNone, IsFaultIn, IsRequest, Refuses};
+ghost use Rattle.clap.specs.Words.{fault_of, kind_of, subcommand_of};
+ghost use Rattle.command_line.specs.Tasks.{IsSound};
+ghost use Rattle.command_line.specs.CommandLine.{program_app, IsRequest, Refuses};
 
-use crate::fault::error_with_usage;
-use crate::found::Found;
+use crate::request::{Request, request_in};
 use crate::subcommands::program;
-use clap::{ArgMatches, Error};
-use program_tasks::{Fault, Request, request_of};
+use crate::usage::error_with_usage;
+use clap::Error;
 use std::alloc::Global;
-
-/// The request of the subcommand that was entered.
-fn request_in<'a>(matches: &ArgMatches<'a>) -> Result<Request<'a>, Fault<'a>>
-    ensures request { IfOk result (IsRequest (subcommand_rows_of matches.now)) }
-    ensures sound { IfOk result (λ request. IsSound request.task request.options) }
-    ensures refused { IfErr result (λ _. AreNone (subcommand_rows_of matches.now)) }
-    ensures fault { IfErr result (IsFaultIn (subcommand_rows_of matches.now)) }
-{
-    let Some((name, found)) = matches.subcommand() else {
-        return Err(Fault::Missing);
-    };
-    request_of(name, &Found::new(found))
-}
 
 /// The task that the words of a command line name, and how it is done; the first word is the program's own.
 ///

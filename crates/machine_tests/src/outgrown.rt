@@ -3,7 +3,7 @@
 use crate::machines::example_machine;
 use byte_streams::Direct;
 use byte_streams::fakes::{PieceSink, PieceSource};
-use explained_runs::explain_run;
+use trace_answers::explain_run;
 use std::alloc::Global;
 use std::process::Abort;
 

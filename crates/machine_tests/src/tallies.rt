@@ -3,7 +3,7 @@
 use crate::machines::example_machine;
 use byte_streams::Direct;
 use byte_streams::fakes::{PieceSink, PieceSource};
-use explained_runs::{Tally, asked_of, explain_run, print_summary};
+use trace_answers::{Tally, asked_of, explain_run, print_summary};
 use hart_sim::Machine;
 use std::alloc::Global;
 use std::process::Abort;

@@ -1,22 +1,50 @@
--- How a trouble that is printed ends.
-use Rattle.std.proofs.Common.{◌≡◌, ◌∙◌, ◌==◌, ℕ, Bool, true, List, [], ◌∷◌, length, Result, Ok, Err, sym, arith}
-use Rattle.std.proofs.lemmas.Bool.{eqb-true}
-use Rattle.byte_streams.specs.Writings.{IsUnwritten, Prints, Writing}
-use Rattle.command_inputs.specs.declared.trouble.Trouble.{Trouble}
-use Rattle.command_inputs.specs.Troubles.{trouble_text}
-use Rattle.monitor_cli.specs.Programs.{SaysNotes, Tells, cut, nothing, part, told, whole}
+-- How runs over lines and plans end.
+use Rattle.std.proofs.Common.{ℕ, ◌-◌, ◌≡◌, ◌≤◌, ◌⊎◌, inl, inr, List, Option, Some, None, Result, Ok, Err, IfErr, arith, refl}
+use Rattle.std.specs.Result.{MatchResult}
+use Rattle.text_lines.specs.declared.fault.RunFault.{RunFault}
+use Rattle.text_lines.specs.declared.fault.RunFault.TheVariants as runs
+use Rattle.text_lines.specs.LineLoop.{Meaning, StopsAt, StopsForMemory, StopsReading, StopsTooLong, StopsWriting}
+use Rattle.program_files.specs.declared.trouble.Trouble.{Trouble}
+use Rattle.pmp_encoding.specs.declared.limit.Limit.{Limit}
+use Rattle.pmp_encoding.specs.Limits.{limit_number}
+use Rattle.command_line.specs.declared.options.Format.TheVariants as formats
+use Rattle.monitor_cli.specs.CertifiedPlan.{IsWithin}
+use Rattle.monitor_cli.specs.Plan.{most_entries}
+use Rattle.monitor_cli.specs.Stops.{Stops}
 
-pub tells : {E X Y : Type 0} (err : Writing E) (trouble : Trouble) (printed : Result X Y) → Prints (trouble_text trouble) err printed → Tells err (Err trouble)
-tells err trouble (Ok x) taken = told trouble taken.whole
-tells err trouble (Err y) broken = cut trouble broken
+pub stops :
+    {S : Type 0} (does : Meaning S) (refuses : S → List ℕ → Type 0) (starves : S → List ℕ → S → Type 0) (old new : S)
+    (before after held holds : Option (List ℕ)) (fault : RunFault)
+    → ((n : ℕ) → fault ≡ runs.Line n → StopsAt n does refuses old new before after held holds)
+    → (fault ≡ runs.TooLong → StopsTooLong does old new before after held holds)
+    → (fault ≡ runs.Read → StopsReading does old new before after held holds)
+    → (fault ≡ runs.Write → StopsWriting does old new before after held holds)
+    → (fault ≡ runs.Memory → StopsForMemory does starves old new before after held holds)
+    → Stops does refuses starves old new before after held holds fault
+stops does refuses starves old new before after held holds (runs.Line n) line long read write memory = line n refl
+stops does refuses starves old new before after held holds runs.TooLong line long read write memory = long refl
+stops does refuses starves old new before after held holds runs.Read line long read write memory = read refl
+stops does refuses starves old new before after held holds runs.Write line long read write memory = write refl
+stops does refuses starves old new before after held holds runs.Memory line long read write memory = memory refl
 
--- what is said beside a status is written so
-pub says_notes : {E X Y : Type 0} (err : Writing E) (notes : List ℕ) (printed : Result X Y) → Prints notes err printed → SaysNotes err notes
-says_notes err notes (Ok x) taken = whole notes taken
-says_notes err notes (Err y) broken = part notes broken
+-- a run whose fault is told as a trouble ended well where there is none, and otherwise with the fault
+pub went_well : {X : Type 0} (x : X) (end : Result X RunFault)
+    → MatchResult end (λ (y : X). ◌≡◌ {A = Result X Trouble} (Ok x) (Ok y)) (λ fault. ⊥) → end ≡ Ok x
+went_well x (Ok y) told = cc (told)
+went_well x (Err fault) told = absurd told
 
--- and nothing where nothing is said
-pub says_nothing : {E : Type 0} (err : Writing E) (notes : List ℕ) (empty : Bool) → empty ≡ (length notes == 0) → empty ≡ true → IsUnwritten err
-    → SaysNotes err notes
-says_nothing err [] empty is holds same = nothing same
-says_nothing err (byte ∷ notes) empty is holds same = let none = eqb-true (length (byte ∷ notes)) 0 (sym is ∙ holds) in absurd (omega (arith, none))
+pub went_wrong : {X : Type 0} (trouble : Trouble) (IsTold : RunFault → Type 0) (end : Result X RunFault)
+    → MatchResult end (λ (y : X). ◌≡◌ {A = Result X Trouble} (Err trouble) (Ok y)) IsTold
+    → (fault : RunFault) × (end ≡ Err fault) × IsTold fault
+went_wrong trouble IsTold (Ok y) told = cc (told)
+went_wrong trouble IsTold (Err fault) told = (fault, refl, told)
+
+-- what is within the bound of C and of assembly fits the hart
+pub fits_c : (limit : Limit) (first : ℕ) (at_most : Option ℕ) (n : ℕ) → IsWithin (most_entries limit first at_most formats.C) n → n ≤ limit_number limit - first
+fits_c limit first None n h = h
+fits_c limit first (Some most) n h = omega (arith, h)
+
+pub fits_asm : (limit : Limit) (first : ℕ) (at_most : Option ℕ) (n : ℕ) → IsWithin (most_entries limit first at_most formats.Asm) n
+    → n ≤ limit_number limit - first
+fits_asm limit first None n h = h
+fits_asm limit first (Some most) n h = omega (arith, h)

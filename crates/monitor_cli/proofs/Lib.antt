@@ -1,6 +1,10 @@
 pub mod Ends
-pub mod OnFiles
-pub mod RunEnds
+pub mod FarPages
+pub mod Judgements
+pub mod ListingTroubles
 pub mod Live
-pub mod HintTexts
-pub mod Refusals
+pub mod MapEnds
+pub mod Names
+pub mod PlanCertificates
+pub mod PlatformRefusals
+pub mod RunEnds

@@ -1,6 +1,5 @@
--- What `run` comes to, on the files and streams that are lent for it: a rule for each way in which
--- it ends.
-use Rattle.std.specs.Prelude.{◌≡◌, ℕ, ◌≤◌, Bool, true, false, List, [], Option, Some, Result, Ok}
+-- What `run` comes to, on the files and streams that are lent for it.
+use Rattle.std.specs.Prelude.{◌≡◌, ℕ, ◌≤◌, Bool, true, false, List, Option, Some, Result, Ok}
 use Rattle.std.specs.Prelude.{Err}
 use Rattle.std.specs.Borrow.{Bor}
 use Rattle.std.specs.Io.KnownBytes.{Appends}
@@ -13,22 +12,20 @@ use Rattle.platforms.specs.Platform.{PlatformLayout}
 use Rattle.platforms.specs.declared.boot_fault.BootFault.{BootFault}
 use Rattle.hart_sim.specs.declared.machine.Machine.{Machine}
 use Rattle.hart_sim.specs.After.{IsBooted}
-use Rattle.hart_sim.specs.Machines.{kept_of, state_of}
+use Rattle.hart_sim.specs.Machines.{kept_of}
 use Rattle.hart_sim.specs.Reports.{DoesLine, RefusesLine, StarvesLine}
-use Rattle.trace_answers.specs.Comparisons.{ComparesAll}
-use Rattle.explained_runs.specs.Accounts.{Account, ExplainsLine, RefusesAccount, StarvesAccount}
-use Rattle.explained_runs.specs.Accounts.{opened}
-use Rattle.explained_runs.specs.Summaries.{summary_text}
-use Rattle.program_tasks.specs.declared.options.Answers.{Answers}
-use Rattle.program_tasks.specs.declared.options.Answers.TheVariants as answers
-use Rattle.command_inputs.specs.declared.trouble.Trouble.{Trouble}
-use Rattle.command_inputs.specs.declared.trouble.Trouble.TheVariants.{Output}
-use Rattle.command_inputs.specs.Troubles.{boot_trouble, run_trouble}
-use Rattle.command_inputs.specs.Inputs.{IsUnread, Reading}
-use Rattle.command_inputs.specs.PlatformInputs.{HasNoPlatform, HasPlatform}
-use Rattle.commands.specs.Answered.{Noting, Said}
-use Rattle.commands.specs.Expected.{IsTold}
-use Rattle.commands.specs.Stops.{Stops}
+use Rattle.trace_answers.specs.Comparisons.{ComparesAll, LineAnswer}
+use Rattle.trace_answers.specs.Explained.{explaining}
+use Rattle.command_line.specs.declared.options.Answers.{Answers}
+use Rattle.command_line.specs.declared.options.Answers.TheVariants as answers
+use Rattle.program_files.specs.declared.trouble.Trouble.{Trouble}
+use Rattle.program_files.specs.declared.trouble.Trouble.TheVariants.{Output}
+use Rattle.program_files.specs.Troubles.{run_trouble}
+use Rattle.monitor_cli.specs.Platforms.{boot_trouble}
+use Rattle.program_files.specs.Reading.{IsUnread, Reading}
+use Rattle.monitor_cli.specs.Platforms.{HasNoPlatform, HasPlatform}
+use Rattle.monitor_cli.specs.Expected.{IsTold}
+use Rattle.monitor_cli.specs.Stops.{Stops}
 use Rattle.monitor_cli.specs.Measurements.{AreMeasures}
 
 -- the measurements of a machine's live enclaves were written where they are asked for, and
@@ -62,56 +59,50 @@ pub data RunsTrace {R W : Type 0} (does : Meaning Machine) (booted : Machine) (t
       → second.failed ≡ second.failures → WriteFails out.failures out.failed out.stalls out.stalled
       → RunsTrace does booted trace measure second out (Err Output)
 
--- the summary of what happened to a machine, and of the machine after it
-abbrev pub summary_of : Account → List ℕ
-summary_of ended = summary_text ended.happened (state_of ended.machine)
-
 -- a trace happens so and a comment after each answer says what happened: after the report come
--- the measurements, and last the summary
-pub data RunsExplaining {R W : Type 0} (booted : Machine) (trace : Bor (List ℕ)) (measure : Bool)
-    (second : Reading R) (out : Writing W) : Result ℕ Trouble → Type 0 where
+-- the measurements, and last a summary
+pub data RunsExplaining {R W : Type 0} (does : Meaning Machine) (booted : Machine)
+    (trace : Bor (List ℕ)) (measure : Bool) (second : Reading R) (out : Writing W) : Result ℕ Trouble
+    → Type 0 where
   explained :
-      (ended : Account) (report measured : Option (List ℕ))
-      → DoesAll ExplainsLine (opened booted) ended second.before second.after out.before report
-      → IsMeasured measure ended.machine report measured
-      → Appends measured out.after (summary_of ended) → second.failed ≡ second.failures
-      → IsWell out
-      → RunsExplaining booted trace measure second out (Ok 0)
+      (ended : Machine) (report measured : Option (List ℕ)) (summary : List ℕ)
+      → DoesAll does booted ended second.before second.after out.before report
+      → IsMeasured measure ended report measured → Appends measured out.after summary
+      → second.failed ≡ second.failures → IsWell out
+      → RunsExplaining does booted trace measure second out (Ok 0)
   stopped :
-      (ended : Account) (fault : RunFault)
-      → Stops ExplainsLine RefusesAccount StarvesAccount (opened booted) ended second.before
-      second.after out.before out.after fault
+      (ended : Machine) (fault : RunFault)
+      → Stops does RefusesLine StarvesLine booted ended second.before second.after out.before
+      out.after fault
       → CountsReads (Err fault) second.failures second.failed
       → CountsWrites (Err fault) out.failures out.failed out.stalls out.stalled
-      → RunsExplaining booted trace measure second out (Err (run_trouble trace fault))
+      → RunsExplaining does booted trace measure second out (Err (run_trouble trace fault))
   not_all_measured :
-      (ended : Account) (report : Option (List ℕ)) (n : ℕ) (text : List ℕ) → measure ≡ true
-      → DoesAll ExplainsLine (opened booted) ended second.before second.after out.before report
-      → n ≤ 64 → AreMeasures (kept_of ended.machine).table n text
-      → TakesPart text report out.after
+      (ended : Machine) (report : Option (List ℕ)) (n : ℕ) (text : List ℕ) → measure ≡ true
+      → DoesAll does booted ended second.before second.after out.before report → n ≤ 64
+      → AreMeasures (kept_of ended).table n text → TakesPart text report out.after
       → second.failed ≡ second.failures → WriteFails out.failures out.failed out.stalls out.stalled
-      → RunsExplaining booted trace measure second out (Err Output)
+      → RunsExplaining does booted trace measure second out (Err Output)
   not_summed_up :
-      (ended : Account) (report measured : Option (List ℕ))
-      → DoesAll ExplainsLine (opened booted) ended second.before second.after out.before report
-      → IsMeasured measure ended.machine report measured
-      → TakesPart (summary_of ended) measured out.after
+      (ended : Machine) (report measured : Option (List ℕ)) (summary : List ℕ)
+      → DoesAll does booted ended second.before second.after out.before report
+      → IsMeasured measure ended report measured → TakesPart summary measured out.after
       → second.failed ≡ second.failures → WriteFails out.failures out.failed out.stalls out.stalled
-      → RunsExplaining booted trace measure second out (Err Output)
+      → RunsExplaining does booted trace measure second out (Err Output)
 
 -- a trace happens so and its answers are compared with those that its comments say: where one
 -- differs, the first that does is reported after the report and the measurements, and the status is
--- 1; beside it comes which comments look like an answer and are none
+-- 1
 pub data RunsExpecting {R W : Type 0} (does : Meaning Machine) (booted : Machine)
-    (trace : Bor (List ℕ)) (measure : Bool) (second : Reading R) (out : Writing W) : Said
+    (trace : Bor (List ℕ)) (measure : Bool) (second : Reading R) (out : Writing W) : Result ℕ Trouble
     → Type 0 where
   compared :
-      (ended : Machine) (report measured difference : Option (List ℕ)) (note : List ℕ)
+      (ended : Machine) (report measured : Option (List ℕ)) (difference : Option LineAnswer)
       (status : ℕ)
-      → ComparesAll does booted ended second.before second.after out.before report difference note
+      → ComparesAll does booted ended second.before second.after out.before report difference
       → IsMeasured measure ended report measured → IsTold difference measured out.after status
       → second.failed ≡ second.failures → IsWell out
-      → RunsExpecting does booted trace measure second out (Ok (status, note))
+      → RunsExpecting does booted trace measure second out (Ok status)
   unfinished :
       (ended : Machine) (fault : RunFault)
       → Stops does RefusesLine StarvesLine booted ended second.before second.after out.before
@@ -120,15 +111,15 @@ pub data RunsExpecting {R W : Type 0} (does : Meaning Machine) (booted : Machine
       → CountsWrites (Err fault) out.failures out.failed out.stalls out.stalled
       → RunsExpecting does booted trace measure second out (Err (run_trouble trace fault))
   unmeasured :
-      (ended : Machine) (report difference : Option (List ℕ)) (n : ℕ) (text note : List ℕ)
-      → measure ≡ true
-      → ComparesAll does booted ended second.before second.after out.before report difference note
+      (ended : Machine) (report : Option (List ℕ)) (difference : Option LineAnswer) (n : ℕ)
+      (text : List ℕ) → measure ≡ true
+      → ComparesAll does booted ended second.before second.after out.before report difference
       → n ≤ 64 → AreMeasures (kept_of ended).table n text → TakesPart text report out.after
       → second.failed ≡ second.failures → WriteFails out.failures out.failed out.stalls out.stalled
       → RunsExpecting does booted trace measure second out (Err Output)
   not_told :
-      (ended : Machine) (report measured : Option (List ℕ)) (text note : List ℕ)
-      → ComparesAll does booted ended second.before second.after out.before report (Some text) note
+      (ended : Machine) (report measured : Option (List ℕ)) (found : LineAnswer) (text : List ℕ)
+      → ComparesAll does booted ended second.before second.after out.before report (Some found)
       → IsMeasured measure ended report measured → TakesPart text measured out.after
       → second.failed ≡ second.failures
       → WriteFails out.failures out.failed out.stalls out.stalled
@@ -137,19 +128,19 @@ pub data RunsExpecting {R W : Type 0} (does : Meaning Machine) (booted : Machine
 -- a trace happens to a machine; with `--explain` a comment after each answer says what happened,
 -- and the summary comes last; with `--expect` the answers are compared
 abbrev pub RunsTraceAs : {R W : Type 0} → Answers → Machine → Bor (List ℕ) → Bool → Reading R
-    → Writing W → Said → Type 0
+    → Writing W → Result ℕ Trouble → Type 0
 RunsTraceAs answers.Plain booted trace measure second out done =
-    Noting [] (RunsTrace DoesLine booted trace measure second out) done
+    RunsTrace DoesLine booted trace measure second out done
 RunsTraceAs answers.Explained booted trace measure second out done =
-    Noting [] (RunsExplaining booted trace measure second out) done
+    RunsExplaining (explaining DoesLine) booted trace measure second out done
 RunsTraceAs answers.Compared booted trace measure second out done =
     RunsExpecting DoesLine booted trace measure second out done
 
 -- `run`: the platform is read and booted, and then the trace happens to its machine
 pub data Runs {R W : Type 0} (answers : Answers) (file trace : Bor (List ℕ)) (measure : Bool)
-    (first second : Reading R) (out : Writing W) : Said → Type 0 where
+    (first second : Reading R) (out : Writing W) : Result ℕ Trouble → Type 0 where
   ran :
-      (platform : PlatformLayout) (booted : Machine) (result : Said)
+      (platform : PlatformLayout) (booted : Machine) (result : Result ℕ Trouble)
       → HasPlatform first platform → IsBooted platform booted
       → RunsTraceAs answers booted trace measure second out result
       → Runs answers file trace measure first second out result

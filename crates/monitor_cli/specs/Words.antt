@@ -2,9 +2,9 @@
 use Rattle.std.specs.Prelude.{List, Option}
 use Rattle.clap.specs.Words.{Row, Text}
 use Rattle.command_line.specs.CommandLine.{IsRequest}
-use Rattle.program_tasks.specs.declared.options.Options.{Options}
-use Rattle.program_tasks.specs.declared.task.Task.{Task}
-use Rattle.program_tasks.specs.Tasks.{IsSound}
+use Rattle.command_line.specs.declared.options.Options.{Options}
+use Rattle.command_line.specs.declared.task.Task.{Task}
+use Rattle.command_line.specs.Tasks.{IsSound}
 
 -- the task is the subcommand that was entered, with the values of its rows, and with some options
 -- it is sound

@@ -1,73 +1,58 @@
 //! Hints: what is wrong with the inputs of a task that ended for bad input, line by line, as `lint` says it.
 
-ghost use Rattle.std.specs.Prelude.{◌≡◌, ℕ, ◌≤◌, ◌-◌, ◌^◌, ◌<◌, IfOk, IfSome, None, option_map, length};
-ghost use Rattle.enclave_table.specs.Boot.{IsBootFault};
-ghost use Rattle.hart_sim.specs.After.{IsBooted};
-ghost use Rattle.byte_streams.specs.Writings.{writing};
-ghost use Rattle.command_inputs.specs.Inputs.{reading};
-ghost use Rattle.commands.specs.Lint.{names_platform};
-ghost use Rattle.monitor_cli.specs.Hints.{named_kind, AreMapHints, AreRunHints, HasFileHints, HasHints, HasLintHints, HasMapHints, HasRunHints, HasSizeHints, HasSourceHints, HasTaskHints, InOrder, boot_hint, PrintsHints};
-
-use crate::forms::{Form, hints_for, hints_in_order, hints_of};
-use crate::needs::{Bounds, bank_bounds, boot_hint, need_hint, plan_bounds, table_bounds};
-use crate::sizes::{FileKind, FileOrHint, bytes_or_hint, size_hints};
+use crate::certified_plan::plan_within;
+use crate::forms::{
+    FileOrHint, Form, Hint, bytes_or_hint, hint_of, hints_for, hints_of, size_hint,
+};
+use crate::lint::names_platform;
+use crate::plan::most_entries;
+use crate::platform_inputs::platform_in;
 use board_texts::is_tree;
 use byte_streams::{Sink, Source, write_whole};
-use command_inputs::{Trouble, platform_in};
-use commands::{names_platform, needed_by};
+use command_line::{LintKind, Options, Request, Task};
 use input_files::Taker;
 use hart_sim::Machine;
 use platforms::{BootFault, Platform};
-use pmp_encoding::Xlen;
-use program_tasks::{LintKind, Request, Task};
-use std::alloc::{AllocError, Global};
+use pmp_encoding::{Limit, Xlen};
+use printed_lines::room_from;
+use program_files::{Trouble, map_by};
+use std::alloc::Global;
 
-/// The hint of a platform that does not boot, and none where it does.
-fn hint_of_boot(
-    alloc: Global,
-    name: &str,
-    platform: Platform,
-) -> Result<Option<Vec<u8>>, Trouble<'static>>
-    ensures boots { IfOk result (λ hint.
-        hint ≡ None → (machine : Machine) × IsBooted platform machine) }
-    ensures needs { IfOk result (λ hint. IfSome hint (λ text. (n : ℕ)
-        × IsBootFault platform (BootFault.NeedsMoreEntries n)
-        × (text.items ≡ boot_hint name.now platform n))) }
-{
+/// How many entries a map may need.
+#[derive(Clone, Copy)]
+struct Bounds {
+    /// This many at most, where there is a bound.
+    most: Option<u64>,
+    /// This many have configuration words, where these are printed for no more.
+    words: Option<u64>,
+}
+
+/// The hint of a map that needs this many entries, where that is more than it may, or than configuration words have room for.
+fn need_hint(alloc: Global, name: &str, bounds: Bounds, needed: u64) -> Hint<'static> {
+    let entries = if needed == 1 { "entry" } else { "entries" };
+    let said = match (bounds.most, bounds.words) {
+        (Some(most), _) if most < needed => {
+            format!(in alloc; ": needs {needed} {entries}, at most {most}\n")?
+        }
+        (_, Some(there)) if there < needed => {
+            format!(in alloc; ": needs {needed} {entries}, {there} are there: no configuration words\n")?
+        }
+        _ => return Ok(None),
+    };
+    Ok(Some(hint_of(alloc, name, said.as_bytes())?))
+}
+
+/// The hint of a platform that does not boot.
+fn boot_hint(alloc: Global, name: &str, platform: Platform) -> Hint<'static> {
     let limit = platform.limit();
     match Machine::boot(alloc, platform) {
         Ok(_) => Ok(None),
         Err(BootFault::NeedsMoreEntries(needed)) => {
-            Ok(Some(boot_hint(alloc, name, needed, limit)?))
+            let most = Some(u64::from(limit.number()));
+            need_hint(alloc, name, Bounds { most, words: None }, needed)
         }
         Err(BootFault::Memory) => Err(Trouble::Memory),
     }
-}
-
-/// The hints of `run` for the bytes of its platform: what is wrong with them; where they are right that it does not boot; and
-/// otherwise those of its trace.
-fn hints_by_platform<'a, R: Source>(
-    alloc: Global,
-    platform: &'a str,
-    trace: &'a str,
-    text: &[u8],
-    second: &mut R,
-) -> Result<Option<Vec<u8>>, Trouble<'a>>
-    requires { length text.now < 2 ^ 64 - 1 }
-    ensures { IfOk result (λ hints. AreRunHints platform.entry.now text.now trace.entry.now
-        (reading R.remaining R.failures second.old second.new)
-        (option_map (λ said. said.items) hints)) }
-{
-    if let Some(hints) = hints_for(alloc, Form::Platform, platform, text)? {
-        return Ok(Some(hints));
-    }
-    let layout = platform_in(alloc, platform, text)?;
-    let harts = layout.harts();
-    if let Some(hint) = hint_of_boot(alloc, platform, layout)? {
-        return Ok(Some(hint));
-    }
-    let taker = Taker::Run { harts };
-    hints_of(alloc, Form::Trace { taker }, trace, second)
 }
 
 /// The hints of `run`: those of its platform; where it is right that it does not boot; and otherwise those of its trace.
@@ -77,37 +62,30 @@ fn hints_of_run<'a, R: Source>(
     trace: &'a str,
     first: &mut R,
     second: &mut R,
-) -> Result<Option<Vec<u8>>, Trouble<'a>>
-    ensures { let source = reading R.remaining R.failures in
-        IfOk result (λ hints. HasRunHints platform.entry.now trace.entry.now
-        (source first.old first.new) (source second.old second.new)
-        (option_map (λ text. text.items) hints)) }
-{
-    match bytes_or_hint(alloc, FileKind::Platform, platform, first)? {
-        FileOrHint::Bytes(bytes) => {
-            hints_by_platform(alloc, platform, trace, bytes.as_slice(), second)
-        }
-        FileOrHint::Hint(hint) => Ok(Some(hint)),
-    }
-}
-
-/// The hints of a map's bytes: what is wrong with them, or that their map needs more entries than it may.
-fn hints_of_map_text<'a>(
-    alloc: Global,
-    name: &'a str,
-    bounds: Bounds,
-    text: &[u8],
-) -> Result<Option<Vec<u8>>, Trouble<'a>>
-    requires { length text.now < 2 ^ 64 - 1 }
-    ensures { IfOk result (λ hints. AreMapHints name.entry.now text.now bounds
-        (option_map (λ said. said.items) hints)) }
-{
-    if let Some(hints) = hints_for(alloc, Form::Map, name, text)? {
+) -> Hint<'a> {
+    let bytes = match bytes_or_hint(alloc, Form::Platform, platform, first)? {
+        FileOrHint::Bytes(bytes) => bytes,
+        FileOrHint::Hint(hint) => return Ok(Some(hint)),
+    };
+    if let Some(hints) = hints_for(alloc, Form::Platform, platform, bytes.as_slice())? {
         return Ok(Some(hints));
     }
-    let needed = needed_by(alloc, name, text)?;
-    let hint = need_hint(alloc, name, bounds, needed)?;
-    Ok(hint)
+    let layout = platform_in(alloc, platform, bytes.as_slice())?;
+    let harts = layout.harts();
+    if let Some(hint) = boot_hint(alloc, platform, layout)? {
+        return Ok(Some(hint));
+    }
+    hints_of(alloc, Form::Trace(Taker::Run { harts }), trace, second)
+}
+
+/// How many entries the map of the bytes of a map file needs.
+fn needed_by<'a>(alloc: Global, name: &'a str, bytes: &[u8]) -> Result<u64, Trouble<'a>> {
+    if bytes.len() > u32::MAX as usize {
+        return Err(Trouble::TooLarge { file: name });
+    }
+    let map = map_by(alloc, name, bytes)?;
+    let plan = plan_within(alloc, name, &map, Xlen::Rv64, None)?;
+    Ok(plan.entries().len() as u64)
 }
 
 /// The hints of a map: what is wrong with it, or that it needs more entries than it may.
@@ -116,78 +94,45 @@ fn hints_of_map<'a, R: Source>(
     name: &'a str,
     bounds: Bounds,
     source: &mut R,
-) -> Result<Option<Vec<u8>>, Trouble<'a>>
-    ensures { IfOk result (λ hints. HasMapHints name.entry.now bounds
-        (reading R.remaining R.failures source.old source.new)
-        (option_map (λ text. text.items) hints)) }
-{
-    match bytes_or_hint(alloc, FileKind::Map, name, source)? {
-        FileOrHint::Bytes(bytes) => hints_of_map_text(alloc, name, bounds, bytes.as_slice()),
-        FileOrHint::Hint(hint) => Ok(Some(hint)),
+) -> Hint<'a> {
+    let bytes = match bytes_or_hint(alloc, Form::Map, name, source)? {
+        FileOrHint::Bytes(bytes) => bytes,
+        FileOrHint::Hint(hint) => return Ok(Some(hint)),
+    };
+    if let Some(hints) = hints_for(alloc, Form::Map, name, bytes.as_slice())? {
+        return Ok(Some(hints));
     }
+    let needed = needed_by(alloc, name, bytes.as_slice())?;
+    need_hint(alloc, name, bounds, needed)
 }
 
-/// The hints of a file that is a listing of registers of that width, or a map.
+/// The hints of a file that is a listing of registers, where the options say so, or a map.
 fn hints_of_file<'a, R: Source>(
     alloc: Global,
-    is_listing: bool,
-    xlen: Xlen,
+    options: &Options<'a>,
     name: &'a str,
-    bounds: Bounds,
+    most: Option<u64>,
     source: &mut R,
-) -> Result<Option<Vec<u8>>, Trouble<'a>>
-    ensures { IfOk result (λ hints. HasFileHints is_listing xlen name.entry.now bounds
-        (reading R.remaining R.failures source.old source.new)
-        (option_map (λ text. text.items) hints)) }
-{
-    if is_listing {
-        return hints_of(alloc, Form::Listing { xlen }, name, source);
+) -> Hint<'a> {
+    if options.registers {
+        return hints_of(alloc, Form::Listing(options.xlen), name, source);
     }
+    hints_of_map(alloc, name, Bounds { most, words: None }, source)
+}
+
+/// The hints of a plan: those of its map, or that configuration words have no room for its entries.
+fn hints_of_plan<'a, R: Source>(
+    alloc: Global,
+    name: &'a str,
+    limit: Limit,
+    options: &Options<'a>,
+    source: &mut R,
+) -> Hint<'a> {
+    let bounds = Bounds {
+        most: most_entries(limit, options.first, options.at_most, options.format),
+        words: Some(room_from(options.first, limit) as u64),
+    };
     hints_of_map(alloc, name, bounds, source)
-}
-
-/// The hints of `judge`: those of the file that it judges by, or of its trace.
-fn hints_of_judge<'a, R: Source>(
-    alloc: Global,
-    is_listing: bool,
-    xlen: Xlen,
-    file: &'a str,
-    bounds: Bounds,
-    trace: &'a str,
-    first: &mut R,
-    second: &mut R,
-) -> Result<Option<Vec<u8>>, Trouble<'a>>
-    ensures { let source = reading R.remaining R.failures in
-        IfOk result (λ hints. InOrder
-        (HasFileHints is_listing xlen file.entry.now bounds (source first.old first.new))
-        (HasHints (Form.Trace Taker.Judge) trace.entry.now (source second.old second.new))
-        (source second.old second.new) (option_map (λ text. text.items) hints)) }
-{
-    if let Some(hints) = hints_of_file(alloc, is_listing, xlen, file, bounds, first)? {
-        return Ok(Some(hints));
-    }
-    let taker = Taker::Judge;
-    hints_of(alloc, Form::Trace { taker }, trace, second)
-}
-
-/// The hints of `check`: those of its map, and that its certificate has more bytes than it may.
-fn hints_of_check<'a, R: Source>(
-    alloc: Global,
-    map: &'a str,
-    cert: &'a str,
-    first: &mut R,
-    second: &mut R,
-) -> Result<Option<Vec<u8>>, Trouble<'a>>
-    ensures { let source = reading R.remaining R.failures in
-        IfOk result (λ hints. InOrder
-        (HasHints Form.Map map.entry.now (source first.old first.new))
-        (HasSizeHints FileKind.Certificate cert.entry.now (source second.old second.new))
-        (source second.old second.new) (option_map (λ text. text.items) hints)) }
-{
-    if let Some(hints) = hints_of(alloc, Form::Map, map, first)? {
-        return Ok(Some(hints));
-    }
-    size_hints(alloc, FileKind::Certificate, cert, second)
 }
 
 /// The hints of `map`: a device tree has none, and a listing of registers those of its lint.
@@ -196,120 +141,76 @@ fn hints_of_source<'a, R: Source>(
     xlen: Xlen,
     name: &'a str,
     source: &mut R,
-) -> Result<Option<Vec<u8>>, Trouble<'a>>
-    ensures { IfOk result (λ hints. HasSourceHints xlen name.entry.now
-        (reading R.remaining R.failures source.old source.new)
-        (option_map (λ text. text.items) hints)) }
-{
-    match bytes_or_hint(alloc, FileKind::ListingOrTree, name, source)? {
-        FileOrHint::Bytes(bytes) => {
-            if is_tree(bytes.as_slice()) {
-                return Ok(None);
-            }
-            hints_for(alloc, Form::Listing { xlen }, name, bytes.as_slice())
-        }
+) -> Hint<'a> {
+    let form = Form::ListingOrTree(xlen);
+    match bytes_or_hint(alloc, form, name, source)? {
+        FileOrHint::Bytes(bytes) if is_tree(bytes.as_slice()) => Ok(None),
+        FileOrHint::Bytes(bytes) => hints_for(alloc, form, name, bytes.as_slice()),
         FileOrHint::Hint(hint) => Ok(Some(hint)),
     }
 }
 
-/// What a file is that `lint` takes by its name.
-fn named_kind(name: &str) -> FileKind
-    ensures { result ≡ named_kind name.now }
-{
-    if names_platform(name) {
-        FileKind::Platform
-    } else {
-        FileKind::Map
-    }
-}
-
-/// The hints of `lint --trace` with a platform: those of the platform, and that the trace has more bytes than it may.
-fn hints_of_traced<'a, R: Source>(
-    alloc: Global,
-    platform: &'a str,
-    file: &'a str,
-    first: &mut R,
-    second: &mut R,
-) -> Result<Option<Vec<u8>>, Trouble<'a>>
-    ensures { let source = reading R.remaining R.failures in
-        IfOk result (λ hints. InOrder
-        (HasHints Form.Platform platform.entry.now (source second.old second.new))
-        (HasSizeHints FileKind.Trace file.entry.now (source first.old first.new))
-        (source first.old first.new) (option_map (λ text. text.items) hints)) }
-{
-    if let Some(hints) = hints_of(alloc, Form::Platform, platform, second)? {
-        return Ok(Some(hints));
-    }
-    size_hints(alloc, FileKind::Trace, file, first)
-}
-
-/// The hints of `lint`, which itself speaks of what is wrong with its file.
+/// The hints of `lint`, which itself speaks of what is wrong with its file: those of a platform that is named with a trace, and that
+/// the file has more bytes than it may.
 fn hints_of_lint<'a, R: Source>(
     alloc: Global,
-    kind: LintKind,
+    options: &Options<'a>,
     platform: Option<&'a str>,
     file: &'a str,
     first: &mut R,
     second: &mut R,
-) -> Result<Option<Vec<u8>>, Trouble<'a>>
-    ensures { let source = reading R.remaining R.failures in
-        IfOk result (λ hints. HasLintHints kind platform.entry file.entry.now
-        (source first.old first.new) (source second.old second.new)
-        (option_map (λ text. text.items) hints)) }
-{
-    match kind {
-        LintKind::ByName => size_hints(alloc, named_kind(file), file, first),
-        LintKind::Registers => size_hints(alloc, FileKind::Listing, file, first),
-        LintKind::Trace => match platform {
-            None => size_hints(alloc, FileKind::Trace, file, first),
-            Some(platform) => hints_of_traced(alloc, platform, file, first, second),
-        },
+) -> Hint<'a> {
+    if let Some(platform) = platform {
+        if let Some(hints) = hints_of(alloc, Form::Platform, platform, second)? {
+            return Ok(Some(hints));
+        }
     }
+    let form = match options.kind {
+        LintKind::ByName if names_platform(file) => Form::Platform,
+        LintKind::ByName => Form::Map,
+        LintKind::Registers => Form::Listing(options.xlen),
+        LintKind::Trace => Form::Trace(Taker::Judge),
+    };
+    size_hint(alloc, form, file, first)
 }
 
-/// The hints of a task.
+/// The hints of a task: those of the first of its inputs that is not what it should be.
 fn task_hints<'a, R: Source>(
     alloc: Global,
     request: &Request<'a>,
     first: &mut R,
     second: &mut R,
-) -> Result<Option<Vec<u8>>, Trouble<'a>>
-    ensures { let source = reading R.remaining R.failures in
-        IfOk result (λ hints. HasTaskHints request.now.task request.now.options
-        (source first.old first.new) (source second.old second.new)
-        (option_map (λ text. text.items) hints)) }
-{
+) -> Hint<'a> {
     let options = &request.options;
     let xlen = options.xlen;
-    match request.task {
+    let of_first = match request.task {
         Task::Run {
             platform,
             trace,
             ..
-        } => hints_of_run(alloc, platform, trace, first, second),
-        Task::Plan { map, limit, .. } => {
-            let bounds = plan_bounds(limit, options.first, options.at_most, options.format);
-            hints_of_map(alloc, map, bounds, first)
+        } => hints_of_run(alloc, platform, trace, first, second)?,
+        Task::Plan { map, limit, .. } => hints_of_plan(alloc, map, limit, options, first)?,
+        Task::Judge { map, limit, .. } => {
+            hints_of_file(alloc, options, map, Some(u64::from(limit.number())), first)?
         }
-        Task::Check { map, cert } => hints_of_check(alloc, map, cert, first, second),
-        Task::Judge { map, trace, limit } => {
-            let bounds = bank_bounds(limit);
-            let listed = options.registers;
-            hints_of_judge(alloc, listed, xlen, map, bounds, trace, first, second)
+        Task::Check { map, .. } | Task::Audit { map, .. } => {
+            hints_of(alloc, Form::Map, map, first)?
         }
-        Task::Audit { map, registers } => {
-            let listing = (Form::Listing { xlen }, registers);
-            hints_in_order(alloc, (Form::Map, map), listing, first, second)
-        }
-        Task::Map { file } => hints_of_source(alloc, xlen, file, first),
-        Task::Show { map, .. } => {
-            let bounds = table_bounds(options.at_most);
-            hints_of_file(alloc, options.registers, xlen, map, bounds, first)
-        }
+        Task::Map { file } => hints_of_source(alloc, xlen, file, first)?,
+        Task::Show { map, .. } => hints_of_file(alloc, options, map, options.at_most, first)?,
         Task::Lint { file, platform } => {
-            hints_of_lint(alloc, options.kind, platform, file, first, second)
+            hints_of_lint(alloc, options, platform, file, first, second)?
         }
-        Task::Platform { board, .. } => size_hints(alloc, FileKind::Tree, board, first),
+        Task::Platform { board, .. } => size_hint(alloc, Form::Tree, board, first)?,
+        Task::Measure { .. } => None,
+    };
+    if let Some(hints) = of_first {
+        return Ok(Some(hints));
+    }
+    match request.task {
+        Task::Judge { trace, .. } => hints_of(alloc, Form::Trace(Taker::Judge), trace, second),
+        Task::Check { cert, .. } => size_hint(alloc, Form::Certificate, cert, second),
+        Task::Audit { registers, .. } => hints_of(alloc, Form::Listing(xlen), registers, second),
         _ => Ok(None),
     }
 }
@@ -324,13 +225,8 @@ pub fn tell_hints<R: Source, E: Sink>(
     first: &mut R,
     second: &mut R,
     err: &mut E,
-)
-    ensures { let source = reading R.remaining R.failures in
-        PrintsHints request.now (source first.old first.new) (source second.old second.new)
-        (writing E.contents E.failures E.stalls err.old err.new) }
-{
-    let Ok(Some(hints)) = task_hints(alloc, request, first, second) else {
-        return;
-    };
-    let _ = write_whole(err, hints.as_slice());
+) {
+    if let Ok(Some(hints)) = task_hints(alloc, request, first, second) {
+        let _ = write_whole(err, hints.as_slice());
+    }
 }

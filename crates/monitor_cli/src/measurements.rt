@@ -10,16 +10,16 @@ ghost use Rattle.enclave_table.specs.Digests.{AnswersWord};
 ghost use Rattle.enclave_table.specs.Enclaves.{Live};
 ghost use Rattle.hart_sim.specs.After.{IsBooted};
 ghost use Rattle.hart_sim.specs.Machines.{kept_of, KeepsBanksRight};
-ghost use Rattle.command_inputs.specs.Troubles.{boot_trouble};
+ghost use Rattle.monitor_cli.specs.Platforms.{boot_trouble};
 ghost use Rattle.monitor_cli.specs.Runs.{IsMeasured};
 ghost use Rattle.monitor_cli.specs.Measurements.{AreMeasures, IsDigest, IsMeasureText};
 
 use byte_streams::{DeviceFault, Sink, write_whole};
 use byteorder::{ByteOrder, LittleEndian};
-use command_inputs::Trouble;
+use program_files::Trouble;
 use enclave_table::Table;
 use hart_sim::Machine;
-use platforms::Platform;
+use platforms::{BootFault, Platform};
 use printed_lines::measure_line;
 use std::alloc::Global;
 
@@ -35,7 +35,8 @@ pub fn boot_machine<'a>(alloc: Global, platform: Platform) -> Result<Machine, Tr
 {
     match Machine::boot(alloc, platform) {
         Ok(machine) => Ok(machine),
-        Err(fault) => Err(Trouble::of_boot(fault)),
+        Err(BootFault::NeedsMoreEntries(needed)) => Err(Trouble::NeedsEntries { needed }),
+        Err(BootFault::Memory) => Err(Trouble::Memory),
     }
 }
 
@@ -123,8 +124,6 @@ pub fn measure_where<W: Sink>(
     if !measure {
         return Ok(());
     }
-    match print_measures(machine.table(), out) {
-        Ok(()) => Ok(()),
-        Err(DeviceFault) => Err(DeviceFault),
-    }
+    print_measures(machine.table(), out)?;
+    Ok(())
 }

@@ -1,23 +1,19 @@
 //! A task done on its files and on the standard streams.
 
-ghost use Rattle.std.specs.Prelude.{◌≡◌, IfOk, OnErr};
+ghost use Rattle.std.specs.Prelude.{◌≡◌, IfOk};
 ghost use Rattle.std.specs.Borrow.{Bor};
-ghost use Rattle.byte_streams.specs.Writings.{writing};
-ghost use Rattle.program_tasks.specs.Hints.{are_told};
-ghost use Rattle.monitor_cli.specs.OnFiles.{failure_of, input_over, EndsOnFiles, Follows, HintsOnFiles, SaysWhy};
+ghost use Rattle.byte_streams.specs.HeldSink.{held_in, writer_of};
+ghost use Rattle.monitor_cli.specs.OnFiles.{input_over, EndsOnFiles, IsClosed};
 
-use crate::held_output::perform_and_close;
-use crate::tell_hints;
-use byte_streams::{HeldSink, Sink};
-use command_inputs::print_reason;
-use program_files::{CertificateFile, Explained, Reason, RetryInterrupted};
-use program_tasks::{Request, inputs, inputs_again, may_be_hinted, name_or_none, outline_of};
+use crate::hints::tell_hints;
+use crate::program::perform_request;
+use crate::task_inputs::{inputs, inputs_again};
+use byte_streams::{Held, HeldSink, Sink};
+use command_line::{Request, Subcommand, name_or_none, outline_of};
+use program_files::{CertificateFile, Explained, Reason, RetryInterrupted, Trouble, write_named};
 use std::alloc::{AllocError, Global};
 use std::io::{Read, Write};
 use std::rt::Files;
-
-/// The status of a task that ended since a device failed.
-const DEVICE_FAILED: u8 = 3;
 
 /// What is lent to a task beside what it writes to: memory, files and standard input.
 #[derive(Clone, Copy)]
@@ -30,6 +26,29 @@ pub struct Lent<'a, R, S> {
     pub stdin: S,
 }
 
+/// Hands on the last of the output of a task of that status, and answers the program's status and the stream: 3 where that
+/// was refused with no trouble reported before. The stream has a front of it in any case.
+fn close_output<T: Write + Drop, E: Sink>(status: u8, out: HeldSink<T>, err: &mut E) -> (u8, T)
+    ensures { IsClosed (held_in out) (T.contents (writer_of out)) (T.contents result.1) status
+        result.0 }
+{
+    let (is_whole, stream) = out.close();
+    if is_whole || status >= 2 {
+        return (status, stream);
+    }
+    let _ = Trouble::Output.print(err);
+    (Trouble::Output.status(), stream)
+}
+
+/// Says why what has that name failed, where it did.
+fn say_why<E: Sink>(name: &str, reason: Option<Reason>, err: &mut E) -> bool {
+    let Some(reason) = reason else {
+        return false;
+    };
+    let _ = write_named(err, "hint: ", name, &[": ", reason.text(), "\n"]);
+    true
+}
+
 /// Says what is wrong with the inputs of a task, which are opened anew. Standard input can't be, so
 /// there is nothing to say of it.
 #[inline(never)]
@@ -37,55 +56,17 @@ fn hint<'a, R: Files, S: Read + Copy, E: Sink>(
     lent: &Lent<'a, R, S>,
     request: &Request<'a>,
     err: &mut E,
-)
-    ensures { HintsOnFiles R R.Dir lent.now.stdin (input_over R.File.remaining S.remaining)
-        request.now (writing E.contents E.failures E.stalls err.old err.new) }
-{
+) {
     let (mut first, mut second) = inputs_again(lent.files, lent.stdin, &request.task);
     tell_hints(lent.alloc, request, &mut first, &mut second, err);
 }
 
-/// What has that name, and why it failed, where it did.
-type Failure<'a> = Option<(&'a str, Reason)>;
-
-fn failure(name: &str, reason: Option<Reason>) -> Failure<'_>
-    ensures { result ≡ failure_of name.entry reason }
-{
-    reason.map(|reason| (name, reason))
-}
-
-/// Says why something failed, where it did.
-fn say_why<E: Sink>(failure: Failure<'_>, err: &mut E)
-    ensures { SaysWhy (writing E.contents E.failures E.stalls err.old err.new) failure.entry }
-{
-    if let Some((name, reason)) = failure {
-        let _ = print_reason(name, reason, err);
-    }
-}
-
-/// Says what follows the end of a task of that status, where hints are given: what is wrong with its inputs, or why a device
-/// failed.
-fn follow<'a, R: Files, S: Read + Copy, E: Sink>(
-    lent: &Lent<'a, R, S>,
-    request: &Request<'a>,
-    status: u8,
-    hints: bool,
-    why: Failure<'_>,
-    err: &mut E,
-)
-    ensures { let telling = writing E.contents E.failures E.stalls err.old err.new in
-        Follows hints request.now.task status (err.new ≡ err.old)
-        (HintsOnFiles R R.Dir lent.now.stdin (input_over R.File.remaining S.remaining)
-        request.now telling)
-        (SaysWhy telling why.entry) }
-{
-    if !hints {
-        return;
-    }
-    if may_be_hinted(outline_of(&request.task).subcommand, status) {
-        hint(lent, request, err);
-    } else if status == DEVICE_FAILED {
-        say_why(why, err);
+/// Whether there may be something to say of the inputs of a task that ended with that status: it ended for bad input, or it is a
+/// plan, which may have been printed without configuration words.
+fn may_be_hinted(subcommand: Subcommand, status: u8) -> bool {
+    match subcommand {
+        Subcommand::Plan => status == 2 || status == 0,
+        _ => status == 2,
     }
 }
 
@@ -99,32 +80,37 @@ pub fn perform_on_files<'a, R: Files, S: Read + Copy, O: Write + Drop, E: Sink>(
     request: &Request<'a>,
     is_terminal: bool,
 ) -> Result<u8, AllocError>
-    ensures ends { IfOk result (EndsOnFiles R R.Dir (Bor R) lent.now.stdin
+    ensures { IfOk result (EndsOnFiles {R = R} {P = Bor R} {D = R.Dir} lent.now.stdin
         (input_over R.File.remaining S.remaining) stdout (λ stream. O.contents stream.inner.inner)
-        (writing E.contents E.failures E.stalls) request.now
-        (are_told request.now.options.hints is_terminal) err.old err.new) }
-    ensures untold { OnErr result (err.new ≡ err.old) }
+        request.now) }
 {
     let (mut first, mut second) = inputs(lent.files, lent.stdin, &request.task);
     let files = outline_of(&request.task);
     let cert_name = name_or_none(files.cert);
     let mut cert = CertificateFile::new(lent.files, lent.alloc, cert_name)?;
     let out = Explained::new(RetryInterrupted::new(stdout));
-    let out = HeldSink::new(lent.alloc, out)?;
-    let (status, out) = perform_and_close(
+    let mut out = HeldSink::new(lent.alloc, out)?;
+    let status = perform_request::<_, _, Held, _, E>(
         lent.alloc,
         request,
         &mut first,
         &mut second,
         &mut cert,
-        out,
+        &mut out,
         err,
     );
-    let why = failure(files.first, first.into_inner().reason())
-        .or(failure(name_or_none(files.second), second.into_inner().reason()))
-        .or(failure(cert_name, cert.reason()))
-        .or(failure("standard output", out.reason()));
-    let hints = request.options.hints.are_told(is_terminal);
-    follow(lent, request, status, hints, why, err);
+    let (status, out) = close_output(status, out, err);
+    if !request.options.hints.are_told(is_terminal) {
+        return Ok(status);
+    }
+    if may_be_hinted(files.subcommand, status) {
+        hint(lent, request, err);
+    } else if status == 3 {
+        let second_name = name_or_none(files.second);
+        let _ = say_why(files.first, first.into_inner().reason(), err)
+            || say_why(second_name, second.into_inner().reason(), err)
+            || say_why(cert_name, cert.reason(), err)
+            || say_why("standard output", out.reason(), err);
+    }
     Ok(status)
 }

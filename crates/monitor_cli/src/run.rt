@@ -4,19 +4,22 @@ ghost use Rattle.std.specs.Prelude.{◌-◌, ◌^◌, ◌<◌};
 ghost use Rattle.byte_streams.specs.Writings.{writing};
 ghost use Rattle.hart_sim.specs.Machines.{KeepsBanksRight};
 ghost use Rattle.hart_sim.specs.Reports.{DoesLine};
-ghost use Rattle.command_inputs.specs.Inputs.{reading};
-ghost use Rattle.commands.specs.Answered.{said};
+ghost use Rattle.program_files.specs.Reading.{reading};
+ghost use Rattle.trace_answers.specs.Explained.{explaining};
+ghost use Rattle.monitor_cli.specs.Answered.{status_in};
 ghost use Rattle.monitor_cli.specs.Runs.{Runs, RunsExpecting, RunsExplaining, RunsTrace, RunsTraceAs};
 
 use crate::measurements::{boot_machine, measure_where};
 use byte_streams::{LineSink, Source};
-use command_inputs::{Trouble, read_platform};
-use commands::{Answered, compared, quiet, tell_first};
-use explained_runs::{Ran, explain_run, print_summary};
+use program_files::Trouble;
+use crate::answered::{Answered, noted, quiet};
+use crate::judge::tell_first;
+use crate::platform_inputs::read_platform;
+use arrayvec::ArrayVec;
 use hart_sim::{Machine, run_lines};
-use program_tasks::Answers;
+use command_line::Answers;
 use std::alloc::Global;
-use trace_answers::{Compared, compare_lines};
+use trace_answers::{Compared, Ran, compare_lines, explain_run, print_summary};
 
 /// Runs a trace on a machine, and prints the measurements where they are asked for.
 #[inline(never)]
@@ -48,7 +51,7 @@ fn run_explaining<'a, R: Source, L, W: LineSink<L>>(
     out: &mut W,
 ) -> Result<u8, Trouble<'a>>
     requires kept { KeepsBanksRight machine }
-    ensures { RunsExplaining machine trace.entry measure
+    ensures { RunsExplaining (explaining DoesLine) machine trace.entry measure
         (reading R.remaining R.failures second.old second.new)
         (writing W.contents W.failures W.stalls out.old out.new) result }
 {
@@ -75,7 +78,7 @@ fn run_expecting<'a, R: Source, L, W: LineSink<L>>(
     requires kept { KeepsBanksRight machine }
     ensures { RunsExpecting DoesLine machine trace.entry measure
         (reading R.remaining R.failures second.old second.new)
-        (writing W.contents W.failures W.stalls out.old out.new) (said result) }
+        (writing W.contents W.failures W.stalls out.old out.new) (status_in result) }
 {
     let Compared {
         lines,
@@ -86,7 +89,7 @@ fn run_expecting<'a, R: Source, L, W: LineSink<L>>(
     end.map_err(|fault| Trouble::of_run(trace, fault))?;
     measure_where(&lines, measure, out)?;
     let status = tell_first(&first, out)?;
-    Ok(compared(status, &note))
+    Ok(noted(status, &ArrayVec::new(), &note))
 }
 
 /// Runs a trace on a machine, and writes of the answers what is asked for.
@@ -101,7 +104,7 @@ fn run_on<'a, R: Source, L, W: LineSink<L>>(
     requires kept { KeepsBanksRight machine }
     ensures { RunsTraceAs answers machine trace.entry measure
         (reading R.remaining R.failures second.old second.new)
-        (writing W.contents W.failures W.stalls out.old out.new) (said result) }
+        (writing W.contents W.failures W.stalls out.old out.new) (status_in result) }
 {
     match answers {
         Answers::Plain => {
@@ -116,7 +119,7 @@ fn run_on<'a, R: Source, L, W: LineSink<L>>(
 }
 
 /// Boots a platform, runs a trace on it, and writes of the answers what is asked for.
-pub fn do_run_as<'a, R: Source, L, W: LineSink<L>>(
+pub(crate) fn do_run<'a, R: Source, L, W: LineSink<L>>(
     alloc: Global,
     answers: Answers,
     platform: &'a str,
@@ -129,7 +132,7 @@ pub fn do_run_as<'a, R: Source, L, W: LineSink<L>>(
     ensures { let source = reading R.remaining R.failures in
         Runs answers platform.entry trace.entry measure (source first.old first.new)
         (source second.old second.new) (writing W.contents W.failures W.stalls out.old out.new)
-        (said result) }
+        (status_in result) }
 {
     let platform = read_platform(alloc, platform, first)?;
     let machine = boot_machine(alloc, platform)?;

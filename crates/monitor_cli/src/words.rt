@@ -7,7 +7,7 @@ ghost use Rattle.monitor_cli.specs.Words.{IsTask};
 
 use clap::Error;
 use command_line::request_of_words;
-use program_tasks::Task;
+use command_line::Task;
 use std::alloc::Global;
 
 /// The task that the words of a command line name; the first word is the program's own. Nothing is said of its options:

@@ -1,9 +1,10 @@
 //! The program: the words of its command line, done on real files.
 #![tactic(auto)]
 
-use command_line::{exit_with_status, may_be_done, request_in, standard_error, texts_in, words_in};
-use monitor_cli::{Lent, perform_on_files};
-use program_tasks::Request;
+use monitor_cli::{
+    Lent, Request, exit_with_status, may_be_done, perform_on_files, request_in, standard_error,
+    texts_in, words_in,
+};
 use std::alloc::AllocError;
 use std::io::IsTerminal;
 use std::process::ExitCode;

@@ -1,3 +1,4 @@
 pub mod Beside
 pub mod Inputs
-pub mod Reasons
+pub mod Reading
+pub mod Troubles

@@ -25,7 +25,6 @@ impl<R: Files + Drop> CertificateFile<R> {
             string_bytes file.part.beside ≡ part_name (string_bytes file.part.place)) }
         ensures short { IfOk result (λ file.
             string_bytes file.part.short ≡ short_part_name (string_bytes file.part.place)) }
-        ensures reason { IfOk result (λ file. file.part.reason ≡ None) }
     {
         let part = PartFile::new(files, alloc, name)?;
         Ok(CertificateFile { part })
@@ -34,9 +33,7 @@ impl<R: Files + Drop> CertificateFile<R> {
 
 impl<R: Files> CertificateFile<R> {
     /// Why its last failure came, where one did.
-    pub fn reason(&self) -> Option<Reason>
-        ensures { result ≡ self.now.part.reason }
-    {
+    pub fn reason(&self) -> Option<Reason> {
         self.part.reason()
     }
 }

@@ -2,11 +2,9 @@
 
 ghost use Rattle.std.specs.Io.{WritesAtMost};
 ghost use Rattle.std.specs.Io.KnownBytes.{WriteAppends};
-ghost use Rattle.std.specs.IoError.{error_kind};
-ghost use Rattle.std.specs.Prelude.{◌≡◌, ◌≢◌, ◌≤◌, ◌⊎◌, None, Some, length, true, false, IfErr, IfOk, MatchResult, option_and_then, string_bytes};
+ghost use Rattle.std.specs.Prelude.{◌≡◌, ◌≢◌, ◌≤◌, ◌⊎◌, None, length, true, false, IfErr, IfOk, option_and_then, string_bytes};
 ghost use Rattle.byte_streams.specs.Streams.{CountsFailure, CountsStall, GrowsByOne};
 ghost use Rattle.program_files.specs.Beside.{part_name, short_part_name, IsNumbered};
-ghost use Rattle.program_files.specs.Reasons.{reason_of};
 
 use crate::beside::{
     beside_of, led_to, new_file, permit, place_of, short_beside_of, straight, takes_no_file,
@@ -45,7 +43,6 @@ impl<R: Files + Drop> PartFile<R> {
             string_bytes file.beside ≡ part_name (string_bytes file.place)) }
         ensures short { IfOk result (λ file.
             string_bytes file.short ≡ short_part_name (string_bytes file.place)) }
-        ensures reason { IfOk result (λ file. file.reason ≡ None) }
     {
         let place = place_of(alloc, name, led_to(&files, alloc, name))?;
         let beside = beside_of(alloc, place.as_str())?;
@@ -67,9 +64,7 @@ impl<R: Files + Drop> PartFile<R> {
 
 impl<R: Files> PartFile<R> {
     /// Why its last failure came, where one did.
-    pub fn reason(&self) -> Option<Reason>
-        ensures { result ≡ self.now.reason }
-    {
+    pub fn reason(&self) -> Option<Reason> {
         self.reason
     }
 
@@ -82,7 +77,6 @@ impl<R: Files> PartFile<R> {
             → self.old.is_beside ≡ true
             ⊎ (IsNumbered (string_bytes self.old.beside) (string_bytes self.new.beside)
             ⊎ IsNumbered (string_bytes self.old.short) (string_bytes self.new.beside)) }
-        ensures reason { self.new.reason ≡ self.old.reason }
         ensures failures { self.new.failures ≡ self.old.failures }
         ensures stalls { self.new.stalls ≡ self.old.stalls }
     {
@@ -108,7 +102,6 @@ impl<R: Files> PartFile<R> {
             → self.old.is_beside ≡ true
             ⊎ (IsNumbered (string_bytes self.old.beside) (string_bytes self.new.beside)
             ⊎ IsNumbered (string_bytes self.old.short) (string_bytes self.new.beside)) }
-        ensures reason { self.new.reason ≡ self.old.reason }
         ensures failures { self.new.failures ≡ self.old.failures }
         ensures stalls { self.new.stalls ≡ self.old.stalls }
     {
@@ -138,7 +131,6 @@ impl<R: Files> PartFile<R> {
             IsNumbered (string_bytes self.old.beside) (string_bytes self.new.beside)
             ⊎ IsNumbered (string_bytes self.old.short) (string_bytes self.new.beside)) }
         ensures stays { self.new.is_beside ≡ self.old.is_beside }
-        ensures reason { self.new.reason ≡ self.old.reason }
         ensures failures { self.new.failures ≡ self.old.failures }
         ensures stalls { self.new.stalls ≡ self.old.stalls }
     {
@@ -155,7 +147,6 @@ impl<R: Files> PartFile<R> {
         ensures most { WritesAtMost result buf.now }
         ensures bytes { WriteAppends (option_and_then R.File.contents self.old.file)
             (option_and_then R.File.contents self.new.file) result buf.now }
-        ensures reason { self.new.reason ≡ self.old.reason }
         ensures failures { self.new.failures ≡ self.old.failures }
         ensures stalls { self.new.stalls ≡ self.old.stalls }
     {
@@ -172,7 +163,6 @@ impl<R: Files> PartFile<R> {
     fn move_in(&mut self) -> io::Result<()>
         ensures place { self.new.place ≡ self.old.place }
         ensures moved { IfOk result (λ _. self.new.is_beside ≡ false) }
-        ensures reason { self.new.reason ≡ self.old.reason }
         ensures failures { self.new.failures ≡ self.old.failures }
         ensures stalls { self.new.stalls ≡ self.old.stalls }
     {
@@ -194,7 +184,6 @@ impl<R: Files> PartFile<R> {
     fn discard(&mut self)
         ensures place { self.new.place ≡ self.old.place }
         ensures removed { self.new.is_beside ≡ false }
-        ensures reason { self.new.reason ≡ self.old.reason }
         ensures failures { self.new.failures ≡ self.old.failures }
         ensures stalls { self.new.stalls ≡ self.old.stalls }
     {
@@ -207,10 +196,7 @@ impl<R: Files> PartFile<R> {
 }
 
 /// Why a write took nothing.
-fn why(written: io::Result<usize>) -> Reason
-    ensures { MatchResult written (λ _. result ≡ Reason.NoSpace)
-        (λ error. result ≡ reason_of (error_kind error)) }
-{
+fn why(written: io::Result<usize>) -> Reason {
     match written {
         Ok(_) => Reason::NoSpace,
         Err(error) => Reason::of(&error),
@@ -221,7 +207,6 @@ impl<R: Files> PartFile<R> {
     /// Keeps why a write failed, and removes what was written beside the place.
     #[tactic(auto, unfolding(byte_streams::specs::Streams::GrowsByOne))]
     fn fail(&mut self, reason: Reason) -> DeviceFault
-        ensures reason { self.new.reason ≡ Some reason }
         ensures removed { self.new.is_beside ≡ false }
         ensures failures { GrowsByOne self.old.failures self.new.failures }
         ensures stalls { self.new.stalls ≡ self.old.stalls }
@@ -236,10 +221,7 @@ impl<R: Files> PartFile<R> {
     pub(crate) fn put_in_place(&mut self) -> Result<(), DeviceFault>
         ensures failures { CountsFailure result self.old.failures self.new.failures }
         ensures stalls { self.new.stalls ≡ self.old.stalls }
-        ensures well { IfOk result (λ _. (self.new.reason ≡ self.old.reason)
-            × (self.new.is_beside ≡ false)) }
-        ensures failed { IfErr result (λ _. (self.new.reason ≢ None)
-            × (self.new.is_beside ≡ false)) }
+        ensures removed { self.new.is_beside ≡ false }
     {
         match self.move_in() {
             Ok(()) => Ok(()),
@@ -260,9 +242,7 @@ impl<R: Files> Sink for PartFile<R> {
         ensures bytes { WriteAppends None None result buf.now }
         ensures failures { CountsFailure result self.old.failures self.new.failures }
         ensures stalls { CountsStall result buf.now self.old.stalls self.new.stalls }
-        ensures well { IfOk result (λ _. self.new.reason ≡ self.old.reason) }
-        ensures failed { IfErr result (λ _. (self.new.reason ≢ None)
-            × (self.new.is_beside ≡ false)) }
+        ensures removed { IfErr result (λ _. self.new.is_beside ≡ false) }
     {
         match self.write_some(buf) {
             Ok(n) if n > 0 || buf.is_empty() => Ok(n),

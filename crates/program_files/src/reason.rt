@@ -1,10 +1,8 @@
 //! Why a file could not be read or made, as the system says it.
 
-ghost use Rattle.std.specs.Prelude.{◌≡◌, IfErr, IfOk, None, Some};
+ghost use Rattle.std.specs.Prelude.{◌≡◌};
 ghost use Rattle.std.specs.Io.{ReadsAtMost, WritesAtMost};
 ghost use Rattle.std.specs.Io.KnownBytes.{Keeps, ReadConsumes, WriteAppends};
-ghost use Rattle.std.specs.IoError.{error_kind};
-ghost use Rattle.program_files.specs.Reasons.{reason_of, reason_text};
 
 use std::io;
 use std::io::{ErrorKind, Read, Write};
@@ -44,9 +42,7 @@ pub enum Reason {
 
 impl Reason {
     /// The reason of an error.
-    pub fn of(error: &io::Error) -> Reason
-        ensures { result ≡ reason_of (error_kind error.now) }
-    {
+    pub fn of(error: &io::Error) -> Reason {
         match error.kind() {
             ErrorKind::NotFound => Reason::NoSuchFile,
             ErrorKind::IsADirectory => Reason::Folder,
@@ -66,9 +62,7 @@ impl Reason {
     }
 
     /// What is said of it.
-    pub fn text(self) -> &'static str
-        ensures { result.now ≡ reason_text self }
-    {
+    pub fn text(self) -> &'static str {
         match self {
             Reason::NoSuchFile => "no such file or folder",
             Reason::Folder => "it is a folder",
@@ -98,8 +92,7 @@ pub struct Explained<T> {
 impl<T> Explained<T> {
     /// The reader or writer, which has not failed yet.
     pub fn new(inner: T) -> Explained<T>
-        ensures inner { result.inner ≡ inner }
-        ensures reason { result.reason ≡ None }
+        ensures { result.inner ≡ inner }
     {
         Explained {
             inner,
@@ -108,9 +101,7 @@ impl<T> Explained<T> {
     }
 
     /// Why its last failure came, where one did.
-    pub fn reason(&self) -> Option<Reason>
-        ensures { result ≡ self.now.reason }
-    {
+    pub fn reason(&self) -> Option<Reason> {
         self.reason
     }
 }
@@ -122,9 +113,6 @@ impl<T: Read> Read for Explained<T> {
         ensures bound { ReadsAtMost result buf.new }
         ensures bytes { ReadConsumes (T.remaining self.old.inner) (T.remaining self.new.inner)
             result buf.new }
-        ensures well { IfOk result (λ _. self.new.reason ≡ self.old.reason) }
-        ensures failed { IfErr result (λ error.
-            self.new.reason ≡ Some (reason_of (error_kind error))) }
     {
         match self.inner.read(buf) {
             Ok(n) => Ok(n),
@@ -143,9 +131,6 @@ impl<T: Write> Write for Explained<T> {
         ensures bound { WritesAtMost result buf.now }
         ensures bytes { WriteAppends (T.contents self.old.inner) (T.contents self.new.inner)
             result buf.now }
-        ensures well { IfOk result (λ _. self.new.reason ≡ self.old.reason) }
-        ensures failed { IfErr result (λ error.
-            self.new.reason ≡ Some (reason_of (error_kind error))) }
     {
         match self.inner.write(buf) {
             Ok(n) => Ok(n),
@@ -158,9 +143,6 @@ impl<T: Write> Write for Explained<T> {
 
     fn flush(&mut self) -> io::Result<()>
         ensures bytes { Keeps (T.contents self.old.inner) (T.contents self.new.inner) }
-        ensures well { IfOk result (λ _. self.new.reason ≡ self.old.reason) }
-        ensures failed { IfErr result (λ error.
-            self.new.reason ≡ Some (reason_of (error_kind error))) }
     {
         match self.inner.flush() {
             Ok(()) => Ok(()),

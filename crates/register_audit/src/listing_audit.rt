@@ -120,7 +120,9 @@ pub fn audit<W: Sink>(
     ensures line { (n : ℕ) → result ≡ Err (ListingFault.Line n)
         → IsFirstUnknown xlen listing.now n × (out.new ≡ out.old) }
     ensures untouched { result ≡ Err ListingFault.Memory → out.new ≡ out.old }
-    ensures broken { result ≡ Err ListingFault.Device → (text : List ℕ) × Breaks text (writing W.contents W.failures W.stalls out.old out.new) }
+    ensures broken { result ≡ Err ListingFault.Device → (means : Bool)
+        × IsAudit mode (view_of_runs map.now) xlen listing.now means × (text : List ℕ)
+        × Breaks text (writing W.contents W.failures W.stalls out.old out.new) }
 {
     let listing = match listing_of(xlen, listing) {
         Ok(listing) => listing,

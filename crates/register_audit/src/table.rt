@@ -64,7 +64,8 @@ pub fn print_registers<W: Sink>(
     ensures line { (n : ℕ) → result ≡ Err (ListingFault.Line n)
         → IsFirstUnknown xlen listing.now n × (out.new ≡ out.old) }
     ensures untouched { result ≡ Err ListingFault.Memory → out.new ≡ out.old }
-    ensures broken { result ≡ Err ListingFault.Device → (text : List ℕ)
+    ensures broken { result ≡ Err ListingFault.Device → (meant : Bool)
+        × IsRegisterTable xlen listing.now meant × (text : List ℕ)
         × Breaks text (writing W.contents W.failures W.stalls out.old out.new) }
 {
     let listing = match listing_of(xlen, listing) {

@@ -1,7 +1,7 @@
 //! Words that are no task, and what is said of them.
 
 use clap::error::ErrorKind;
-use command_line::{request_of_words, takes_place};
+use command_line::{Fault, error_with_usage, request_of_words};
 use std::alloc::Global;
 use std::process::Abort;
 
@@ -28,6 +28,7 @@ fn a_fault_names_the_value_and_the_usage(rt: HostRuntime) {
 
 #[test]
 fn a_certificate_takes_no_other_files_place(rt: HostRuntime) {
-    let fault = takes_place(rt.alloc(), "m").expect(&rt, "memory");
+    let fault = Fault::TakesPlace("m");
+    let fault = error_with_usage(rt.alloc(), "plan", &fault).expect(&rt, "memory");
     assert!(rt; fault.kind() == ErrorKind::ArgumentConflict);
 }

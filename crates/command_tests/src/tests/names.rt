@@ -1,6 +1,6 @@
 //! Names as messages show them.
 
-use command_inputs::shown;
+use program_files::shown;
 use std::alloc::Global;
 use std::process::Abort;
 

@@ -1,9 +1,8 @@
 //! Requests on their files and streams, with what is said after their ends.
 
 use byte_streams::Counted;
-use command_line::request_of_words;
+use command_line::{Request, request_of_words};
 use monitor_cli::{Lent, perform_on_files};
-use program_tasks::Request;
 use std::alloc::Global;
 use std::process::Abort;
 use std::rt::Files;

@@ -1,6 +1,6 @@
 use Rattle.std.proofs.Common.{◌∙◌, ◌||◌, ap, ap₂, sym}
 use Rattle.clap.specs.Words.{app_of}
-use Rattle.command_line.specs.ClapModel.{with_arguments}
+use Rattle.command_line.specs.CommandLine.{with_arguments}
 use Rattle.command_line.proofs.Building.{none_left, with_next_argument}
 use Rattle.command_line.proofs.subcommands.command.Goals as goal
 

@@ -1,7 +1,7 @@
 use Rattle.std.proofs.Common.{◌≡◌, false, drop}
 use Rattle.clap.specs.Words.{app_of, new_app}
 use Rattle.clap.specs.declared.builder.command.Command.TheViews.{out-Command}
-use Rattle.command_line.specs.ClapModel.{with_arguments}
+use Rattle.command_line.specs.CommandLine.{with_arguments}
 use Rattle.command_line.proofs.subcommands.command.Given as goal
 
 abbrev pub invariant-loop-argument : goal.invariant-loop-argument

@@ -1,7 +1,7 @@
 use Rattle.std.proofs.Common.{◌∙◌, ◌||◌, ap, ap₂, sym, [], ◌∷◌}
 use Rattle.clap.specs.Words.{app_of}
-use Rattle.command_line.specs.ClapModel.{with_subcommands}
-use Rattle.program_tasks.specs.declared.task.Subcommand.TheVariants.{Audit, Check, Judge, Lint, Map, Measure, Plan, Platform, Run, Show}
+use Rattle.command_line.specs.CommandLine.{with_subcommands}
+use Rattle.command_line.specs.declared.task.Subcommand.TheVariants.{Audit, Check, Judge, Lint, Map, Measure, Plan, Platform, Run, Show}
 use Rattle.command_line.proofs.Building.{none_left, with_next_subcommand}
 use Rattle.command_line.proofs.subcommands.program.Goals as goal
 

@@ -1,8 +1,7 @@
 use Rattle.std.proofs.Common.{◌≡◌, false, drop}
 use Rattle.clap.specs.Words.{app_of}
 use Rattle.clap.specs.declared.builder.command.Command.TheViews.{out-Command}
-use Rattle.command_line.specs.CommandLine.{program_app}
-use Rattle.command_line.specs.ClapModel.{with_subcommands}
+use Rattle.command_line.specs.CommandLine.{program_app, with_subcommands}
 use Rattle.command_line.proofs.subcommands.program.Given as goal
 
 abbrev pub invariant-loop-subcommand : goal.invariant-loop-subcommand

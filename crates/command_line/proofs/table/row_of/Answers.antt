@@ -1,5 +1,5 @@
 use Rattle.std.proofs.Common.{refl}
-use Rattle.command_line.specs.ClapModel.{with_arguments}
+use Rattle.command_line.specs.CommandLine.{with_arguments}
 use Rattle.command_line.proofs.table.row_of.Goals as goal
 
 pub returns-in-Run : goal.returns-in-Run

@@ -1,9 +1,9 @@
 use Rattle.std.proofs.Common.{◌≡◌, ◌∙◌, Err, ap, rules}
 use Rattle.std.proofs.lemmas.Result.{err_from_is_err_and}
-use Rattle.command_inputs.specs.Troubles.{run_trouble}
+use Rattle.program_files.specs.Troubles.{run_trouble}
 use Rattle.hart_sim.specs.Reports.{DoesLine, RefusesLine, StarvesLine}
 use Rattle.monitor_cli.specs.Runs.{compared, not_told, unfinished, unmeasured}
-use Rattle.commands.proofs.Ends.{stops, went_well, went_wrong}
+use Rattle.monitor_cli.proofs.Ends.{stops, went_well, went_wrong}
 use Rattle.monitor_cli.proofs.run.run_expecting.Goals as goal
 
 pub returns-in_err-map_err : goal.returns-in_err-map_err
@@ -31,7 +31,7 @@ returns-in_err-measure_where g c =
     let b = w.broken in
     let writes = rw ended at e.writes in
     rw (p.1, p.2)
-    (unmeasured _ _ _ b.0 b.2 _ w.asked (rw ended at e.all c.requires.kept) b.1 b.3 b.4.part (rw ended at e.reads) (rw (writes.0, writes.1) at b.4.fails))
+    (unmeasured _ _ _ b.0 b.2 w.asked (rw ended at e.all c.requires.kept) b.1 b.3 b.4.part (rw ended at e.reads) (rw (writes.0, writes.1) at b.4.fails))
 
 pub returns-in_err-status : goal.returns-in_err-status
 returns-in_err-status g c =
@@ -42,8 +42,8 @@ returns-in_err-status g c =
     let m = c.in_ok-measure_where.ensures in
     let b = c.in_err-status.ensures.broken in
     rw (p.1, p.2)
-    (not_told _ _ _ b.0 _ (rw (ended, b.1) at e.all c.requires.kept) m.measured b.2.part (rw ended at e.reads)
-    (rw (m.well.0 ∙ before.0, m.well.1 ∙ before.1) at b.2.fails))
+    (not_told _ _ _ b.0 b.2 (rw (ended, b.1) at e.all c.requires.kept) m.measured b.3.part (rw ended at e.reads)
+    (rw (m.well.0 ∙ before.0, m.well.1 ∙ before.1) at b.3.fails))
 
 pub returns : goal.returns
 returns g c =
@@ -52,5 +52,5 @@ returns g c =
     let before = rw ended at e.writes in
     let m = c.in_ok-measure_where.ensures in
     let w = c.in_ok-status.ensures in
-    rw (c.compared.ensures.status, c.compared.ensures.notes) (compared _ _ _ _ _ _ (rw ended at e.all c.requires.kept) m.measured w.told (rw ended at e.reads)
+    rw c.noted.ensures (compared _ _ _ _ _ (rw ended at e.all c.requires.kept) m.measured w.told (rw ended at e.reads)
     (w.well.0 ∙ m.well.0 ∙ before.0, w.well.1 ∙ m.well.1 ∙ before.1))

@@ -1,9 +1,9 @@
 use Rattle.std.proofs.Common.{◌≡◌, Err, ◌∙◌, ap, rules}
 use Rattle.std.proofs.lemmas.Result.{err_from_is_err_and}
 use Rattle.hart_sim.specs.Reports.{DoesLine, RefusesLine, StarvesLine}
-use Rattle.command_inputs.specs.Troubles.{run_trouble}
+use Rattle.program_files.specs.Troubles.{run_trouble}
 use Rattle.monitor_cli.specs.Runs as commands
-use Rattle.commands.proofs.Ends.{stops, went_well, went_wrong}
+use Rattle.monitor_cli.proofs.Ends.{stops, went_well, went_wrong}
 use Rattle.monitor_cli.proofs.run.run_plainly.Goals as goal
 
 pub returns-in_err-map_err : goal.returns-in_err-map_err

@@ -1,3 +1,0 @@
-pub mod Refusals
-mod Parts
-mod ShownParts

@@ -1,0 +1,31 @@
+-- How a task is done where nothing is said of it.
+use Rattle.std.specs.Prelude.{false, None}
+use Rattle.pmp_encoding.specs.declared.xlen.Xlen.TheVariants.{Rv64}
+use Rattle.pmp_match.specs.declared.access.Mode.TheVariants.{User}
+use Rattle.command_line.specs.declared.hints.Hints.TheVariants.{Auto}
+use Rattle.command_line.specs.declared.options.Answers.TheVariants.{Plain}
+use Rattle.command_line.specs.declared.options.Format.TheVariants as formats
+use Rattle.command_line.specs.declared.options.LintKind.TheVariants.{ByName}
+use Rattle.command_line.specs.declared.options.Options.{Options}
+use Rattle.command_line.specs.declared.options.TableFormat.TheVariants as tables
+
+-- the options of a command line that names none: a plan or a table as text, from entry 0 on, of any
+-- size and without a name; registers of 64 bits as user mode is bound by them, and no listing of
+-- them in a map's place; answers alone; the first stretch that differs; a file by its name; no
+-- costs; and hints at a terminal
+abbrev pub default_options : Options
+default_options = record {
+  format = formats.Text;
+  name = None;
+  first = 0;
+  at_most = None;
+  xlen = Rv64;
+  mode = User;
+  registers = false;
+  answers = Plain;
+  all = false;
+  kind = ByName;
+  table = tables.Text;
+  costs = false;
+  hints = Auto;
+}

@@ -1,7 +1,0 @@
-pub mod Ends
-pub mod LintEnds
-pub mod Names
-pub mod Judgements
-pub mod FarPages
-mod PlanCertificates
-pub mod ListingTroubles

@@ -1,9 +1,0 @@
--- How a comparison of answers ends.
-use Rattle.std.specs.Prelude.{◌≡◌, ℕ, List, Option, Some, None}
-use Rattle.std.specs.Io.KnownBytes.{Appends}
-
--- what is written of the first difference, and the status: nothing and 0 where none differs, its
--- text and 1 otherwise
-abbrev pub IsTold : Option (List ℕ) → Option (List ℕ) → Option (List ℕ) → ℕ → Type 0
-IsTold None before after status = (after ≡ before) × (status ≡ 0)
-IsTold (Some text) before after status = Appends before after text × (status ≡ 1)

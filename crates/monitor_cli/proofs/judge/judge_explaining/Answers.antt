@@ -1,0 +1,28 @@
+use Rattle.std.proofs.Common.{◌≡◌, ◌∙◌, Err, ap, rules}
+use Rattle.std.proofs.lemmas.Result.{err_from_is_err_and}
+use Rattle.hart_trace.specs.Answers.{answered_by, is_no_access}
+use Rattle.trace_answers.specs.Explained.{explaining}
+use Rattle.program_files.specs.Troubles.{run_trouble}
+use Rattle.monitor_cli.specs.Judge.{to_its_end, until}
+use Rattle.monitor_cli.proofs.Ends.{stops, went_well, went_wrong}
+use Rattle.monitor_cli.proofs.judge.judge_explaining.Goals as goal
+
+pub returns-in_err-map_err : goal.returns-in_err-map_err
+returns-in_err-map_err g c =
+    let p = err_from_is_err_and c.from_residual.result c.from_residual.ensures.1 in
+    let f = went_wrong _ _ c.explain_judged.result c.in_err-map_err.ensures.cases in
+    let told : p.0 ≡ run_trouble c.args.trace f.0 = search (rules, p.2, f.2) in
+    let e = c.explain_judged.ensures in
+    rw (p.1, told)
+    (until f.0
+    (stops (explaining (answered_by (g.J.AccessJudge.outcomes c.args.by.now))) is_no_access
+    (λ old line new. ⊥) tt tt _ _ _ _ f.0
+    (λ n is. e.line n (f.1 ∙ ap (λ f. Err f) is)) (λ is. e.too_long (f.1 ∙ ap (λ f. Err f) is)) (λ is. e.read (f.1 ∙ ap (λ f. Err f) is))
+    (λ is. e.write (f.1 ∙ ap (λ f. Err f) is)) (λ is. absurd (e.no_memory (f.1 ∙ ap (λ f. Err f) is))))
+    (rw f.1 at e.reads) (rw f.1 at e.writes))
+
+pub returns : goal.returns
+returns g c =
+    let e = c.explain_judged.ensures in
+    let ended = went_well tt c.explain_judged.result c.in_ok-map_err.ensures.cases in
+    to_its_end (rw ended at e.all) (rw ended at e.reads) (rw ended at e.writes)

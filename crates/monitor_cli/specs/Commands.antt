@@ -1,0 +1,155 @@
+-- How the commands end that print what they found of their inputs: each has a relation for what it read and decided, and one for
+-- why it has no answer.
+use Rattle.std.specs.Prelude.{◌≡◌, ◌≢◌, ◌⊎◌, ℕ, ◌^◌, ◌++◌, Bool, true, false, List, None, Option, Some, Result, Ok, Err, length}
+use Rattle.std.specs.Borrow.{Bor}
+use Rattle.byte_streams.specs.Writings.{Breaks, IsUnwritten, TakesAll, Writing}
+use Rattle.pmp_encoding.specs.declared.limit.Limit.{Limit}
+use Rattle.pmp_encoding.specs.declared.region.Entry.{Entry}
+use Rattle.pmp_encoding.specs.declared.xlen.Xlen.{Xlen}
+use Rattle.pmp_encoding.specs.Widths.{AreReached}
+use Rattle.pmp_match.specs.declared.access.Mode.{Mode}
+use Rattle.pmp_match.specs.declared.access.Mode.TheVariants.{Machine}
+use Rattle.pmp_match.specs.Meaning.{View, IsFewest}
+use Rattle.permission_map.specs.declared.runs.Run.{Run}
+use Rattle.permission_map.specs.Runs.{view_of_runs}
+use Rattle.map_text.specs.MapFile.{Makes}
+use Rattle.map_table.specs.FormattedTables.{IsJsonTable}
+use Rattle.register_audit.specs.Audits.{IsAudit}
+use Rattle.register_audit.specs.Maps.{AreTooFine, IsMapFile}
+use Rattle.register_audit.specs.Tables.{IsRegisterTable}
+use Rattle.register_audit.specs.declared.listing.Listing.{Listing}
+use Rattle.register_audit.specs.RegisterListings.{IsFirstUnknown, listed}
+use Rattle.board_texts.specs.declared.fault.BoardTextFault.{BoardTextFault}
+use Rattle.board_texts.specs.Boards.{IsMapOfTree, IsNoMap, is_tree}
+use Rattle.board_texts.specs.Platforms.{IsNoPlatform, IsPlatformOfTree}
+use Rattle.command_line.specs.declared.options.Options.{Options}
+use Rattle.command_line.specs.declared.options.TableFormat.{TableFormat}
+use Rattle.command_line.specs.declared.options.TableFormat.TheVariants as tables
+use Rattle.program_files.specs.declared.trouble.Trouble.{Trouble}
+use Rattle.program_files.specs.declared.trouble.Trouble.TheVariants.{NoBoardText, NoRegisters}
+use Rattle.program_files.specs.declared.trouble.Trouble.TheVariants.{NotUnderstood, TooManyRanges}
+use Rattle.program_files.specs.declared.trouble.Trouble.TheVariants.{Memory, Output}
+use Rattle.program_files.specs.Reading.{Reading, IsUnread, HasBytes, HasNoBytes, HasMap, HasNoMap}
+use Rattle.monitor_cli.specs.Answered.{answer_status}
+use Rattle.monitor_cli.specs.CertifiedPlan.{IsPlanned, IsUnplanned}
+use Rattle.monitor_cli.specs.Plan.{HasNoPlan}
+use Rattle.monitor_cli.specs.Verdicts.{IsVerdict}
+
+-- how a command ends: a text of this kind is printed, with its answer; or the device fails, and a beginning of one is; or there
+-- is a trouble, want of memory or one of this kind, and nothing is printed
+abbrev pub Ends : {W A : Type 0} → (List ℕ → A → Type 0) → (Trouble → Type 0) → Writing W
+    → Result A Trouble → Type 0
+Ends IsText IsTrouble out (Ok answer) = (text : List ℕ) × IsText text answer × TakesAll text out
+Ends {A = A} IsText IsTrouble out (Err trouble) =
+    ((trouble ≡ Output) × ((text : List ℕ) × (answer : A) × IsText text answer × Breaks text out))
+    ⊎ (((trouble ≡ Memory) ⊎ IsTrouble trouble) × IsUnwritten out)
+
+-- a listing of registers was read, and a line of it is not understood
+abbrev pub HasUnknown : {R : Type 0} → Bor (List ℕ) → Xlen → Reading R → Trouble → Type 0
+HasUnknown file xlen source trouble = (listing : List ℕ) × (n : ℕ) × HasBytes (2 ^ 20) source listing
+    × IsFirstUnknown xlen listing n × (trouble ≡ NotUnderstood file n)
+
+-- `check`: the map is read, then the certificate, and the line and the status are those of the verdict
+abbrev pub IsChecked : {R : Type 0} → Reading R → Reading R → List ℕ → ℕ → Type 0
+IsChecked first second text status = (runs : List Run) × (bytes : List ℕ) × HasMap first runs
+    × HasBytes (2 ^ 26) second bytes × IsVerdict (view_of_runs runs) bytes text status
+
+abbrev pub IsUnchecked : {R : Type 0} → Bor (List ℕ) → Bor (List ℕ) → Reading R → Reading R
+    → Trouble → Type 0
+IsUnchecked map cert first second trouble = (HasNoMap map first trouble × IsUnread second)
+    ⊎ HasNoBytes (2 ^ 26) cert second trouble
+
+-- `audit`: the map is read, then the listing of registers, and the answer is whether they mean the map for a mode. The text names
+-- how many entries are enough, which the hart's address registers reach
+abbrev pub IsAudited : {R : Type 0} → Options → Reading R → Reading R → List ℕ → Bool → Type 0
+IsAudited options first second text means = (runs : List Run) × (listing : List ℕ)
+    × (entries : List Entry) × HasMap first runs × HasBytes (2 ^ 20) second listing
+    × IsFewest (view_of_runs runs) entries × AreReached options.xlen entries
+    × IsAudit options.mode (view_of_runs runs) options.xlen listing means
+
+abbrev pub IsUnaudited : {R : Type 0} → Bor (List ℕ) → Bor (List ℕ) → Options → Reading R
+    → Reading R → Trouble → Type 0
+IsUnaudited map registers options first second trouble =
+    (HasNoMap map first trouble × IsUnread second)
+    ⊎ (HasNoBytes (2 ^ 20) registers second trouble
+    ⊎ (((runs : List Run) × HasMap first runs
+    × IsUnplanned (view_of_runs runs) options.xlen None map trouble)
+    ⊎ HasUnknown registers options.xlen second trouble))
+
+-- the table of a map in a format: as JSON it is the object of its stretches, and otherwise it is for
+-- people
+abbrev pub IsShown : TableFormat → View → List Entry → Limit → List ℕ → Type 0
+IsShown tables.Text view entries limit text = Unit {0}
+IsShown tables.Svg view entries limit text = Unit {0}
+IsShown tables.Json view entries limit text = IsJsonTable view entries limit text
+
+-- `show`: the map is read, and the text is the table of its stretches, where the hart's address registers reach its entries
+abbrev pub IsMapShown : {R : Type 0} → Limit → Options → Reading R → List ℕ → Bool → Type 0
+IsMapShown limit options first text meant = (bytes : List ℕ) × (runs : List Run)
+    × (entries : List Entry) × HasBytes (2 ^ 20) first bytes × Makes bytes runs
+    × IsPlanned (view_of_runs runs) options.at_most entries × AreReached options.xlen entries
+    × IsShown options.table (view_of_runs runs) entries limit text
+    × (meant ≡ true)
+
+abbrev pub IsMapUnshown : {R : Type 0} → Bor (List ℕ) → Options → Reading R → Trouble → Type 0
+IsMapUnshown map options first trouble = HasNoPlan map options.xlen options.at_most first trouble
+
+-- `show --registers`: the listing of registers is read, and the answer is whether they mean something
+abbrev pub AreRegistersShown : {R : Type 0} → Options → Reading R → List ℕ → Bool → Type 0
+AreRegistersShown options first text meant = (listing : List ℕ) × HasBytes (2 ^ 20) first listing
+    × IsRegisterTable options.xlen listing meant
+
+-- a listing could not be had, or has a line that is not understood
+abbrev pub HasNoListing : {R : Type 0} → Bor (List ℕ) → Xlen → Reading R → Trouble → Type 0
+HasNoListing file xlen first trouble = HasNoBytes (2 ^ 20) file first trouble
+    ⊎ HasUnknown file xlen first trouble
+
+-- `show`, with `--registers` or without
+abbrev pub ShowsAs : {R W : Type 0} → Bool → Bor (List ℕ) → Limit → Options → Reading R → Writing W
+    → Result Bool Trouble → Type 0
+ShowsAs true file limit options first out done =
+    Ends (AreRegistersShown options first) (HasNoListing file options.xlen first) out done
+ShowsAs false file limit options first out done =
+    Ends (IsMapShown limit options first) (IsMapUnshown file options first) out done
+
+-- `map` of a device tree: the text is the map of its board. What machine mode may do is not asked of it
+abbrev pub IsTreeMapped : Mode → List ℕ → List ℕ → ℕ → Type 0
+IsTreeMapped mode bytes text status = (mode ≢ Machine) × IsMapOfTree bytes text × (status ≡ 0)
+
+-- `map` of a listing of registers: the text is the map that they mean for a mode, or why there is none
+abbrev pub AreRegistersMapped : Options → List ℕ → List ℕ → ℕ → Type 0
+AreRegistersMapped options bytes text status = (is_map : Bool)
+    × IsMapFile options.mode options.xlen bytes text is_map × (status ≡ answer_status is_map)
+
+-- `map`: a file is read, which is a device tree where its bytes begin as one does, and a listing of registers otherwise
+abbrev pub IsMapped : {R : Type 0} → Options → Reading R → List ℕ → ℕ → Type 0
+IsMapped options first text status = (bytes : List ℕ) × HasBytes (2 ^ 20) first bytes
+    × (((is_tree bytes ≡ true) × IsTreeMapped options.mode bytes text status)
+    ⊎ ((is_tree bytes ≡ false) × AreRegistersMapped options bytes text status))
+
+-- why there is no text of a board: a fault of its tree, which is told
+abbrev pub IsOfBoard : Bor (List ℕ) → (BoardTextFault → Type 0) → Trouble → Type 0
+IsOfBoard file IsNone trouble = (fault : BoardTextFault) × (said : List ℕ) × IsNone fault
+    × (trouble ≡ NoBoardText file said)
+
+abbrev pub IsTreeUnmapped : Bor (List ℕ) → Mode → List ℕ → Trouble → Type 0
+IsTreeUnmapped file mode bytes trouble = ((mode ≡ Machine) × (trouble ≡ NoRegisters file))
+    ⊎ IsOfBoard file (IsNoMap bytes) trouble
+
+abbrev pub IsUnmapped : {R : Type 0} → Bor (List ℕ) → Options → Reading R → Trouble → Type 0
+IsUnmapped file options first trouble = HasNoListing file options.xlen first trouble
+    ⊎ ((bytes : List ℕ) × HasBytes (2 ^ 20) first bytes
+    × (IsTreeUnmapped file options.mode bytes trouble
+    ⊎ ((leaves : Listing) × (listed options.xlen bytes ≡ Some leaves) × AreTooFine options.mode leaves
+    × (trouble ≡ TooManyRanges file))))
+
+-- `platform`: the device tree of a board is read, and the text is its platform, with the monitor where it is given
+abbrev pub IsPlatformTold : {R : Type 0} → Option (ℕ × ℕ) → Reading R → List ℕ → ℕ → Type 0
+IsPlatformTold monitor first text status = (bytes : List ℕ) × HasBytes (2 ^ 20) first bytes
+    × IsPlatformOfTree monitor bytes text × (status ≡ 0)
+
+abbrev pub IsPlatformUntold : {R : Type 0} → Bor (List ℕ) → Option (ℕ × ℕ) → Reading R → Trouble
+    → Type 0
+IsPlatformUntold board monitor first trouble = HasNoBytes (2 ^ 20) board first trouble
+    ⊎ ((bytes : List ℕ) × HasBytes (2 ^ 20) first bytes
+    × IsOfBoard board (IsNoPlatform monitor bytes) trouble)

@@ -1,0 +1,13 @@
+-- What a fault of a listing is for the program.
+use Rattle.std.specs.Prelude.{ℕ, List}
+use Rattle.std.specs.Borrow.{Bor}
+use Rattle.program_files.specs.declared.trouble.Trouble.{Trouble}
+use Rattle.program_files.specs.declared.trouble.Trouble.TheVariants as troubles
+use Rattle.register_audit.specs.declared.fault.ListingFault.{ListingFault}
+use Rattle.register_audit.specs.declared.fault.ListingFault.TheVariants as faults
+
+-- the trouble of a listing in a file of that name
+abbrev pub listing_trouble : Bor (List ℕ) → ListingFault → Trouble
+listing_trouble file (faults.Line n) = troubles.NotUnderstood file n
+listing_trouble file faults.Memory = troubles.Memory
+listing_trouble file faults.Device = troubles.Output

@@ -1,0 +1,91 @@
+-- What `plan` comes to on the files and streams that are lent for it.
+use Rattle.std.specs.Prelude.{◌≡◌, ◌⊎◌, ℕ, ◌-◌, min, List, Option, Some, None, Result, Ok, Err, option_map}
+use Rattle.std.specs.Borrow.{Bor}
+use Rattle.byte_streams.specs.Writings.{Breaks, IsUnwritten, TakesAll, Writing}
+use Rattle.pmp_encoding.specs.declared.limit.Limit.{Limit}
+use Rattle.pmp_encoding.specs.declared.region.Entry.{Entry}
+use Rattle.pmp_encoding.specs.Limits.{limit_number}
+use Rattle.permission_map.specs.declared.runs.Run.{Run}
+use Rattle.permission_map.specs.Runs.{view_of_runs}
+use Rattle.printed_lines.specs.Plans.{IsPlanText}
+use Rattle.pmp_encoding.specs.declared.xlen.Xlen.{Xlen}
+use Rattle.pmp_encoding.specs.Widths.{AreReached}
+use Rattle.register_formats.specs.AsmTexts.{IsAsmText}
+use Rattle.register_formats.specs.CTexts.{IsCText}
+use Rattle.register_formats.specs.JsonTexts.{IsJsonText}
+use Rattle.command_line.specs.declared.options.Format.{Format}
+use Rattle.command_line.specs.declared.options.Format.TheVariants as formats
+use Rattle.program_files.specs.declared.trouble.Trouble.{Trouble}
+use Rattle.program_files.specs.declared.trouble.Trouble.TheVariants.{Output}
+use Rattle.program_files.specs.Reading.{Reading, HasMap, HasNoMap}
+use Rattle.command_line.specs.declared.options.Options.{Options}
+use Rattle.monitor_cli.specs.CertifiedPlan.{IsCertificateOf, IsCertified, IsNotPut, IsPlanned}
+use Rattle.monitor_cli.specs.CertifiedPlan.{IsUnplanned, Placing, WritesNothing}
+
+-- how many entries a plan may have, where there is a bound: what was asked for, and for C and
+-- assembly as many as the hart has from the first on
+abbrev pub most_entries : Limit → ℕ → Option ℕ → Format → Option ℕ
+most_entries limit first at_most formats.Text = at_most
+most_entries limit first at_most formats.Json = at_most
+most_entries limit first None format = Some (limit_number limit - first)
+most_entries limit first (Some n) format = Some (min n (limit_number limit - first))
+
+-- the text of a plan as the options say, of the map of that name
+abbrev pub IsPrintedAs : Format → Options → Limit → List ℕ → List Entry → List ℕ → Type 0
+IsPrintedAs formats.Text options limit map entries text =
+    IsPlanText options.xlen limit options.first entries text
+IsPrintedAs formats.C options limit map entries text =
+    IsCText (option_map (λ s. s.now) options.name) options.xlen limit options.first entries text
+IsPrintedAs formats.Asm options limit map entries text =
+    IsAsmText (option_map (λ s. s.now) options.name) options.xlen limit options.first entries text
+IsPrintedAs formats.Json options limit map entries text =
+    IsJsonText map options.xlen limit options.first entries text
+
+abbrev pub IsPrinted : Options → Limit → List ℕ → List Entry → List ℕ → Type 0
+IsPrinted options limit map entries text =
+    IsPrintedAs options.format options limit map entries text
+
+-- how many entries it may have
+abbrev pub most_of : Limit → Options → Option ℕ
+most_of limit options = most_entries limit options.first options.at_most options.format
+
+-- what `plan` is made of: the map was read, its certificate is written where one is asked for, and the text is that of the plan
+pub record IsPlanMade {R C : Type 0} (map : Bor (List ℕ)) (file : Option (Bor (List ℕ)))
+    (limit : Limit) (options : Options) (source : Reading R) (cert : Placing C) (text : List ℕ) :
+    Type 0 where
+  pub runs : List Run
+  pub has_map : HasMap source runs
+  pub entries : List Entry
+  pub planned : IsPlanned (view_of_runs runs) (most_of limit options) entries
+  pub reached : AreReached options.xlen entries
+  pub certified : IsCertified (view_of_runs runs) limit entries file cert
+  pub printed : IsPrinted options limit map.now entries text
+
+-- why there is no plan of a file: it has no map, or this has no plan
+abbrev pub HasNoPlan : {R : Type 0} → Bor (List ℕ) → Xlen → Option ℕ → Reading R → Trouble → Type 0
+HasNoPlan map xlen most source trouble = HasNoMap map source trouble
+    ⊎ ((runs : List Run) × HasMap source runs
+    × IsUnplanned (view_of_runs runs) xlen most map trouble)
+
+-- the certificate of a plan could not be put in its place
+pub record BreaksCertificate {R C : Type 0} (file : Option (Bor (List ℕ))) (limit : Limit)
+    (options : Options) (source : Reading R) (cert : Placing C) (trouble : Trouble) : Type 0 where
+  pub runs : List Run
+  pub has_map : HasMap source runs
+  pub entries : List Entry
+  pub planned : IsPlanned (view_of_runs runs) (most_of limit options) entries
+  pub bytes : List ℕ
+  pub certificate : IsCertificateOf (view_of_runs runs) limit entries bytes
+  pub broken : IsNotPut bytes file cert trouble
+
+-- `plan`: the text is printed, or a beginning of it where the device fails; or there is no plan, and nothing is written; or the
+-- certificate is not put in its place, and nothing is printed
+abbrev pub Plans : {R C W : Type 0} → Bor (List ℕ) → Option (Bor (List ℕ)) → Limit → Options
+    → Reading R → Placing C → Writing W → Result ℕ Trouble → Type 0
+Plans map file limit options source cert out (Ok status) = (text : List ℕ) × (status ≡ 0)
+    × IsPlanMade map file limit options source cert text × TakesAll text out
+Plans map file limit options source cert out (Err trouble) =
+    ((trouble ≡ Output) × ((text : List ℕ) × IsPlanMade map file limit options source cert text
+    × Breaks text out))
+    ⊎ (IsUnwritten out × ((HasNoPlan map options.xlen (most_of limit options) source trouble
+    × WritesNothing cert) ⊎ BreaksCertificate file limit options source cert trouble))

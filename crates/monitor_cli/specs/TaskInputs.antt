@@ -1,0 +1,39 @@
+-- What reads at the places of a task.
+use Rattle.std.specs.Prelude.{◌≡◌, ℕ, List, [], Option, Some, None}
+use Rattle.std.specs.Borrow.{Bor}
+use Rattle.byte_streams.specs.declared.streams.Counted.{Counted}
+use Rattle.byte_streams.specs.Streams.{failures_of, inner_of}
+use Rattle.program_files.specs.declared.devices.InputToRead.{InputToRead}
+use Rattle.program_files.specs.declared.reason.Explained.{Explained}
+use Rattle.command_line.specs.declared.task.Task.{Task}
+use Rattle.command_line.specs.declared.places.InputName.{InputName}
+use Rattle.command_line.specs.declared.places.InputName.TheVariants.{File, StandardInput}
+use Rattle.command_line.specs.Places.{first_of, second_of}
+use Rattle.program_files.specs.Inputs.{IsOfFile, IsOfStream}
+
+-- an input reads at a place, with that standard input; where there is none, the file of no name,
+-- which is not there
+abbrev pub IsAt : {R S F D : Type 0} → S → Option InputName → InputToRead R S F D → Type 0
+IsAt stdin (Some (File name)) input = IsOfFile name input
+IsAt stdin (Some StandardInput) input = IsOfStream stdin input
+IsAt stdin None input = (name : Bor (List ℕ)) × (name.now ≡ []) × IsOfFile name input
+
+-- what a task reads: its failures are counted, and why the last one came is kept
+abbrev pub Input : Type 0 → Type 0 → Type 0 → Type 0 → Type 0
+Input R S F D = Counted (Explained (InputToRead R S F D))
+
+-- the file or the stream that it is
+abbrev pub reader_in : {R S F D : Type 0} → Input R S F D → InputToRead R S F D
+reader_in {R = R} {S = S} {F = F} {D = D} input =
+    (inner_of {T = Explained (InputToRead R S F D)} input).inner
+
+-- an input has not failed
+abbrev pub IsFresh : {R S F D : Type 0} → Input R S F D → Type 0
+IsFresh input = failures_of input ≡ 0
+
+-- inputs read at the places of a task, what it reads first and what after that, and have not failed
+pub record AreInputs {R S F D : Type 0} (stdin : S) (task : Task) (first second : Input R S F D) :
+    Type 0 where
+  pub at_first : IsAt stdin (Some (first_of task)) (reader_in first)
+  pub at_second : IsAt stdin (second_of task) (reader_in second)
+  pub fresh : IsFresh first × IsFresh second

@@ -1,0 +1,102 @@
+//! `check`: a certificate against a map.
+
+ghost use Rattle.std.specs.Prelude.{◌≡◌, ℕ, ◌-◌, ◌^◌, ◌<◌, List, IfErr, IfOk};
+ghost use Rattle.byte_streams.specs.Writings.{writing};
+ghost use Rattle.pmp_match.specs.Meaning.{View};
+ghost use Rattle.certificate_check.specs.declared.refusal.CheckRefusal.{CheckRefusal};
+ghost use Rattle.certificate_check.specs.Certificates.{IsJudged, IsRight, RefusalStands};
+ghost use Rattle.certificate_check.specs.Refusals.{refusal_name, refusal_number};
+ghost use Rattle.permission_map.specs.Runs.{view_of_runs};
+ghost use Rattle.printed_lines.specs.Texts.{refused_text};
+ghost use Rattle.program_files.specs.Reading.{reading, HasBytes, HasNoBytes};
+ghost use Rattle.monitor_cli.specs.Commands.{Ends, IsChecked, IsUnchecked};
+ghost use Rattle.monitor_cli.specs.Verdicts.{accepted_by, IsVerdict};
+
+use byte_streams::{Sink, Source, write_whole};
+use certificate_check::{CheckRefusal, check_source};
+use certificate_format::{Header, Version};
+use permission_map::PermissionMap;
+use printed_lines::{accepted_line, accepted_of_line, refused_line};
+use program_files::{CERTIFICATE_BYTES, Trouble, map_in};
+use std::alloc::Global;
+use text_lines::Line;
+
+/// The line for a yes: of a certificate of version 2 it names the limit.
+fn yes_line(header: &Header) -> Line
+    ensures { result ≡ accepted_by header.now.version header.now.count }
+{
+    match header.version {
+        Version::One => accepted_line(u64::from(header.count)),
+        Version::Two(limit) => {
+            accepted_of_line(u64::from(header.count), u64::from(limit.number()))
+        }
+    }
+}
+
+/// The line for a no: the number and the name of the refusal.
+#[tactic(auto, using(crate::proofs::Names::name_fits))]
+fn no_line(refusal: CheckRefusal) -> Line
+    ensures { result ≡ refused_text (refusal_number refusal) (refusal_name refusal) }
+{
+    refused_line(u64::from(refusal.number()), refusal.name())
+}
+
+/// The line that `check` prints for what was found of a certificate, and its status: 0 for a yes and 1 for a no.
+fn verdict(found: &Result<Header, CheckRefusal>) -> (Line, u8)
+    ensures yes { (view : View) (bytes : List ℕ) → IsJudged view bytes found.now
+        → (n : ℕ) (right : IsRight view bytes n)
+        → (result.0 ≡ accepted_by right.version n) × (result.1 ≡ 0) }
+    ensures no { (view : View) (bytes : List ℕ) → IsJudged view bytes found.now
+        → (refusal : CheckRefusal) → RefusalStands view bytes refusal
+        → (result.0 ≡ refused_text (refusal_number refusal) (refusal_name refusal))
+        × (result.1 ≡ 1) }
+    ensures verdict { (view : View) (bytes : List ℕ) → IsJudged view bytes found.now
+        → IsVerdict view bytes result.0 result.1 }
+{
+    match found {
+        Ok(header) => (yes_line(header), 0),
+        Err(refusal) => (no_line(*refusal), 1),
+    }
+}
+
+/// What is found of the bytes of a certificate file. They are read to their end, and not held.
+fn found_in<'a, R: Source>(
+    alloc: Global,
+    file: &'a str,
+    map: &PermissionMap,
+    source: &mut R,
+) -> Result<Result<Header, CheckRefusal>, Trouble<'a>>
+    ensures whole { IfOk result (λ found. (bytes : List ℕ)
+        × HasBytes (2 ^ 26) (reading R.remaining R.failures source.old source.new) bytes
+        × IsJudged (view_of_runs map.now) bytes found) }
+    ensures refused { IfErr result
+        (HasNoBytes (2 ^ 26) file.entry (reading R.remaining R.failures source.old source.new)) }
+{
+    match check_source(alloc, map, source, CERTIFICATE_BYTES as u32) {
+        Ok(found) => Ok(found),
+        Err(fault) => Err(Trouble::of_source(file, fault)),
+    }
+}
+
+/// Checks a certificate against a map, and answers the status 0 for a yes and 1 for a no.
+#[inline(never)]
+pub(crate) fn do_check<'a, R: Source, W: Sink>(
+    alloc: Global,
+    map: &'a str,
+    cert: &'a str,
+    first: &mut R,
+    second: &mut R,
+    out: &mut W,
+) -> Result<u8, Trouble<'a>>
+    ensures { let source = reading R.remaining R.failures in
+        let one = source first.old first.new in
+        let other = source second.old second.new in
+        Ends (IsChecked one other) (IsUnchecked map.entry cert.entry one other)
+        (writing W.contents W.failures W.stalls out.old out.new) result }
+{
+    let map = map_in(alloc, map, first)?;
+    let found = found_in(alloc, cert, &map, second)?;
+    let (line, status) = verdict(&found);
+    write_whole(out, line.as_slice())?;
+    Ok(status)
+}

@@ -1,0 +1,191 @@
+//! `lint`: what is wrong with a map file, a platform file, a listing of registers or a trace.
+
+ghost use Rattle.std.specs.Prelude.{◌≡◌, ◌-◌, ◌^◌, ◌<◌, IfErr, IfOk, length, false, true};
+ghost use Rattle.input_files.specs.Traces.{is_trace};
+ghost use Rattle.input_files.specs.Maps.{IsVerdictOfLines};
+ghost use Rattle.program_files.specs.Reading.{reading};
+ghost use Rattle.monitor_cli.specs.Lints.{names_platform, HasHarts, HasNoHarts, IsFound, IsListingFound, IsOfDevices, Lints};
+
+use crate::platform_inputs::read_platform;
+use byte_streams::{Sink, Source};
+use command_line::{LintKind, Options};
+use input_files::{LintFault, Taker, lint_platform, lint_trace};
+use itoa::Buffer;
+use pmp_encoding::Xlen;
+use program_files::{
+    MAP_BYTES, REGISTER_BYTES, Trouble, bytes_in, shown, text_of, write_named,
+};
+use register_audit::{is_listing, listing_of};
+use std::alloc::Global;
+
+/// How many bytes a trace may have that is linted.
+pub const TRACE_BYTES: usize = 1 << 30;
+
+/// Whether a file should be a platform by its name, which ends in `.toml`.
+pub(crate) fn names_platform(name: &str) -> bool
+    ensures { result ≡ names_platform name.now }
+{
+    name.as_bytes().ends_with(b".toml")
+}
+
+/// What a fault of a lint is for the program.
+fn lint_trouble(fault: LintFault) -> Trouble<'static>
+    ensures { IsOfDevices result }
+{
+    match fault {
+        LintFault::Memory => Trouble::Memory,
+        LintFault::Device => Trouble::Output,
+    }
+}
+
+/// Prints what is wrong with the bytes of a map file, and answers whether they are a map.
+pub(crate) fn lint_map<W: Sink>(
+    alloc: Global,
+    name: &str,
+    bytes: &[u8],
+    out: &mut W,
+) -> Result<bool, Trouble<'static>>
+    requires { length bytes.now < 2 ^ 64 - 1 }
+    ensures found { IfOk result (IsVerdictOfLines bytes.now) }
+    ensures stopped { IfErr result IsOfDevices }
+{
+    let name = shown(alloc, name.as_bytes())?;
+    match input_files::lint_map(alloc, text_of(name.as_slice()), bytes, out) {
+        Ok(is_map) => Ok(is_map),
+        Err(fault) => Err(lint_trouble(fault)),
+    }
+}
+
+/// Prints what is wrong with the bytes of a platform file, or warnings of a platform, and answers whether they are one.
+pub(crate) fn lint_as_platform<W: Sink>(
+    alloc: Global,
+    name: &str,
+    bytes: &[u8],
+    out: &mut W,
+) -> Result<bool, Trouble<'static>>
+    ensures found { IfOk result (IsFound true bytes.now) }
+    ensures stopped { IfErr result IsOfDevices }
+{
+    let name = shown(alloc, name.as_bytes())?;
+    match lint_platform(alloc, text_of(name.as_slice()), bytes, out) {
+        Ok(is_platform) => Ok(is_platform),
+        Err(fault) => Err(lint_trouble(fault)),
+    }
+}
+
+/// Prints what is wrong with the bytes of a trace that should be taken so, and answers whether they are one.
+pub(crate) fn lint_as_trace<W: Sink>(
+    alloc: Global,
+    name: &str,
+    bytes: &[u8],
+    taker: Taker,
+    out: &mut W,
+) -> Result<bool, Trouble<'static>>
+    requires { length bytes.now < 2 ^ 64 - 1 }
+    ensures found { IfOk result (λ is. is ≡ is_trace taker bytes.now) }
+    ensures stopped { IfErr result IsOfDevices }
+{
+    let name = shown(alloc, name.as_bytes())?;
+    match lint_trace(alloc, text_of(name.as_slice()), bytes, taker, out) {
+        Ok(is_trace) => Ok(is_trace),
+        Err(fault) => Err(lint_trouble(fault)),
+    }
+}
+
+/// Why a line of a listing is not understood, where by the other width all lines are, or not.
+fn listing_reason(xlen: Xlen, bytes: &[u8]) -> &'static str
+    requires { length bytes.now < 2 ^ 64 - 1 }
+{
+    match xlen {
+        Xlen::Rv64 if is_listing(Xlen::Rv32, bytes) => {
+            ":1: the line is not understood, but each is as one of RV32; add '--xlen 32'\n"
+        }
+        Xlen::Rv32 if is_listing(Xlen::Rv64, bytes) => {
+            ":1: the line is not understood, but each is as one of RV64; leave out '--xlen 32'\n"
+        }
+        Xlen::Rv64 => {
+            ":1: the line is not understood; write a register and its value, as 'pmpcfg0 0x1f'\n"
+        }
+        Xlen::Rv32 => {
+            ":1: the line is not understood; write a register and its value of 32 bits, as 'pmpcfg0 0x1f'\n"
+        }
+    }
+}
+
+/// Prints the first line of a listing of registers of that width that is not understood, and answers whether there is none.
+pub(crate) fn lint_listing<W: Sink>(
+    xlen: Xlen,
+    name: &str,
+    bytes: &[u8],
+    out: &mut W,
+) -> Result<bool, Trouble<'static>>
+    requires { length bytes.now < 2 ^ 64 - 1 }
+    ensures found { IfOk result (IsListingFound xlen bytes.now) }
+    ensures stopped { IfErr result IsOfDevices }
+{
+    match listing_of(xlen, bytes) {
+        Ok(_) => Ok(true),
+        Err(line) => {
+            let mut number = Buffer::new();
+            let parts = [":", number.format(line), listing_reason(xlen, bytes)];
+            write_named(out, "", name, &parts)?;
+            Ok(false)
+        }
+    }
+}
+
+/// How many harts a trace is for: those of a platform where one is named, otherwise four.
+fn harts_in<'a, R: Source>(
+    alloc: Global,
+    platform: Option<&'a str>,
+    source: &mut R,
+) -> Result<u8, Trouble<'a>>
+    ensures has { IfOk result (HasHarts platform.entry
+        (reading R.remaining R.failures source.old source.new)) }
+    ensures refused { IfErr result (HasNoHarts platform.entry
+        (reading R.remaining R.failures source.old source.new)) }
+{
+    let Some(file) = platform else {
+        return Ok(4);
+    };
+    let platform = read_platform(alloc, file, source)?;
+    Ok(platform.harts())
+}
+
+/// Prints what is wrong with a file, line by line, and answers whether it is what it should be: a platform where its name ends in
+/// `.toml` and otherwise a map, or as the options say a listing of registers or a trace, which is for the harts of a platform where
+/// one is named.
+#[inline(never)]
+pub(crate) fn do_lint<'a, R: Source, W: Sink>(
+    alloc: Global,
+    file: &'a str,
+    platform: Option<&'a str>,
+    options: &Options<'a>,
+    first: &mut R,
+    second: &mut R,
+    out: &mut W,
+) -> Result<bool, Trouble<'a>>
+    ensures { let source = reading R.remaining R.failures in
+        Lints options.now.kind options.now.xlen file.entry platform.entry
+        (source first.old first.new) (source second.old second.new) result }
+{
+    match options.kind {
+        LintKind::ByName => {
+            let bytes = bytes_in(alloc, file, first, MAP_BYTES)?;
+            if names_platform(file) {
+                lint_as_platform(alloc, file, bytes.as_slice(), out)
+            } else {
+                lint_map(alloc, file, bytes.as_slice(), out)
+            }
+        }
+        LintKind::Registers => {
+            let bytes = bytes_in(alloc, file, first, REGISTER_BYTES)?;
+            lint_listing(options.xlen, file, bytes.as_slice(), out)
+        }
+        LintKind::Trace => {
+            let harts = harts_in(alloc, platform, second)?;
+            let bytes = bytes_in(alloc, file, first, TRACE_BYTES)?;
+            lint_as_trace(alloc, file, bytes.as_slice(), Taker::Run { harts }, out)
+        }
+    }
+}

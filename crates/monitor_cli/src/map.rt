@@ -1,0 +1,76 @@
+//! `map`: the map that registers mean, or that of a board.
+
+ghost use Rattle.std.specs.Prelude.{◌≡◌, ◌↔◌, ◌-◌, ◌^◌, ◌<◌, length, true};
+ghost use Rattle.pmp_match.specs.declared.access.Mode as Mode;
+ghost use Rattle.byte_streams.specs.Writings.{writing};
+ghost use Rattle.program_files.specs.Reading.{reading};
+ghost use Rattle.monitor_cli.specs.Answered.{status_in};
+ghost use Rattle.monitor_cli.specs.Commands.{Ends, IsMapped, IsTreeMapped, IsTreeUnmapped, IsUnmapped};
+
+use crate::answered::{Answered, answer_status, noted, quiet};
+use crate::boards::board_trouble;
+use crate::listings::listing_trouble;
+use arrayvec::ArrayVec;
+use board_texts::{is_tree, map_text_of};
+use byte_streams::{Sink, Source, write_whole};
+use command_line::Options;
+use pmp_match::Mode;
+use program_files::{REGISTER_BYTES, Trouble, bytes_in};
+use register_audit::{MapOfFault, print_map_of};
+use std::alloc::Global;
+
+/// Whether a mode is machine mode.
+fn is_machine(mode: Mode) -> bool
+    ensures { (result ≡ true) ↔ (mode ≡ Mode.Machine) }
+{
+    mode == Mode::Machine
+}
+
+/// Prints the map of a board's device tree, of which machine mode is not asked.
+fn print_map_of_tree<'a, W: Sink>(
+    alloc: Global,
+    file: &'a str,
+    mode: Mode,
+    bytes: &[u8],
+    out: &mut W,
+) -> Result<u8, Trouble<'a>>
+    ensures { Ends (IsTreeMapped mode bytes.now) (IsTreeUnmapped file.entry mode bytes.now)
+        (writing W.contents W.failures W.stalls out.old out.new) result }
+{
+    if is_machine(mode) {
+        return Err(Trouble::NoRegisters { file });
+    }
+    let text = match map_text_of(alloc, bytes) {
+        Ok(text) => text,
+        Err(fault) => return Err(board_trouble(file, &fault)),
+    };
+    write_whole(out, text.as_slice())?;
+    Ok(0)
+}
+
+/// Prints the map of a board's device tree, or the one that registers mean for a mode, and answers the status 0, or 1 where
+/// registers mean none; and beside it what is passed over of their listing. A file whose bytes begin as a flattened device tree
+/// does is read as one.
+#[inline(never)]
+pub(crate) fn do_map<'a, R: Source, W: Sink>(
+    alloc: Global,
+    file: &'a str,
+    options: &Options<'a>,
+    first: &mut R,
+    out: &mut W,
+) -> Result<Answered, Trouble<'a>>
+    ensures { let one = reading R.remaining R.failures first.old first.new in
+        Ends (IsMapped options.now one) (IsUnmapped file.entry options.now one)
+        (writing W.contents W.failures W.stalls out.old out.new) (status_in result) }
+{
+    let (xlen, mode) = (options.xlen, options.mode);
+    let bytes = bytes_in(alloc, file, first, REGISTER_BYTES)?;
+    if is_tree(bytes.as_slice()) {
+        return quiet(print_map_of_tree(alloc, file, mode, bytes.as_slice(), out));
+    }
+    match print_map_of(alloc, mode, xlen, bytes.as_slice(), out) {
+        Ok(answer) => Ok(noted(answer_status(answer.is_map), &answer.notes, &ArrayVec::new())),
+        Err(MapOfFault::TooManyRanges) => Err(Trouble::TooManyRanges { file }),
+        Err(MapOfFault::Listing(fault)) => Err(listing_trouble(file, fault)),
+    }
+}

@@ -1,0 +1,59 @@
+//! The platform of a platform file.
+
+ghost use Rattle.std.specs.Prelude.{◌≡◌, ◌-◌, ◌^◌, ◌<◌, ◌⊎◌, IfErr, IfOk};
+ghost use Rattle.platforms.specs.Platform.{PlatformLayout};
+ghost use Rattle.input_files.specs.Document.{IsPlatformFile};
+ghost use Rattle.program_files.specs.Reading.{reading};
+ghost use Rattle.monitor_cli.specs.Platforms.{text_trouble, HasNoPlatform, HasPlatform};
+
+use byte_streams::Source;
+use input_files::{TextFault, platform_of};
+use platforms::Platform;
+use program_files::{Trouble, bytes_in};
+use std::alloc::Global;
+use std::str;
+
+/// What a fault of a platform's text is for the program.
+fn text_trouble<'a>(file: &'a str, fault: TextFault) -> Trouble<'a>
+    ensures { result ≡ text_trouble file.entry fault }
+{
+    match fault {
+        TextFault::NotAPlatform => Trouble::NotAPlatform { file },
+        TextFault::Memory => Trouble::Memory,
+    }
+}
+
+/// How many bytes a platform file may have.
+pub const PLATFORM_BYTES: usize = 1 << 20;
+
+/// The platform that the bytes of a file are.
+pub(crate) fn platform_in<'a>(alloc: Global, file: &'a str, bytes: &[u8]) -> Result<Platform, Trouble<'a>>
+    ensures ok { IfOk result (IsPlatformFile bytes.now) }
+    ensures refused { IfErr result (λ trouble.
+        (trouble ≡ Trouble.Memory)
+        ⊎ ((trouble ≡ Trouble.NotAPlatform file.entry)
+        × ((platform : PlatformLayout) → IsPlatformFile bytes.now platform → ⊥))) }
+{
+    let Ok(text) = str::from_utf8(bytes) else {
+        return Err(Trouble::NotAPlatform { file });
+    };
+    match platform_of(alloc, text) {
+        Ok(platform) => Ok(platform),
+        Err(fault) => Err(text_trouble(file, fault)),
+    }
+}
+
+/// The platform of a platform file.
+pub(crate) fn read_platform<'a, R: Source>(
+    alloc: Global,
+    file: &'a str,
+    source: &mut R,
+) -> Result<Platform, Trouble<'a>>
+    ensures made { IfOk result
+        (HasPlatform (reading R.remaining R.failures source.old source.new)) }
+    ensures refused { IfErr result
+        (HasNoPlatform file.entry (reading R.remaining R.failures source.old source.new)) }
+{
+    let bytes = bytes_in(alloc, file, source, PLATFORM_BYTES)?;
+    platform_in(alloc, file, bytes.as_slice())
+}

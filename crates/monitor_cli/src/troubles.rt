@@ -1,0 +1,39 @@
+//! The end of a program that came to trouble.
+
+ghost use Rattle.std.specs.Prelude.{◌≡◌, MatchResult};
+ghost use Rattle.std.specs.Process.{exit_status};
+ghost use Rattle.byte_streams.specs.Streams.{failures_of};
+ghost use Rattle.program_files.specs.Troubles.{trouble_status};
+
+use byte_streams::Counted;
+use program_files::{RetryInterrupted, Trouble};
+use std::alloc::AllocError;
+use std::io::Stderr;
+use std::process::ExitCode;
+
+/// Standard error, where a write that a signal interrupted is tried again.
+pub fn standard_error(rt: &HostRuntime) -> Counted<RetryInterrupted<Stderr>>
+    ensures { failures_of result ≡ 0 }
+{
+    Counted::new(RetryInterrupted::new(rt.stderr()))
+}
+
+/// Says what went wrong, and with which status the program ends.
+pub(crate) fn exit_with_trouble(rt: &HostRuntime, trouble: Trouble<'_>) -> ExitCode
+    ensures { exit_status result ≡ trouble_status trouble.entry }
+{
+    let mut err = standard_error(rt);
+    let _ = trouble.print(&mut err);
+    ExitCode::from(trouble.status())
+}
+
+/// The end of a task that was done, with its status, or for which memory was refused, which is reported.
+pub fn exit_with_status(rt: &HostRuntime, status: Result<u8, AllocError>) -> ExitCode
+    ensures { MatchResult status (λ status. exit_status result ≡ status)
+        (λ _. exit_status result ≡ 4) }
+{
+    match status {
+        Ok(status) => ExitCode::from(status),
+        Err(AllocError) => exit_with_trouble(rt, Trouble::Memory),
+    }
+}

@@ -1,6 +1,0 @@
-pub mod Begins
-pub mod Firsts
-mod Monitors
-pub mod Refused
-pub mod Passed
-mod Texts
