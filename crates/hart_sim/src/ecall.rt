@@ -6,6 +6,7 @@ ghost use Rattle.hart_sim.specs.Changes.{zeroing};
 ghost use Rattle.hart_sim.specs.Parts.{shown};
 
 use crate::Memory;
+use crate::call_registers::put_words;
 use crate::hart_registers::{follow, put_call};
 use crate::parts::MachineParts;
 use arrayvec::ArrayVec;
@@ -51,8 +52,9 @@ impl MachineParts {
             (with_running (core_of s) hart file) hart result pages core
             × (state_in self.new ≡ zeroing (with_core s core) pages) }
     {
+        let mut asked = *self.harts[hart as usize].registers();
+        put_words(&mut asked, words);
         put_call(&mut self.harts[hart as usize], words);
-        let asked = *self.harts[hart as usize].registers();
         let mut changes = SetChanges::none();
         let served = self.core.serve(
             hart,

@@ -72,11 +72,13 @@ pub(crate) fn follow(
 {
     change(here, contexts, &changes.first);
     change(here, contexts, &changes.second);
-    change(here, contexts, &changes.third);
-    if load {
-        let number = here.number();
-        switch(here, contexts, core.world(number), core.entries(number));
+    if !load {
+        change(here, contexts, &changes.third);
+        return;
     }
+    let number = here.number();
+    switch(here, contexts, core.world(number), core.entries(number));
+    change(here, contexts, &changes.third);
 }
 
 /// Returns whether a hart runs the host of the hart of this number, or this enclave.

@@ -1,10 +1,11 @@
 //! Calls and interrupts on a booted core of the monitor, without memory and traces. The answers, and how many entries each
 //! world needs, are those of the same life on a machine.
 
-ghost use Rattle.std.specs.Prelude.{replicate};
+ghost use Rattle.std.specs.Prelude.{replicate, ◌<◌};
 
 use monitor_core::{
-    Core, MeasuresPages, PageRange, Pages, Platform, Registers, Served, SetChange, SetChanges, World,
+    Core, MeasuresPages, PageRange, Pages, Platform, Registers, Served, SetChange, SetChanges,
+    World,
 };
 use pmp_encoding::Perm;
 use std::alloc::Global;

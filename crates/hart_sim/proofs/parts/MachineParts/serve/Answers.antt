@@ -5,6 +5,7 @@ use Rattle.pmp_encoding.specs.declared.pages.PageRange.{PageRange}
 use Rattle.platforms.specs.Platform.{PlatformLayout}
 use Rattle.monitor_core.specs.Cores.{kept_of, state_of}
 use Rattle.monitor_core.specs.Frames.{ClearsMemory}
+use Rattle.monitor_core.proofs.Put.{put_there}
 use Rattle.monitor_core.proofs.Running.{others_put, loads_put}
 use Rattle.sbi_decode.specs.Calls.{call_of}
 use Rattle.monitor_core.specs.States.{running_registers}
@@ -29,7 +30,7 @@ pub follow-requires-clause-limited : goal.follow-requires-clause-limited
 follow-requires-clause-limited c =
     let old = c.args.self.now in
     let hart = c.args.hart in
-    let at = read_at old.harts hart c.index-self-hart.result (omega (arith, c.requires.on.fit.four, c.requires.few)) in
+    let at = read_at old.harts hart c.index-self-hart-2.result (omega (arith, c.requires.on.fit.four, c.requires.few)) in
     let put = words_put old hart _ c.put_call.new.here c.args.words.now c.requires.on.fit at c.put_call.ensures in
     let there = read_at (slice_set old.harts hart c.put_call.new.here) hart c.index-self-hart-3.result (omega (arith, put.fit.four, c.requires.few)) in
     (put.fit.each hart _ there).limited ∙ ap (λ l. limit_number l.limit) (sym c.serve-served.ensures.platform)
@@ -42,11 +43,12 @@ returns-clause-served c =
     let e = c.serve-served.ensures in
     let r = c.serve-served.result in
     let harts = slice_set old.harts hart c.put_call.new.here in
-    let at = read_at old.harts hart c.index-self-hart.result (omega (arith, c.requires.on.fit.four, c.requires.few)) in
+    let at = read_at old.harts hart c.index-self-hart-2.result (omega (arith, c.requires.on.fit.four, c.requires.few)) in
     let put = words_put old hart _ c.put_call.new.here c.args.words.now c.requires.on.fit at c.put_call.ensures in
-    let second = read_at harts hart c.index-self-hart-2.result (omega (arith, put.fit.four, c.requires.few)) in
+    let first = read_at old.harts hart c.index-self-hart.result (omega (arith, c.requires.on.fit.four, c.requires.few)) in
     let third = read_at harts hart c.index-self-hart-3.result (omega (arith, put.fit.four, c.requires.few)) in
-    let asked = running_in (record old { harts = harts }) hart _ put.fit second ∙ sym c.registers.ensures in
+    let asked = ap (λ s. running_registers s hart) put.state ∙ put_there (core_in old) hart (with_words (running_registers (core_in old) hart) call_places c.args.words.now)
+    ∙ sym (c.put_words.ensures ∙ ap (λ f. with_words f call_places c.args.words.now) (c.registers.ensures ∙ sym (running_in old hart _ c.requires.on.fit first))) in
     let both = call_followed old core harts c.follow.new.contexts hart _ c.follow.new.here
     (with_words (running_registers (core_in old) hart) call_places c.args.words.now) c.serve-served.new.changes r.load (measured_in (byte_at old.memory)) r.answer
     r.zero put third e.platform e.others e.load c.follow.ensures (e.step (registers_in harts old.contexts) (ap call_of asked)) in
@@ -61,11 +63,12 @@ returns-clause-frame c =
     let e = c.serve-served.ensures in
     let r = c.serve-served.result in
     let harts = slice_set old.harts hart c.put_call.new.here in
-    let at = read_at old.harts hart c.index-self-hart.result (omega (arith, c.requires.on.fit.four, c.requires.few)) in
+    let at = read_at old.harts hart c.index-self-hart-2.result (omega (arith, c.requires.on.fit.four, c.requires.few)) in
     let put = words_put old hart _ c.put_call.new.here c.args.words.now c.requires.on.fit at c.put_call.ensures in
-    let second = read_at harts hart c.index-self-hart-2.result (omega (arith, put.fit.four, c.requires.few)) in
+    let first = read_at old.harts hart c.index-self-hart.result (omega (arith, c.requires.on.fit.four, c.requires.few)) in
     let third = read_at harts hart c.index-self-hart-3.result (omega (arith, put.fit.four, c.requires.few)) in
-    let asked = running_in (record old { harts = harts }) hart _ put.fit second ∙ sym c.registers.ensures in
+    let asked = ap (λ s. running_registers s hart) put.state ∙ put_there (core_in old) hart (with_words (running_registers (core_in old) hart) call_places c.args.words.now)
+    ∙ sym (c.put_words.ensures ∙ ap (λ f. with_words f call_places c.args.words.now) (c.registers.ensures ∙ sym (running_in old hart _ c.requires.on.fit first))) in
     let file = with_words (running_registers (core_in old) hart) call_places c.args.words.now in
     let f = (call_followed old core harts c.follow.new.contexts hart _ c.follow.new.here file c.serve-served.new.changes r.load
     (measured_in (byte_at old.memory)) r.answer r.zero put third e.platform e.others e.load c.follow.ensures
