@@ -56,6 +56,8 @@ pub fn perform_and_close<R: Source, C: WholeSink, T: Write + Drop, E: Sink>(
         (Tells (telling told err.new) (Err Output)) ended result.0 }
 {
     let mut out = out;
-    let status = perform_request::<R, C, Held, _, E>(alloc, request, first, second, cert, &mut out, err);
+    let status = perform_request::<R, C, Held, _, E>(
+        alloc, request, first, second, cert, &mut out, err,
+    );
     close_output(status, out, err)
 }

@@ -140,9 +140,7 @@ fn run_task<'a, R: Source, M, C: CertificateSink<M>, L, W: LineSink<L>>(
             platform,
             trace,
             measure,
-        } => do_run_as::<R, L, W>(
-            alloc, answers, platform, trace, measure, first, second, out,
-        ),
+        } => do_run_as::<R, L, W>(alloc, answers, platform, trace, measure, first, second, out),
         Task::Plan {
             map,
             cert: file,
