@@ -82,7 +82,12 @@ fn have_costs(plan: &Plan, wanted: &[[u32; 6]]) -> bool {
 }
 
 /// Whether a plan without a tree is that of the map's tree, with the same entries and costs.
-fn is_of_tree(rt: &impl Abort, alloc: Global, map: &PermissionMap, of_map: &Plan<PackedEntry>) -> bool {
+fn is_of_tree(
+    rt: &impl Abort,
+    alloc: Global,
+    map: &PermissionMap,
+    of_map: &Plan<PackedEntry>,
+) -> bool {
     let tree = build(alloc, map).expect(rt, "memory");
     let plan = plan(alloc, &tree).expect(rt, "memory");
     plan.branches() == tree.branches()

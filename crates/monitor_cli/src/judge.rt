@@ -73,7 +73,9 @@ fn judge_explaining<'a, J: AccessJudge, D: Deciders, R: Source, L, W: LineSink<L
     ensures { JudgesTrace (explaining (answered_by (J.outcomes by.now))) trace.entry (reading R.remaining R.failures second.old second.new)
         (writing W.contents W.failures W.stalls out.old out.new) result }
 {
-    explain_judged::<J, D, R, L, W>(by, deciders, second, out).map_err(|fault| Trouble::of_run(trace, fault))?;
+    explain_judged::<J, D, R, L, W>(by, deciders, second, out).map_err(|fault| Trouble::of_run(
+        trace, fault,
+    ))?;
     Ok(0)
 }
 
