@@ -182,8 +182,3 @@ said_ahead harts hart len bytes text behind rest event n e is end few =
     let front = named_front harts hart bytes text behind event n e in
     let there = ahead bytes (n.name ++ e.line) behind rest len front.0 front.1 end is few in
     record { begins = there.begins; says = ap (meaning_of harts) there.text ∙ front.2 }
-
--- a whole line behind the hart's name
-pub on_hart : (harts hart : ℕ) (text rest : List ℕ) (event : Event) → Named harts text hart rest → ((n : ℕ) → meaning_of n rest ≡ Some (Some (0, event)))
-    → meaning_of harts text ≡ Some (Some (hart, event))
-on_hart harts hart text rest event n says = ap (meaning_of harts) n.parts ∙ n.said rest event (says 0) (says harts)

@@ -1,13 +1,13 @@
 -- The plainest spelling of an access.
 use Rattle.std.specs.Prelude.{◌≡◌, ◌≤◌, ◌<◌, ℕ, length, drop, slice_index, bit_and, ◌++◌, Bool}
-use Rattle.std.specs.Prelude.{true, ◌||◌, ◌==◌, List, [], ◌∷◌, Some, codes, option_map}
+use Rattle.std.specs.Prelude.{true, ◌||◌, ◌==◌, List, [], ◌∷◌, Some, codes}
 use Rattle.std.specs.List.{list_all}
 use Rattle.std.specs.Int.{from_le_bytes, w64}
 use Rattle.pmp_match.specs.declared.access.Access.{Access}
 use Rattle.pmp_match.specs.declared.access.Mode.{Mode}
 use Rattle.pmp_match.specs.declared.access.Kind.{Kind}
 use Rattle.pmp_match.specs.declared.access.Kind.TheVariants.{Fetch, Load, Store}
-use Rattle.text_lines.specs.Words.{EndsWord, is_blank, is_plain, split_words, words_of}
+use Rattle.text_lines.specs.Words.{is_plain, split_words}
 pub use Rattle.text_lines.specs.Words.{is_letter}
 use Rattle.text_lines.specs.Numbers.{number_of}
 use Rattle.hart_trace.specs.declared.plain.Keyword.{Keyword}
@@ -34,14 +34,6 @@ abbrev pub keyword : Kind → List ℕ
 keyword Fetch = codes "fetch"
 keyword Load = codes "load"
 keyword Store = codes "store"
-
--- the first word of a text is this one, and its other words are those of the rest
-abbrev pub Leads : List ℕ → List ℕ → List ℕ → Type 0
-Leads text word rest = words_of text ≡ option_map (λ words. word ∷ words) (words_of rest)
-
--- a word ends before a text, whose words are those of the rest
-abbrev pub EndsBefore : List ℕ → List ℕ → Type 0
-EndsBefore text rest = EndsWord is_blank text × (words_of text ≡ words_of rest)
 
 -- the first eight bytes of a text make this number, the first of them lowest
 abbrev pub BeginsWith : List ℕ → ℕ → Type 0
