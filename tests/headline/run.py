@@ -23,7 +23,7 @@ CRATES = TOP / "crates"
 PAGE = TOP / "docs" / "HEADLINE.md"
 FOLDER = TOP / "docs" / "headline"
 MACHINE = "hart_sim/src/machine.rt"
-MONITOR = "monitor_core/src/monitor.rt"
+MONITOR = "monitor_core/src/steps.rt"
 PARTS = [
     ("The headline", "What holds after boot and any list of events.", [("hart_sim/src/laws.rt", "headline_law")]),
     ("What each event keeps", "What an event on any hart is answered, and which bytes stay.", [("hart_sim/src/laws.rt", "step_law")]),
@@ -39,9 +39,9 @@ THEOREMS = [("hart_sim/src/laws.rt", "headline_law"), ("trap_server/src/laws.rt"
 # The functions that look at a machine: what they answer is all that is to be known of `state_of`, `kept_of` and `bank_on`.
 OBSERVERS = [(MACHINE, name) for name in ("harts", "world", "registers", "registers_of", "marked", "byte", "is_written", "table", "bank")]
 # The most names and lines of each part, and of all that `boot`, `step` and `run` rest on. They may shrink; where one grows, look for what it says twice.
-MOST = {1: (82, 373), 2: (43, 256), 3: (43, 218), 4: (31, 189), 5: (67, 376), 6: (106, 546), 7: (48, 315), 8: (8, 68), "together": (240, 1254)}
+MOST = {1: (87, 394), 2: (44, 262), 3: (48, 244), 4: (44, 239), 5: (69, 384), 6: (120, 700), 7: (60, 400), 8: (8, 80), "together": (253, 1315)}
 # What those functions show, and no definition says: the state of a machine and of a monitor, the tables that they keep, a machine's banks.
-SHOWN = {"hart_sim": {"state_of", "kept_of", "bank_on"}, "monitor_core": {"state_by", "kept_by"}}
+SHOWN = {"hart_sim": {"state_of", "kept_of", "bank_on"}, "monitor_core": {"state_of", "kept_of", "worlds_of", "marks_of", "list_of"}}
 # A part speaks of these, and says what follows from them: what they are is in a later part.
 LATER = {1: {"Run", "Happens", "IsBooted", "Promises", "IsLayout"}, 2: {"Step"}, 3: {"DoesCall", "Interrupts"}}
 # A type is shown on lines of at most so many characters.

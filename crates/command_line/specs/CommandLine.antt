@@ -166,6 +166,7 @@ run_app = with_rule
     explain_rule)
     hints_rule
 
+-- the arguments of `plan`, and below of each other subcommand
 abbrev pub plan_app : App
 plan_app = with_rule
     (with_rule
@@ -184,6 +185,7 @@ plan_app = with_rule
     xlen_rule)
     hints_rule
 
+-- those of `judge`
 abbrev pub judge_app : App
 judge_app = with_rule
     (with_rule
@@ -198,12 +200,14 @@ judge_app = with_rule
     xlen_rule)
     hints_rule
 
+-- those of `check`
 abbrev pub check_app : App
 check_app = with_rule
     (with_rule (with_rule (new_app (codes "check")) (file_rule (codes "MAP") true))
     (file_rule (codes "CERT") true))
     hints_rule
 
+-- those of `show`
 abbrev pub show_app : App
 show_app = with_rule
     (with_rule
@@ -220,6 +224,7 @@ show_app = with_rule
     costs_rule)
     hints_rule
 
+-- those of `audit`
 abbrev pub audit_app : App
 audit_app = with_rule
     (with_rule
@@ -232,10 +237,12 @@ audit_app = with_rule
     mode_rule)
     hints_rule
 
+-- those of `map`
 abbrev pub map_app : App
 map_app = with_rule (with_rule (with_rule (with_rule (new_app (codes "map"))
     (file_rule (codes "FILE") true)) xlen_rule) mode_rule) hints_rule
 
+-- those of `lint`
 abbrev pub lint_app : App
 lint_app = with_rule
     (with_rule

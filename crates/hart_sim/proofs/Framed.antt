@@ -8,7 +8,7 @@ use Rattle.permission_map.specs.Views.{SameView}
 use Rattle.monitor_core.specs.Frames.{LoadsAnew}
 use Rattle.context_switch.specs.Harts.{bank_of}
 use Rattle.enclave_table.specs.Tables.{Kept}
-use Rattle.monitor_core.specs.Cores.{kept_of, list_of}
+use Rattle.monitor_core.specs.Cores.{core_kept, list_of}
 use Rattle.hart_sim.specs.declared.parts.MachineParts.{MachineParts}
 use Rattle.hart_sim.specs.Banks.{AreBanksRight, IsOwnBank, LoadsFewest}
 use Rattle.hart_sim.specs.Frames.{IsOn, KeepsFrame}
@@ -38,7 +38,7 @@ own_stays s new kept now banks after hart world lists bank own =
 pub frame_still : (old new : MachineParts) (hart : ℕ) → FitTogether new → (state_in old).marked hart ≡ false
     → (state_in new).table ≡ (state_in old).table
     → ((i : ℕ) → (state_in new).worlds i ≡ (state_in old).worlds i) → ((i : ℕ) → (state_in new).marked i ≡ (state_in old).marked i)
-    → kept_of new.core ≡ kept_of old.core → ((i : ℕ) → bank_in new i ≡ bank_in old i) → KeepsFrame old new hart
+    → core_kept new.core ≡ core_kept old.core → ((i : ℕ) → bank_in new i ≡ bank_in old i) → KeepsFrame old new hart
 frame_still old new hart fit awake table worlds marks kept banks = record {
   layout = ap (λ t. t.layout) table;
   fit = fit;
@@ -51,7 +51,7 @@ frame_still old new hart fit awake table worlds marks kept banks = record {
 
 -- after something that leaves table and world of the hart, and does not mark it
 pub frame_after : (old mid new : MachineParts) (hart : ℕ) → (state_in mid).table ≡ (state_in old).table
-    → (state_in mid).worlds hart ≡ (state_in old).worlds hart → kept_of mid.core ≡ kept_of old.core
+    → (state_in mid).worlds hart ≡ (state_in old).worlds hart → core_kept mid.core ≡ core_kept old.core
     → ((state_in old).marked hart ≡ false → (state_in mid).marked hart ≡ false) → KeepsFrame old mid hart → KeepsFrame mid new hart → KeepsFrame old new hart
 frame_after old mid new hart same stood kept awake x y = record {
   layout = y.layout ∙ x.layout;
@@ -62,7 +62,7 @@ frame_after old mid new hart same stood kept awake x y = record {
   loads = elim y.loads [
     | inl own ↦ inl own
     | inr still ↦ elim x.loads [
-      | inl own ↦ inl (own_stays (state_in mid) (state_in new) (kept_of mid.core) (kept_of new.core) (bank_in mid) (bank_in new) hart
+      | inl own ↦ inl (own_stays (state_in mid) (state_in new) (core_kept mid.core) (core_kept new.core) (bank_in mid) (bank_in new) hart
           still.world (y.lists still.table) still.bank own)
       | inr none ↦ inr (record {
         awake = none.awake;
@@ -79,9 +79,9 @@ frame_after old mid new hart same stood kept awake x y = record {
 pub frame_woken : (old new : MachineParts) (hart : ℕ) → (state_in old).marked hart ≡ true → FitTogether new
     → (state_in new).table ≡ (state_in old).table → ((i : ℕ) → (state_in new).worlds i ≡ (state_in old).worlds i)
     → ((i : ℕ) → i ≢ hart → (state_in new).marked i ≡ (state_in old).marked i)
-    → kept_of new.core ≡ kept_of old.core → ((other : ℕ) → other ≢ hart → bank_in new other ≡ bank_in old other)
+    → core_kept new.core ≡ core_kept old.core → ((other : ℕ) → other ≢ hart → bank_in new other ≡ bank_in old other)
     → (bank : Bank) × (bank_in new hart ≡ Some bank) × LoadsFewest bank (view_on (state_in old) hart)
-    → IsOwnBank (state_in new) (kept_of new.core) (bank_in new) hart → KeepsFrame old new hart
+    → IsOwnBank (state_in new) (core_kept new.core) (bank_in new) hart → KeepsFrame old new hart
 frame_woken old new hart was fit table worlds marks kept others fewest own = record {
   layout = ap (λ t. t.layout) table;
   fit = fit;
@@ -102,10 +102,10 @@ pub frame_served : (old new : MachineParts) (hart : ℕ) (asked : Bool) → IsOn
     → KeepsOthers (core_of (state_in old)) (core_of (state_in new)) hart
     → LoadsAnew asked (core_of (state_in old)) (core_of (state_in new)) hart → (state_in new).table.layout ≡ (state_in old).table.layout
     → FitTogether new
-    → ((state_in new).table ≡ (state_in old).table → kept_of new.core ≡ kept_of old.core)
+    → ((state_in new).table ≡ (state_in old).table → core_kept new.core ≡ core_kept old.core)
     → ((other : ℕ) → other ≢ hart → bank_in new other ≡ bank_in old other)
     → (asked ≡ true → (bank : Bank) × (bank_in new hart ≡ Some bank) × LoadsFewest bank (view_on (state_in new) hart))
-    → (asked ≡ true → IsOwnBank (state_in new) (kept_of new.core) (bank_in new) hart)
+    → (asked ≡ true → IsOwnBank (state_in new) (core_kept new.core) (bank_in new) hart)
     → (asked ≡ false → bank_in new hart ≡ bank_in old hart) → KeepsFrame old new hart
 frame_served old new hart true on few awake keeps loads layout fit lists others fewest own calm = record {
   layout = layout;

@@ -8,7 +8,7 @@ use Rattle.sbi_decode.specs.Runners.{Runner}
 use Rattle.context_switch.specs.declared.contexts.Contexts.{Contexts}
 use Rattle.context_switch.specs.declared.hart.Hart.{Hart}
 use Rattle.context_switch.specs.Harts.{number_of, world_of, bank_of}
-use Rattle.monitor_core.specs.Cores.{kept_of, list_of, worlds_of}
+use Rattle.monitor_core.specs.Cores.{core_kept, list_of, worlds_of}
 use Rattle.monitor_core.specs.SetChanges.{changed}
 use Rattle.monitor_core.specs.declared.set_changes.SetChanges.{SetChanges}
 use Rattle.monitor_core.specs.declared.steps.Core.{Core}
@@ -18,11 +18,11 @@ use Rattle.hart_sim.specs.Parts.{registers_in}
 -- the view of that world make
 pub record Loads (core : Core) (was now : Hart) : Type 0 where
   pub world : world_of now ≡ worlds_of core (number_of was)
-  pub list : HasList (bank_of now) (list_of (kept_of core) (worlds_of core (number_of was)))
+  pub list : HasList (bank_of now) (list_of (core_kept core) (worlds_of core (number_of was)))
   pub exact : IsBankOf (bank_of now) (bank_of now).limit
-      (list_of (kept_of core) (worlds_of core (number_of was)))
-  pub fewest : IsFewest (current_view (kept_of core).table (worlds_of core (number_of was)))
-      (list_of (kept_of core) (worlds_of core (number_of was)))
+      (list_of (core_kept core) (worlds_of core (number_of was)))
+  pub fewest : IsFewest (current_view (core_kept core).table (worlds_of core (number_of was)))
+      (list_of (core_kept core) (worlds_of core (number_of was)))
 
 -- the registers on the hart and the saved ones change as the monitor says; the hart loads the
 -- entries of its world where that is asked for, and stays in its world with its bank where it is not
@@ -32,6 +32,6 @@ pub record Follows (core : Core) (changes : SetChanges) (load : Bool) (was now :
       ≡ changed (number_of was) changes (registers_in (was ∷ []) before) who
   pub number : number_of now ≡ number_of was
   pub limited : limit_number (bank_of now).limit
-      ≡ limit_number (kept_of core).table.layout.limit
+      ≡ limit_number (core_kept core).table.layout.limit
   pub loaded : load ≡ true → Loads core was now
   pub stays : load ≡ false → (world_of now ≡ world_of was) × (bank_of now ≡ bank_of was)

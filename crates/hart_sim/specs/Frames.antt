@@ -1,6 +1,6 @@
 -- What each part of an event on a hart may rely on, and what it keeps.
 use Rattle.std.specs.Prelude.{◌≡◌, ◌≢◌, ◌⊎◌, ℕ, ◌<◌, false}
-use Rattle.monitor_core.specs.Cores.{kept_of}
+use Rattle.monitor_core.specs.Cores.{core_kept}
 use Rattle.hart_sim.specs.declared.parts.MachineParts.{MachineParts}
 use Rattle.hart_sim.specs.Banks.{AreBanksRight, IsOwnBank, LoadsNothing}
 use Rattle.hart_sim.specs.Parts.{FitTogether, state_in, bank_in}
@@ -23,7 +23,7 @@ pub record KeepsFrame (old new : MachineParts) (hart : ℕ) : Type 0 where
   pub stays : (state_in old).marked hart ≡ false → (state_in new).table ≡ (state_in old).table
       → (state_in new).worlds hart ≡ (state_in old).worlds hart
       → bank_in new hart ≡ bank_in old hart
-  pub loads : IsOwnBank (state_in new) (kept_of new.core) (bank_in new) hart
+  pub loads : IsOwnBank (state_in new) (core_kept new.core) (bank_in new) hart
       ⊎ LoadsNothing (state_in old) (state_in new) (bank_in old) (bank_in new) hart
   pub lists : (state_in new).table ≡ (state_in old).table
-      → kept_of new.core ≡ kept_of old.core
+      → core_kept new.core ≡ core_kept old.core

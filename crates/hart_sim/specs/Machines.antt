@@ -24,7 +24,7 @@ state_of machine = state_in machine.parts
 
 -- its table of enclaves, with the list of entries that is kept for each view, which `table` shows
 unfoldable pub kept_of : Machine → Kept
-kept_of machine = cores.kept_of machine.parts.core
+kept_of machine = cores.core_kept machine.parts.core
 
 -- the PMP registers that are loaded on a hart, which `bank` shows
 unfoldable pub bank_on : Machine → ℕ → Option Bank

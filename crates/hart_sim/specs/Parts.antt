@@ -13,7 +13,7 @@ use Rattle.context_switch.specs.declared.hart.Hart.{Hart}
 use Rattle.context_switch.specs.Contexts.{saved_of}
 use Rattle.context_switch.specs.Harts.{number_of, world_of, registers_of, bank_of}
 use Rattle.monitor_core.specs.Changes.{is_same}
-use Rattle.monitor_core.specs.Cores.{kept_of, state_of, worlds_of}
+use Rattle.monitor_core.specs.Cores.{core_kept, core_state, worlds_of}
 use Rattle.monitor_core.specs.States.{MonitorState}
 use Rattle.hart_sim.specs.declared.memory.Memory.{Memory}
 use Rattle.hart_sim.specs.declared.parts.MachineParts.{MachineParts}
@@ -29,7 +29,7 @@ registers_in (hart ∷ harts) contexts who =
 
 -- the state that the monitor's core and the registers show
 abbrev pub core_in : MachineParts → MonitorState
-core_in parts = state_of parts.core (registers_in parts.harts parts.contexts)
+core_in parts = core_state parts.core (registers_in parts.harts parts.contexts)
 
 -- the state that the monitor and memory show
 abbrev pub shown : MonitorState → Memory → MachineState
@@ -42,6 +42,7 @@ shown core memory = record {
   marked = core.marked;
 }
 
+-- the state that the parts of a machine are
 abbrev pub state_in : MachineParts → MachineState
 state_in parts = shown (core_in parts) parts.memory
 
@@ -49,6 +50,7 @@ state_in parts = shown (core_in parts) parts.memory
 abbrev pub bank_at : List Hart → ℕ → Option Bank
 bank_at harts hart = option_map bank_of (slice_get harts hart)
 
+-- the same in the parts of a machine
 abbrev pub bank_in : MachineParts → ℕ → Option Bank
 bank_in parts hart = bank_at parts.harts hart
 
@@ -68,4 +70,4 @@ pub record AreHarts (harts : List Hart) (worlds : ℕ → World) (limit : Limit)
 -- the harts are in the worlds that the monitor's core says
 abbrev pub FitTogether : MachineParts → Type 0
 FitTogether parts = AreHarts parts.harts (worlds_of parts.core)
-    (kept_of parts.core).table.layout.limit
+    (core_kept parts.core).table.layout.limit

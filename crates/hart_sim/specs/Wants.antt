@@ -37,6 +37,7 @@ abbrev pub IsRefusedExactlyWhere : Type 0 → Reply → Type 0
 IsRefusedExactlyWhere Outgrows reply = (IsAnsweredBy reply NoEntries → Outgrows)
     × (Outgrows → IsAnsweredBy reply NoEntries ⊎ IsAnsweredBy reply NoMemory)
 
+-- a creation that passes its other checks is refused exactly where it outgrows the bank
 abbrev pub CreatesByNeed : Type 0
 CreatesByNeed =
     (asked : Create) (s : MachineState) (hart : ℕ) (reply : Reply) (new : MachineState)
@@ -47,6 +48,7 @@ CreatesByNeed =
     → IsRefusedExactlyWhere (OutgrowsByCreate (measured_in s.bytes) s.table
     asked) reply
 
+-- a destruction that passes its other checks is refused exactly where the host's view outgrows it
 abbrev pub DestroysByNeed : Type 0
 DestroysByNeed =
     (id : ℕ) (s : MachineState) (hart : ℕ) (reply : Reply) (new : MachineState)

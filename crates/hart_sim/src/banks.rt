@@ -8,7 +8,7 @@ impl MachineParts {
     ghost use Rattle.pmp_encoding.specs.declared.bank.Bank.{Bank};
     ghost use Rattle.pmp_encoding.specs.Banks.{HasList};
     ghost use Rattle.pmp_encoding.specs.Limits.{limit_number};
-    ghost use Rattle.monitor_core.specs.Cores.{kept_of};
+    ghost use Rattle.monitor_core.specs.Cores.{core_kept};
     ghost use Rattle.monitor_core.specs.Changes.{without_mark};
     ghost use Rattle.hart_sim.specs.Frames.{IsOn, KeepsFrame};
     ghost use Rattle.hart_sim.specs.Parts.{FitTogether, state_in, bank_in};
@@ -33,7 +33,7 @@ impl MachineParts {
             → bank_in self.new other ≡ bank_in self.old other }
         ensures fit { FitTogether self.new }
         ensures state { state_in self.new ≡ state_in self.old }
-        ensures kept { kept_of self.new.core ≡ kept_of self.old.core }
+        ensures kept { core_kept self.new.core ≡ core_kept self.old.core }
     {
         self.harts[hart as usize].put_bank(bank);
     }
@@ -50,8 +50,8 @@ impl MachineParts {
             → self.new.harts ≡ self.old.harts }
         ensures woken { (state_in self.old).marked hart ≡ true
             → (bank : Bank) × (bank_in self.new hart ≡ Some bank)
-            × HasList bank (kept_of self.old.core).host_list }
-        ensures kept { kept_of self.new.core ≡ kept_of self.old.core }
+            × HasList bank (core_kept self.old.core).host_list }
+        ensures kept { core_kept self.new.core ≡ core_kept self.old.core }
     {
         if !self.core.is_marked(hart) {
             return;

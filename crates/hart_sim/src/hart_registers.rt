@@ -6,7 +6,7 @@ ghost use Rattle.sbi_decode.specs.Registers.{with_x};
 ghost use Rattle.sbi_decode.specs.Runners.{IsWorld, Runner, runner_of};
 ghost use Rattle.context_switch.specs.Harts.{bank_of, number_of, registers_of, with_registers, world_of};
 ghost use Rattle.monitor_core.specs.Changes.{is_same};
-ghost use Rattle.monitor_core.specs.Cores.{kept_of};
+ghost use Rattle.monitor_core.specs.Cores.{core_kept};
 ghost use Rattle.monitor_core.specs.SetChanges.{AreOfSets, change};
 ghost use Rattle.hart_sim.specs.Changes.{call_places, with_words};
 ghost use Rattle.hart_sim.specs.Parts.{registers_in};
@@ -67,7 +67,7 @@ pub(crate) fn follow(
 )
     requires sets { AreOfSets changes.now }
     requires limited { limit_number (bank_of here.old).limit
-        ≡ limit_number (kept_of core.now).table.layout.limit }
+        ≡ limit_number (core_kept core.now).table.layout.limit }
     ensures { Follows core.now changes.now load here.old here.new contexts.old contexts.new }
 {
     change(here, contexts, &changes.first);

@@ -12,7 +12,7 @@ impl MachineParts {
     ghost use Rattle.pmp_match.specs.declared.access.Access.{Access};
     ghost use Rattle.pmp_match.specs.declared.cause.Cause.{Cause};
     ghost use Rattle.pmp_match.specs.Judgement.{Judges};
-    ghost use Rattle.monitor_core.specs.Cores.{kept_of};
+    ghost use Rattle.monitor_core.specs.Cores.{core_kept};
     ghost use Rattle.hart_trace.specs.declared.event.Event.{Event};
     ghost use Rattle.hart_sim.specs.Banks.{AreBanksRight, MeetsList};
     ghost use Rattle.hart_sim.specs.Frames.{IsOn, KeepsFrame};
@@ -72,18 +72,18 @@ impl MachineParts {
         ensures frame { KeepsFrame self.old self.new hart }
         ensures judged { (access : Access) (value : ℕ) (list : List Entry) (cause : Cause)
             → event ≡ Event.Access access value
-            → MeetsList (state_in self.old) (kept_of self.old.core) (bank_in self.old) hart
+            → MeetsList (state_in self.old) (core_kept self.old.core) (bank_in self.old) hart
             list
             → (result ≡ Reply.Fault cause) ↔ Judges list access (Err cause) }
         ensures loaded { (access : Access) (value : ℕ) (list : List Entry) (bank : Bank)
             → event ≡ Event.Access access value
-            → MeetsList (state_in self.old) (kept_of self.old.core) (bank_in self.old) hart
+            → MeetsList (state_in self.old) (core_kept self.old.core) (bank_in self.old) hart
             list
             → bank_in self.new hart ≡ Some bank → HasList bank list }
         ensures step { AreBanksRight (state_in self.old) (bank_in self.old)
             → Step (state_in self.old) hart event result (state_in self.new) }
         ensures effect { let s = state_in self.old in
-            DoesBy (MeetsList s (kept_of self.old.core) (bank_in self.old) hart)
+            DoesBy (MeetsList s (core_kept self.old.core) (bank_in self.old) hart)
             event (awoken s hart) hart result (state_in self.new) }
     {
         self.wake(hart);

@@ -142,5 +142,6 @@ abbrev pub access_fault_by : Option (Option (ℕ × Event)) → List ℕ → Opt
 access_fault_by None line = line_fault 4 line
 access_fault_by (Some said) line = only_for_run (placed_words (content_of line)) said
 
+-- what is wrong with a line that should be an access
 abbrev pub access_fault : List ℕ → Option Fault
 access_fault line = access_fault_by (meaning_of 4 line) line

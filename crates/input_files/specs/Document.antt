@@ -17,6 +17,7 @@ abbrev pub is_known : List ℕ → List (List ℕ) → Bool
 is_known key [] = false
 is_known key (name ∷ names) = bytes_eq key name || is_known key names
 
+-- a table has no other keys than these
 abbrev pub has_only : List (List ℕ) → Members → Bool
 has_only names no_members = true
 has_only names (member key value rest) = is_known key names && has_only names rest
@@ -26,6 +27,7 @@ abbrev pub natural : ℤ → Option ℕ
 natural (pos n) = Some n
 natural (negsuc n) = None
 
+-- the whole number from 0 that a value is
 abbrev pub number : Data → Option ℕ
 number value = option_and_then natural (as_integer value)
 
@@ -46,6 +48,7 @@ range_of table = if has_only (codes "base" ∷ codes "size" ∷ []) table then r
 abbrev pub perm_of : Data → Option Perm
 perm_of value = option_and_then permission_of (as_str value)
 
+-- the permission of a table
 abbrev pub perm_at : Members → Option Perm
 perm_at table = option_and_then perm_of (get_member (codes "perm") table)
 
@@ -54,6 +57,7 @@ abbrev pub device_in : Members → Option (ℕ × ℕ × Perm)
 device_in table = option_and_then
     (λ range. option_map (λ perm. (range.0, range.1, perm)) (perm_at table)) (range_in table)
 
+-- a device: a base, a size and a permission, and no other key
 abbrev pub device_of : Members → Option (ℕ × ℕ × Perm)
 device_of table = if has_only (codes "base" ∷ codes "size" ∷ codes "perm" ∷ []) table
     then device_in table else None
@@ -68,10 +72,12 @@ each f (item value rest) = option_and_then (λ x. option_map (λ xs. x ∷ xs) (
 abbrev pub all_of : {X : Type 0} → (Members → Option X) → Data → Option (List X)
 all_of f value = option_and_then (each f) (as_array value)
 
+-- where the monitor is
 abbrev pub monitor_at : Members → Option (ℕ × ℕ)
 monitor_at document = option_and_then range_of
     (option_and_then as_table (get_member (codes "monitor") document))
 
+-- where memory is
 abbrev pub ram_at : Members → Option (List (ℕ × ℕ))
 ram_at document = option_and_then (all_of range_of) (get_member (codes "ram") document)
 
@@ -80,6 +86,7 @@ abbrev pub devices_told : Option Data → Option (List (ℕ × ℕ × Perm))
 devices_told None = Some []
 devices_told (Some value) = all_of device_of value
 
+-- where devices are, and what may be done with them
 abbrev pub devices_at : Members → Option (List (ℕ × ℕ × Perm))
 devices_at document = devices_told (get_member (codes "device") document)
 
@@ -88,6 +95,7 @@ abbrev pub number_told : ℕ → Option Data → Option ℕ
 number_told usual None = Some usual
 number_told usual (Some value) = number value
 
+-- the number at a key, or the usual one
 abbrev pub number_or : ℕ → List ℕ → Members → Option ℕ
 number_or usual key document = number_told usual (get_member key document)
 

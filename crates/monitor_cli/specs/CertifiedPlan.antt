@@ -35,6 +35,7 @@ pub record Placing (C : Type 0) : Type 0 where
   pub stood : Option (List ℕ)
   pub stands : Option (List ℕ)
 
+-- a certificate's file before and after a call
 abbrev pub placing : {C : Type 0} → (C → Option (List ℕ)) → (C → ℕ) → (C → ℕ)
     → (C → Option (List ℕ)) → Bool → C → C → Placing C
 placing contents failures stalls stands is_apart old new = record {
@@ -90,6 +91,7 @@ abbrev pub IsWithin : Option ℕ → ℕ → Type 0
 IsWithin None n = Unit {0}
 IsWithin (Some most) n = n ≤ most
 
+-- so many entries are more than may be
 abbrev pub IsBeyond : Option ℕ → ℕ → Type 0
 IsBeyond None n = ⊥
 IsBeyond (Some most) n = most < n

@@ -54,6 +54,7 @@ abbrev pub IsChecked : {R : Type 0} → Reading R → Reading R → List ℕ →
 IsChecked first second text status = (runs : List Run) × (bytes : List ℕ) × HasMap first runs
     × HasBytes (2 ^ 26) second bytes × IsVerdict (view_of_runs runs) bytes text status
 
+-- why there is no verdict
 abbrev pub IsUnchecked : {R : Type 0} → Bor (List ℕ) → Bor (List ℕ) → Reading R → Reading R
     → Trouble → Type 0
 IsUnchecked map cert first second trouble = (HasNoMap map first trouble × IsUnread second)
@@ -67,6 +68,7 @@ IsAudited options first second text means = (runs : List Run) × (listing : List
     × IsFewest (view_of_runs runs) entries × AreReached options.xlen entries
     × IsAudit options.mode (view_of_runs runs) options.xlen listing means
 
+-- why there is no audit
 abbrev pub IsUnaudited : {R : Type 0} → Bor (List ℕ) → Bor (List ℕ) → Options → Reading R
     → Reading R → Trouble → Type 0
 IsUnaudited map registers options first second trouble =
@@ -91,6 +93,7 @@ IsMapShown limit options first text meant = (bytes : List ℕ) × (runs : List R
     × IsShown options.table (view_of_runs runs) entries limit text
     × (meant ≡ true)
 
+-- why there is no table of a map
 abbrev pub IsMapUnshown : {R : Type 0} → Bor (List ℕ) → Options → Reading R → Trouble → Type 0
 IsMapUnshown map options first trouble = HasNoPlan map options.xlen options.at_most first trouble
 
@@ -132,10 +135,12 @@ abbrev pub IsOfBoard : Bor (List ℕ) → (BoardTextFault → Type 0) → Troubl
 IsOfBoard file IsNone trouble = (fault : BoardTextFault) × (said : List ℕ) × IsNone fault
     × (trouble ≡ NoBoardText file said)
 
+-- why there is no map of a device tree
 abbrev pub IsTreeUnmapped : Bor (List ℕ) → Mode → List ℕ → Trouble → Type 0
 IsTreeUnmapped file mode bytes trouble = ((mode ≡ Machine) × (trouble ≡ NoRegisters file))
     ⊎ IsOfBoard file (IsNoMap bytes) trouble
 
+-- why there is no map of a file
 abbrev pub IsUnmapped : {R : Type 0} → Bor (List ℕ) → Options → Reading R → Trouble → Type 0
 IsUnmapped file options first trouble = HasNoListing file options.xlen first trouble
     ⊎ ((bytes : List ℕ) × HasBytes (2 ^ 20) first bytes
@@ -148,6 +153,7 @@ abbrev pub IsPlatformTold : {R : Type 0} → Option (ℕ × ℕ) → Reading R �
 IsPlatformTold monitor first text status = (bytes : List ℕ) × HasBytes (2 ^ 20) first bytes
     × IsPlatformOfTree monitor bytes text × (status ≡ 0)
 
+-- why there is no platform of a board
 abbrev pub IsPlatformUntold : {R : Type 0} → Bor (List ℕ) → Option (ℕ × ℕ) → Reading R → Trouble
     → Type 0
 IsPlatformUntold board monitor first trouble = HasNoBytes (2 ^ 20) board first trouble

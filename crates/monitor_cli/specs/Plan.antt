@@ -41,6 +41,7 @@ IsPrintedAs formats.Asm options limit map entries text =
 IsPrintedAs formats.Json options limit map entries text =
     IsJsonText map options.xlen limit options.first entries text
 
+-- what is printed of a plan, by its options
 abbrev pub IsPrinted : Options → Limit → List ℕ → List Entry → List ℕ → Type 0
 IsPrinted options limit map entries text =
     IsPrintedAs options.format options limit map entries text

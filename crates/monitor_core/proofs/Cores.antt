@@ -4,7 +4,7 @@ use Rattle.enclave_table.specs.Enclaves.{enclave_at}
 use Rattle.enclave_table.specs.Tables.{IsCurrent}
 use Rattle.sbi_decode.specs.declared.world.World.TheVariants.{Enclave as InEnclave}
 use Rattle.monitor_core.specs.declared.steps.Core.{Core}
-use Rattle.monitor_core.specs.Cores.{kept_of, worlds_of}
+use Rattle.monitor_core.specs.Cores.{core_kept, worlds_of}
 use Rattle.monitor_core.specs.Parts.{is_current}
 use Rattle.monitor_core.proofs.Currents.{current_from}
 
@@ -14,8 +14,8 @@ unfolding worlds_of
 core_alone core hart other id at there = core.whole.alone hart other id at there
 
 -- an enclave that runs is in the table
-pub core_current : (core : Core) (hart id : ℕ) → worlds_of core hart ≡ InEnclave id → enclave_at (kept_of core).table.enclaves id ≡ None → ⊥
-unfolding worlds_of kept_of
+pub core_current : (core : Core) (hart id : ℕ) → worlds_of core hart ≡ InEnclave id → enclave_at (core_kept core).table.enclaves id ≡ None → ⊥
+unfolding worlds_of core_kept
 core_current core hart id at gone =
     let table = core.parts.table.table in
     let now : IsCurrent table (InEnclave id) = current_from table (InEnclave id) (subst (λ w. is_current table w ≡ true) at (core.whole.current hart)) in

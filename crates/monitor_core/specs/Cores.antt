@@ -11,24 +11,24 @@ use Rattle.monitor_core.specs.Parts.{mark_in, world_in}
 use Rattle.monitor_core.specs.States.{MonitorState}
 
 -- its table of enclaves, with the list of entries that is kept for each view
-unfoldable pub kept_of : Core → Kept
-kept_of core = core.parts.table
+unfoldable pub core_kept : Core → Kept
+core_kept core = core.parts.table
 
 -- the world on each hart
 unfoldable pub worlds_of : Core → ℕ → World
 worlds_of core = world_in core.parts.worlds
 
 -- which harts are marked
-unfoldable pub marks_of : Core → ℕ → Bool
-marks_of core = mark_in core.parts.marked
+unfoldable pub core_marks : Core → ℕ → Bool
+core_marks core = mark_in core.parts.marked
 
 -- the state of the monitor where these are the register sets
-abbrev pub state_of : Core → (Runner → RegisterFile) → MonitorState
-state_of core sets = record {
-  table = (kept_of core).table;
+abbrev pub core_state : Core → (Runner → RegisterFile) → MonitorState
+core_state core sets = record {
+  table = (core_kept core).table;
   worlds = worlds_of core;
   registers = sets;
-  marked = marks_of core;
+  marked = core_marks core;
 }
 
 -- the list that is kept for a world

@@ -18,6 +18,7 @@ use Rattle.monitor_core.specs.States.{MonitorState}
 abbrev pub world_in : List World → ℕ → World
 world_in worlds hart = slice_index_or worlds hart Host
 
+-- whether a hart is marked
 abbrev pub mark_in : List Bool → ℕ → Bool
 mark_in marked hart = slice_index_or marked hart false
 
@@ -39,10 +40,12 @@ abbrev pub is_run : Stage → Bool
 is_run Running = true
 is_run _ = false
 
+-- whether there is an enclave that runs
 abbrev pub is_running : Option Enclave → Bool
 is_running None = false
 is_running (Some e) = is_run e.state
 
+-- whether a world may run: the host's, or that of an enclave that is Running
 abbrev pub is_current : EnclaveTable → World → Bool
 is_current table Host = true
 is_current table (InEnclave id) = is_running (enclave_at table.enclaves id)

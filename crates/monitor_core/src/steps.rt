@@ -35,7 +35,7 @@ impl Core {
     ghost use Rattle.sbi_decode.specs.Registers.{RegisterFile};
     ghost use Rattle.sbi_decode.specs.Runners.{IsWorld, Runner};
     ghost use Rattle.monitor_core.specs.Changes.{having_digest, past_call, with_running, without_mark};
-    ghost use Rattle.monitor_core.specs.Cores.{kept_of, list_of, marks_of, state_of, worlds_of};
+    ghost use Rattle.monitor_core.specs.Cores.{core_kept, list_of, core_marks, core_state, worlds_of};
     ghost use Rattle.monitor_core.specs.Frames.{LoadsAnew, KeepsOthers, ClearsMemory};
     ghost use Rattle.monitor_core.specs.SetChanges.{AreOfSets, changed};
     ghost use Rattle.monitor_core.specs.States.{opening_monitor, running_registers};
@@ -49,7 +49,7 @@ impl Core {
     /// is refused where the host's view needs more entries than the platform has, and where memory is.
     pub fn boot(alloc: Global, platform: Platform) -> Result<Core, BootFault>
         ensures state { IfOk result (λ core. (sets : Runner → RegisterFile)
-            → state_of core sets ≡ record (opening_monitor platform) { registers = sets }) }
+            → core_state core sets ≡ record (opening_monitor platform) { registers = sets }) }
         ensures rules { IfOk result (λ _. IsLayout platform) }
         ensures fits { IfOk result (λ _. FitsIn platform.limit
             (host_view (opening_table platform))) }
@@ -68,16 +68,16 @@ impl Core {
     /// of an enclave that is Running; no enclave runs on two, and each that is Running runs on one; and a marked hart is in
     /// the host's world.
     pub fn cite_invariant(&self)
-        ensures table { IsTable (kept_of self.now).table }
-        ensures worlds { (sets : Runner → RegisterFile) → ArePlaced (state_of self.now sets) }
+        ensures table { IsTable (core_kept self.now).table }
+        ensures worlds { (sets : Runner → RegisterFile) → ArePlaced (core_state self.now sets) }
     {
         self.parts.table.cite_invariant();
     }
 
     /// How many harts there are, 1 to 4.
-    #[tactic(auto, unfolding(crate::specs::Cores::kept_of))]
+    #[tactic(auto, unfolding(crate::specs::Cores::core_kept))]
     pub fn harts(&self) -> u8
-        ensures value { result ≡ (kept_of self.now).table.layout.harts }
+        ensures value { result ≡ (core_kept self.now).table.layout.harts }
         ensures some { 0 < result }
         ensures most { result ≤ 4 }
     {
@@ -85,9 +85,9 @@ impl Core {
     }
 
     /// The table of enclaves.
-    #[tactic(auto, unfolding(crate::specs::Cores::kept_of))]
+    #[tactic(auto, unfolding(crate::specs::Cores::core_kept))]
     pub fn table(&self) -> &Table
-        ensures { result.now ≡ kept_of self.now }
+        ensures { result.now ≡ core_kept self.now }
     {
         &self.parts.table
     }
@@ -104,10 +104,10 @@ impl Core {
     }
 
     /// Whether a hart is marked: it is to load its entries, and to be woken, before it goes on.
-    #[tactic(auto, unfolding(crate::specs::Cores::marks_of))]
+    #[tactic(auto, unfolding(crate::specs::Cores::core_marks))]
     pub fn is_marked(&self, hart: u8) -> bool
         requires { hart < 4 }
-        ensures { result ≡ marks_of self.now hart }
+        ensures { result ≡ core_marks self.now hart }
     {
         self.parts.is_marked(hart)
     }
@@ -116,23 +116,23 @@ impl Core {
     /// in any order that means that view is shorter.
     pub fn entries(&self, hart: u8) -> &[Entry]
         requires { hart < 4 }
-        ensures fewest { IsFewest (current_view (kept_of self.now).table (worlds_of self.now hart))
+        ensures fewest { IsFewest (current_view (core_kept self.now).table (worlds_of self.now hart))
             result.now }
-        ensures room { length result.now ≤ limit_number (kept_of self.now).table.layout.limit }
-        ensures value { result.now ≡ list_of (kept_of self.now) (worlds_of self.now hart) }
+        ensures room { length result.now ≤ limit_number (core_kept self.now).table.layout.limit }
+        ensures value { result.now ≡ list_of (core_kept self.now) (worlds_of self.now hart) }
     {
         self.parts.entries(hart)
     }
 
     /// The PMP entries of the host's view, or of that of an enclave that is live, whether it runs or not.
     pub fn entries_of(&self, world: World) -> Option<&[Entry]>
-        ensures none { IfNone result (IsNoWorld (kept_of self.now).table world) }
+        ensures none { IfNone result (IsNoWorld (core_kept self.now).table world) }
         ensures fewest { IfSome result (λ entries.
-            IsFewest (current_view (kept_of self.now).table world) entries.now) }
+            IsFewest (current_view (core_kept self.now).table world) entries.now) }
         ensures room { IfSome result (λ entries.
-            length entries.now ≤ limit_number (kept_of self.now).table.layout.limit) }
+            length entries.now ≤ limit_number (core_kept self.now).table.layout.limit) }
         ensures value { IfSome result (λ entries.
-            entries.now ≡ list_of (kept_of self.now) world) }
+            entries.now ≡ list_of (core_kept self.now) world) }
     {
         self.parts.entries_of(world)
     }
@@ -140,7 +140,7 @@ impl Core {
     /// How many entries the view of the world on a hart needs, which are as many as [`Core::entries`].
     pub fn used(&self, hart: u8) -> u64
         requires { hart < 4 }
-        ensures { Needs (current_view (kept_of self.now).table (worlds_of self.now hart)) result }
+        ensures { Needs (current_view (core_kept self.now).table (worlds_of self.now hart)) result }
     {
         self.parts.entries(hart).len() as u64
     }
@@ -149,8 +149,8 @@ impl Core {
     pub fn wake(&mut self, hart: u8)
         requires { hart < 4 }
         ensures state { (sets : Runner → RegisterFile)
-            → state_of self.new sets ≡ without_mark (state_of self.old sets) hart }
-        ensures kept { kept_of self.new ≡ kept_of self.old }
+            → core_state self.new sets ≡ without_mark (core_state self.old sets) hart }
+        ensures kept { core_kept self.new ≡ core_kept self.old }
     {
         self.parts.clear_mark(hart);
     }
@@ -166,25 +166,25 @@ impl Core {
         digests: &D,
         changes: &mut SetChanges,
     ) -> Served
-        requires hart { hart < (kept_of self.old).table.layout.harts }
-        requires awake { marks_of self.old hart ≡ false }
-        ensures step { (sets : Runner → RegisterFile) → let s = state_of self.old sets in
+        requires hart { hart < (core_kept self.old).table.layout.harts }
+        requires awake { core_marks self.old hart ≡ false }
+        ensures step { (sets : Runner → RegisterFile) → let s = core_state self.old sets in
             let file = past_call (running_registers s hart) in
             call_of (running_registers s hart) ≡ call_of asked.now
             → DoesCall (call_of file) (D.digest_of digests.now) (with_running s hart file) hart
-            result.answer result.zero (state_of self.new (changed hart changes.new sets)) }
+            result.answer result.zero (core_state self.new (changed hart changes.new sets)) }
         ensures sets { AreOfSets changes.new }
         ensures load { (before after : Runner → RegisterFile)
-            → LoadsAnew result.load (state_of self.old before) (state_of self.new after) hart }
+            → LoadsAnew result.load (core_state self.old before) (core_state self.new after) hart }
         ensures others { (before after : Runner → RegisterFile)
-            → KeepsOthers (state_of self.old before) (state_of self.new after) hart }
+            → KeepsOthers (core_state self.old before) (core_state self.new after) hart }
         ensures zeroed { IfSome result.zero (λ range.
-            ClearsMemory (kept_of self.old).table.layout range) }
-        ensures awake { marks_of self.new hart ≡ false }
-        ensures platform { (kept_of self.new).table.layout ≡ (kept_of self.old).table.layout }
-        ensures lists { (kept_of self.new).table ≡ (kept_of self.old).table
-            → kept_of self.new ≡ kept_of self.old }
-        ensures need { IsRefusedByNeed (call_of asked.now) (kept_of self.old).table
+            ClearsMemory (core_kept self.old).table.layout range) }
+        ensures awake { core_marks self.new hart ≡ false }
+        ensures platform { (core_kept self.new).table.layout ≡ (core_kept self.old).table.layout }
+        ensures lists { (core_kept self.new).table ≡ (core_kept self.old).table
+            → core_kept self.new ≡ core_kept self.old }
+        ensures need { IsRefusedByNeed (call_of asked.now) (core_kept self.old).table
             (worlds_of self.old hart)
             (λ refusal. result.answer.status ≡ below_zero (refusal_number refusal)) }
     {
@@ -194,10 +194,10 @@ impl Core {
 
     /// An enclave that is live has this digest now, where its pages are measured after it was made. Nothing else changes.
     pub fn give_digest(&mut self, id: u64, digest: &[u8; 32])
-        requires { (e : Enclave) × Live (kept_of self.old).table id e }
+        requires { (e : Enclave) × Live (core_kept self.old).table id e }
         ensures { (e : Enclave) (sets : Runner → RegisterFile)
-            → Live (kept_of self.old).table id e
-            → state_of self.new sets ≡ having_digest (state_of self.old sets) id e digest.now }
+            → Live (core_kept self.old).table id e
+            → core_state self.new sets ≡ having_digest (core_state self.old sets) id e digest.now }
     {
         self.parts.give_digest(id, digest);
     }
@@ -206,20 +206,20 @@ impl Core {
     /// the host's world nothing changes. It says what becomes of the register sets, whatever they are, and answers whether
     /// the hart's entries are to be loaded anew before it goes on.
     pub fn interrupt(&mut self, hart: u8, changes: &mut SetChanges) -> bool
-        requires hart { hart < (kept_of self.old).table.layout.harts }
-        requires awake { marks_of self.old hart ≡ false }
-        ensures step { (sets : Runner → RegisterFile) → let s = state_of self.old sets in
+        requires hart { hart < (core_kept self.old).table.layout.harts }
+        requires awake { core_marks self.old hart ≡ false }
+        ensures step { (sets : Runner → RegisterFile) → let s = core_state self.old sets in
             Interrupts (s.worlds hart) s hart
-            (state_of self.new (changed hart changes.new sets)) }
+            (core_state self.new (changed hart changes.new sets)) }
         ensures sets { AreOfSets changes.new }
         ensures load { (before after : Runner → RegisterFile)
-            → LoadsAnew result (state_of self.old before) (state_of self.new after) hart }
+            → LoadsAnew result (core_state self.old before) (core_state self.new after) hart }
         ensures others { (before after : Runner → RegisterFile)
-            → KeepsOthers (state_of self.old before) (state_of self.new after) hart }
-        ensures awake { marks_of self.new hart ≡ false }
-        ensures platform { (kept_of self.new).table.layout ≡ (kept_of self.old).table.layout }
-        ensures lists { (kept_of self.new).table ≡ (kept_of self.old).table
-            → kept_of self.new ≡ kept_of self.old }
+            → KeepsOthers (core_state self.old before) (core_state self.new after) hart }
+        ensures awake { core_marks self.new hart ≡ false }
+        ensures platform { (core_kept self.new).table.layout ≡ (core_kept self.old).table.layout }
+        ensures lists { (core_kept self.new).table ≡ (core_kept self.old).table
+            → core_kept self.new ≡ core_kept self.old }
     {
         self.parts.pause(hart, changes)
     }

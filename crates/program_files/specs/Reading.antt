@@ -20,6 +20,7 @@ pub record Reading (R : Type 0) : Type 0 where
   pub failures : ℕ
   pub failed : ℕ
 
+-- a file before and after it was read
 abbrev pub reading : {R : Type 0} → (R → Option (List ℕ)) → (R → ℕ) → R → R → Reading R
 reading remaining failures old new = record {
   old = old;

@@ -7,7 +7,7 @@ use Rattle.pmp_encoding.specs.declared.perm.Perm.{Perm}
 use Rattle.pmp_encoding.specs.Perms.{bits_of}
 use Rattle.trap_server.specs.Words.{word_at}
 use Rattle.trap_server.specs.Platforms.{ram_in, device_words, words_of, words_of_device}
-use Rattle.trap_server.specs.Answers.{address_at, address_bytes, cfg_at, cfg_bytes}
+use Rattle.trap_server.specs.Answers.{listed_address, address_bytes, listed_cfg, cfg_bytes}
 
 pub word_length : (x : ℕ) → length (little_bytes 8 x) ≡ 8
 word_length x = refl
@@ -42,15 +42,15 @@ device_step items bytes n a b perm is p q r =
 -- a byte for each entry
 pub cfg_length : (entries : List Entry) (n : ℕ) → length (cfg_bytes entries n) ≡ n
 cfg_length entries zero = refl
-cfg_length entries (suc n) = omega (arith, length-append (cfg_bytes entries n) (cfg_at entries n ∷ []), cfg_length entries n)
+cfg_length entries (suc n) = omega (arith, length-append (cfg_bytes entries n) (listed_cfg entries n ∷ []), cfg_length entries n)
 
 -- an entry more
-pub cfg_step : (entries : List Entry) (n : ℕ) → cfg_bytes entries n ++ cfg_at entries n ∷ [] ≡ cfg_bytes entries (n + 1)
+pub cfg_step : (entries : List Entry) (n : ℕ) → cfg_bytes entries n ++ listed_cfg entries n ∷ [] ≡ cfg_bytes entries (n + 1)
 cfg_step entries n =
     let e : suc n ≡ n + 1 = omega arith in
     ap (cfg_bytes entries) e
 
-pub address_step : (entries : List Entry) (n : ℕ) → address_bytes entries n ++ little_bytes 8 (address_at entries n) ≡ address_bytes entries (n + 1)
+pub address_step : (entries : List Entry) (n : ℕ) → address_bytes entries n ++ little_bytes 8 (listed_address entries n) ≡ address_bytes entries (n + 1)
 address_step entries n =
     let e : suc n ≡ n + 1 = omega arith in
     ap (address_bytes entries) e

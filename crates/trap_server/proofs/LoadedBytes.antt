@@ -23,7 +23,7 @@ use Rattle.trap_server.specs.declared.answer.Head.{Head}
 use Rattle.trap_server.specs.declared.words.ControlWords.{ControlWords}
 use Rattle.trap_server.specs.Words.{answer_tag, bytes_of, word_at}
 use Rattle.monitor_core.specs.Answers.{world_number}
-use Rattle.trap_server.specs.Answers.{address_at, address_bytes, address_in, bit_of, cfg_at, cfg_bytes, cfg_in, changes_bytes, control_bytes, control_count, front_bytes, head_bytes}
+use Rattle.trap_server.specs.Answers.{listed_address, address_bytes, address_in, bit_of, listed_cfg, cfg_bytes, cfg_in, changes_bytes, control_bytes, control_count, front_bytes, head_bytes}
 use Rattle.trap_server.specs.Answers.{kind_number, list_bytes, list_count, lists_bytes, pages_of, wake_word}
 use Rattle.trap_server.specs.Firmware.{loaded_address, loaded_cfg, loaded_pairs}
 use Rattle.trap_server.proofs.Lengths.{cfg_length, word_length}
@@ -63,23 +63,23 @@ address_length : (entries : List Entry) (n : ℕ) → length (address_bytes entr
 address_length entries zero = refl
 address_length entries (suc n) = omega (
   arith,
-  length-append (address_bytes entries n) (little_bytes 8 (address_at entries n)),
+  length-append (address_bytes entries n) (little_bytes 8 (listed_address entries n)),
   word_length
-      (address_at entries n),
+      (listed_address entries n),
   address_length entries n,
 )
 
 -- the configuration byte of entry i
-cfg_there : (entries : List Entry) (rest : List ℕ) (n i : ℕ) → i < n → slice_index_or (cfg_bytes entries n ++ rest) i 0 ≡ cfg_at entries i
+cfg_there : (entries : List Entry) (rest : List ℕ) (n i : ℕ) → i < n → slice_index_or (cfg_bytes entries n ++ rest) i 0 ≡ listed_cfg entries i
 cfg_there entries rest zero i low = absurd (omega (arith, low))
 cfg_there entries rest (suc n) i low =
-    ap (λ bytes. slice_index_or bytes i 0) (append_assoc (cfg_bytes entries n) (cfg_at entries n ∷ []) rest)
-    ∙ ⊎_elim (λ less. cfg_there entries (cfg_at entries n ∷ rest) n i less)
+    ap (λ bytes. slice_index_or bytes i 0) (append_assoc (cfg_bytes entries n) (listed_cfg entries n ∷ []) rest)
+    ∙ ⊎_elim (λ less. cfg_there entries (listed_cfg entries n ∷ rest) n i less)
     (λ more.
     let last : i ≡ n + 0 = omega (arith, low, more) in
     let same : n ≡ i = omega (arith, low, more) in
-    ap (λ k. slice_index_or (cfg_bytes entries n ++ cfg_at entries n ∷ rest) k 0) last
-    ∙ index_after (cfg_bytes entries n) (cfg_at entries n ∷ rest) n 0 (cfg_length entries n) ∙ ap (cfg_at entries) same)
+    ap (λ k. slice_index_or (cfg_bytes entries n ++ listed_cfg entries n ∷ rest) k 0) last
+    ∙ index_after (cfg_bytes entries n) (listed_cfg entries n ∷ rest) n 0 (cfg_length entries n) ∙ ap (listed_cfg entries) same)
     (cases_lt i n)
 
 -- its address register
@@ -88,10 +88,10 @@ address_small None = lit< tt
 address_small (Some e) = ⊎_elim (λ four. let small = four.small in omega (arith, small)) (λ more. let small = more.small in omega (arith, small)) (pair_is e)
 
 address_there : (entries : List Entry) (front rest : List ℕ) (k n i : ℕ) → length front ≡ 8 * k → i < n
-    → word_at (front ++ (address_bytes entries n ++ rest)) (k + i) ≡ address_at entries i
+    → word_at (front ++ (address_bytes entries n ++ rest)) (k + i) ≡ listed_address entries i
 address_there entries front rest k zero i size low = absurd (omega (arith, low))
 address_there entries front rest k (suc n) i size low =
-    let last = little_bytes 8 (address_at entries n) in
+    let last = little_bytes 8 (listed_address entries n) in
     ap (λ bytes. word_at (front ++ bytes) (k + i)) (append_assoc (address_bytes entries n) last rest)
     ∙ ⊎_elim (λ less. address_there entries front (last ++ rest) k n i size less)
     (λ more.
@@ -100,8 +100,8 @@ address_there entries front rest k (suc n) i size low =
     (arith, length-append front (address_bytes entries n), address_length entries n, size) in
     ap (λ j. word_at (front ++ (address_bytes entries n ++ (last ++ rest))) (k + j)) same
     ∙ ap (λ bytes. word_at bytes (k + n)) (sym (append_assoc front (address_bytes entries n) (last ++ rest)))
-    ∙ word_after (front ++ address_bytes entries n) rest (k + n) (address_at entries n) whole (address_small (slice_get entries n))
-    ∙ ap (address_at entries) (sym same))
+    ∙ word_after (front ++ address_bytes entries n) rest (k + n) (listed_address entries n) whole (address_small (slice_get entries n))
+    ∙ ap (listed_address entries) (sym same))
     (cases_lt i n)
 
 -- a bit of the word of those that are woken
@@ -149,7 +149,7 @@ none_there (e ∷ entries) (suc i) past = none_there entries i (omega (arith, pa
 
 -- canonical pairs from a place on mean their entries
 listed : (entries : List Entry) (bytes : List ℕ) (first count : ℕ) → length entries ≤ count
-    → ((i : ℕ) → i < count → (loaded_cfg bytes (first + i) ≡ cfg_at entries i) × (loaded_address bytes (first + i) ≡ address_at entries i))
+    → ((i : ℕ) → i < count → (loaded_cfg bytes (first + i) ≡ listed_cfg entries i) × (loaded_address bytes (first + i) ≡ listed_address entries i))
     → MeansList (loaded_pairs bytes first count) entries
 listed [] bytes first zero few are = done
 listed [] bytes first (suc count) few are =
@@ -188,11 +188,11 @@ module _ (entries : List Entry) (rest : List ℕ) where
   parted = append_assoc number (cfg_bytes entries 64 ++ address_bytes entries 64) rest
       ∙ ap (λ bytes. number ++ bytes) (append_assoc (cfg_bytes entries 64) (address_bytes entries 64) rest)
 
-  cfg_back : (i : ℕ) → i < 64 → loaded_cfg (list_bytes entries ++ rest) i ≡ cfg_at entries i
+  cfg_back : (i : ℕ) → i < 64 → loaded_cfg (list_bytes entries ++ rest) i ≡ listed_cfg entries i
   cfg_back i low = ap (λ bytes. slice_index_or bytes (8 + i) 0) parted ∙ index_after number (cfg_bytes entries 64 ++ tail) 8 i (word_length (length entries))
       ∙ cfg_there entries tail 64 i low
 
-  address_back : (i : ℕ) → i < 64 → loaded_address (list_bytes entries ++ rest) i ≡ address_at entries i
+  address_back : (i : ℕ) → i < 64 → loaded_address (list_bytes entries ++ rest) i ≡ listed_address entries i
   address_back i low =
       let whole : length (number ++ cfg_bytes entries 64) ≡ 8 * 9 = omega
       (arith, length-append number (cfg_bytes entries 64), cfg_length entries 64, word_length (length entries)) in
@@ -206,8 +206,8 @@ module _ (entries : List Entry) (rest : List ℕ) where
       let bytes = list_bytes entries ++ rest in
       let most = limit_most limit in
       listed entries bytes 0 (limit_number limit) room
-      (λ i low. let inside : i < 64 = omega (arith, low, most) in subst (λ k. (loaded_cfg bytes k ≡ cfg_at entries i)
-      × (loaded_address bytes k ≡ address_at entries i)) (let same : i ≡ 0 + i = omega arith in same) (cfg_back i inside, address_back i inside))
+      (λ i low. let inside : i < 64 = omega (arith, low, most) in subst (λ k. (loaded_cfg bytes k ≡ listed_cfg entries i)
+      × (loaded_address bytes k ≡ listed_address entries i)) (let same : i ≡ 0 + i = omega arith in same) (cfg_back i inside, address_back i inside))
 
   pub off_back : (i : ℕ) → length entries ≤ i → i < 64 → (loaded_cfg (list_bytes entries ++ rest) i ≡ 0)
       × (loaded_address (list_bytes entries ++ rest) i ≡ 0)

@@ -3,7 +3,7 @@ use Rattle.std.proofs.Common.{◌≡◌, ◌∙◌, ℕ, zero, suc, ◌+◌, ◌
 use Rattle.std.proofs.lemmas.Option.{slice_get_past}
 use Rattle.byteorder.specs.Endian.{little_bytes}
 use Rattle.pmp_encoding.specs.declared.region.Entry.{Entry}
-use Rattle.trap_server.specs.Answers.{address_at, address_bytes, address_in, cfg_at, cfg_bytes, cfg_in}
+use Rattle.trap_server.specs.Answers.{listed_address, address_bytes, address_in, listed_cfg, cfg_bytes, cfg_in}
 
 abbrev pub zeros : ℕ → List ℕ
 zeros n = replicate n 0
@@ -26,8 +26,8 @@ cfg_past entries (suc k) =
     let n = length entries in
     let next : n + suc k ≡ suc (n + k) = omega arith in
     let more : k + 1 ≡ suc k = omega arith in
-    let none : cfg_at entries (n + k) ≡ 0 = ap cfg_in (slice_get_past entries (n + k) (omega arith)) in
-    ap (cfg_bytes entries) next ∙ ap (λ xs. xs ++ (cfg_at entries (n + k) ∷ [])) (cfg_past entries k)
+    let none : listed_cfg entries (n + k) ≡ 0 = ap cfg_in (slice_get_past entries (n + k) (omega arith)) in
+    ap (cfg_bytes entries) next ∙ ap (λ xs. xs ++ (listed_cfg entries (n + k) ∷ [])) (cfg_past entries k)
     ∙ ap (λ b. (cfg_bytes entries n ++ zeros k) ++ (b ∷ [])) none
     ∙ append_assoc (cfg_bytes entries n) (zeros k) (0 ∷ [])
     ∙ ap (λ xs. cfg_bytes entries n ++ xs) (zeros_more k 1 ∙ ap zeros more)
@@ -43,8 +43,8 @@ address_past entries (suc k) =
     let n = length entries in
     let next : n + suc k ≡ suc (n + k) = omega arith in
     let more : 8 * k + 8 ≡ 8 * suc k = omega arith in
-    let none : address_at entries (n + k) ≡ 0 = ap address_in (slice_get_past entries (n + k) (omega arith)) in
-    ap (address_bytes entries) next ∙ ap (λ xs. xs ++ little_bytes 8 (address_at entries (n + k))) (address_past entries k)
+    let none : listed_address entries (n + k) ≡ 0 = ap address_in (slice_get_past entries (n + k) (omega arith)) in
+    ap (address_bytes entries) next ∙ ap (λ xs. xs ++ little_bytes 8 (listed_address entries (n + k))) (address_past entries k)
     ∙ ap (λ a. (address_bytes entries n ++ zeros (8 * k)) ++ little_bytes 8 a) none
     ∙ append_assoc (address_bytes entries n) (zeros (8 * k)) (zeros 8)
     ∙ ap (λ xs. address_bytes entries n ++ xs) (zeros_more (8 * k) 8 ∙ ap zeros more)

@@ -81,22 +81,22 @@ address_in None = 0
 address_in (Some e) = address_of e
 
 -- the configuration byte of entry i of a list, 0 after its end
-abbrev pub cfg_at : List Entry → ℕ → ℕ
-cfg_at entries i = cfg_in (slice_get entries i)
+abbrev pub listed_cfg : List Entry → ℕ → ℕ
+listed_cfg entries i = cfg_in (slice_get entries i)
 
 -- its address register
-abbrev pub address_at : List Entry → ℕ → ℕ
-address_at entries i = address_in (slice_get entries i)
+abbrev pub listed_address : List Entry → ℕ → ℕ
+listed_address entries i = address_in (slice_get entries i)
 
 -- those of the entries below n
 abbrev pub cfg_bytes : List Entry → ℕ → List ℕ
 cfg_bytes entries zero = []
-cfg_bytes entries (suc n) = cfg_bytes entries n ++ (cfg_at entries n ∷ [])
+cfg_bytes entries (suc n) = cfg_bytes entries n ++ (listed_cfg entries n ∷ [])
 
 -- the address registers of the entries below n
 abbrev pub address_bytes : List Entry → ℕ → List ℕ
 address_bytes entries zero = []
-address_bytes entries (suc n) = address_bytes entries n ++ little_bytes 8 (address_at entries n)
+address_bytes entries (suc n) = address_bytes entries n ++ little_bytes 8 (listed_address entries n)
 
 -- control words in their order
 abbrev pub control_bytes : ControlWords → List ℕ

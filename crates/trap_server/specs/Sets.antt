@@ -3,7 +3,7 @@ use Rattle.std.specs.Prelude.{◌≡◌, ℕ, zero, suc, ◌+◌, List}
 use Rattle.sbi_decode.specs.Calls.{call_of}
 use Rattle.sbi_decode.specs.Registers.{RegisterFile, zeros}
 use Rattle.sbi_decode.specs.Runners.{Runner}
-use Rattle.monitor_core.specs.Cores.{state_of}
+use Rattle.monitor_core.specs.Cores.{core_state}
 use Rattle.monitor_core.specs.States.{MonitorState}
 use Rattle.monitor_core.specs.Switches.{runner_on}
 use Rattle.monitor_core.specs.declared.set_changes.ChangeKind.{ChangeKind}
@@ -16,7 +16,7 @@ use Rattle.trap_server.specs.declared.trap.Trap.{Trap}
 
 -- the state of the loop, in which each register is zero
 abbrev pub bare : Core → MonitorState
-bare core = state_of core (λ who. zeros)
+bare core = core_state core (λ who. zeros)
 
 -- a state with these register sets
 abbrev pub with_sets : MonitorState → (Runner → RegisterFile) → MonitorState

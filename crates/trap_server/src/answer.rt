@@ -3,7 +3,7 @@
 ghost use Rattle.std.specs.Prelude.{◌≡◌, ◌<◌, ◌≤◌, ◌+◌, ◌-◌, ◌*◌, ◌++◌, length, take, replicate, IfSome};
 ghost use Rattle.monitor_core.specs.Answers.{world_number};
 ghost use Rattle.trap_server.specs.Answered.{AreControl, HasWords};
-ghost use Rattle.trap_server.specs.Answers.{address_at, address_bytes, cfg_at, cfg_bytes, change_bytes, changes_bytes, control_bytes, control_count, front_bytes, given_bytes, head_bytes, kind_number, list_bytes, list_count, pages_of, wake_word};
+ghost use Rattle.trap_server.specs.Answers.{listed_address, address_bytes, listed_cfg, cfg_bytes, change_bytes, changes_bytes, control_bytes, control_count, front_bytes, given_bytes, head_bytes, kind_number, list_bytes, list_count, pages_of, wake_word};
 
 use crate::ControlWords;
 use crate::frame::{AnswerBytes, TAG_ANSWER, put_word};
@@ -156,8 +156,8 @@ fn put_changes(frame: &mut AnswerBytes, changes: &SetChanges)
 }
 
 /// The configuration byte of entry i, and zero past the entries.
-fn cfg_at(entries: &[Entry], i: usize) -> u8
-    ensures { result ≡ cfg_at entries.now i }
+fn listed_cfg(entries: &[Entry], i: usize) -> u8
+    ensures { result ≡ listed_cfg entries.now i }
 {
     if i >= entries.len() {
         return 0;
@@ -167,8 +167,8 @@ fn cfg_at(entries: &[Entry], i: usize) -> u8
 }
 
 /// The address register of entry i, and zero past the entries.
-fn address_at(entries: &[Entry], i: usize) -> u64
-    ensures { result ≡ address_at entries.now i }
+fn listed_address(entries: &[Entry], i: usize) -> u64
+    ensures { result ≡ listed_address entries.now i }
 {
     if i >= entries.len() {
         return 0;
@@ -195,7 +195,7 @@ fn put_configuration(frame: &mut AnswerBytes, from: usize, entries: &[Entry])
 {
     clear(frame, from, from + 64);
     for i in 0..entries.len() {
-        frame[from + i] = cfg_at(entries, i);
+        frame[from + i] = listed_cfg(entries, i);
     }
 }
 
@@ -207,7 +207,7 @@ fn put_addresses(frame: &mut AnswerBytes, from: usize, entries: &[Entry])
         ≡ take (8 * from) frame.old ++ address_bytes entries.now 64 }
 {
     for i in 0..entries.len() {
-        put_word(frame, from + i, address_at(entries, i));
+        put_word(frame, from + i, listed_address(entries, i));
     }
     clear(frame, 8 * from + 8 * entries.len(), 8 * from + 512);
 }

@@ -1,6 +1,6 @@
 use Rattle.std.proofs.Common.{◌≡◌, ◌∙◌, ◌+◌, ◌-◌, ◌*◌, ◌++◌, take, length, replicate, ap, sym, append_assoc, arith}
 use Rattle.byteorder.specs.Endian.{little_bytes}
-use Rattle.trap_server.specs.Answers.{address_at, address_bytes}
+use Rattle.trap_server.specs.Answers.{listed_address, address_bytes}
 use Rattle.trap_server.proofs.Appended.{word_more}
 use Rattle.trap_server.proofs.Lengths.{address_step}
 use Rattle.trap_server.proofs.Past.{address_past}
@@ -11,9 +11,9 @@ loop-i-preserved c =
     let entries = c.args.entries.now in
     let from = c.args.from in
     let i = c.loop-i.i in
-    word_more c.loop-i.frame c.put_word.new.bytes (take (8 * from) c.args.frame.now) (address_bytes entries i) (little_bytes 8 (address_at entries i))
+    word_more c.loop-i.frame c.put_word.new.bytes (take (8 * from) c.args.frame.now) (address_bytes entries i) (little_bytes 8 (listed_address entries i))
     (8 * from + 8 * i) (from + i) (8 * from + 8 * (i + 1)) (omega arith) (omega arith) c.loop-i.invariant
-    (c.put_word.ensures.front ∙ ap (λ w. take (8 * (from + i)) c.loop-i.frame ++ little_bytes 8 w) c.address_at.ensures)
+    (c.put_word.ensures.front ∙ ap (λ w. take (8 * (from + i)) c.loop-i.frame ++ little_bytes 8 w) c.listed_address.ensures)
     ∙ ap (λ xs. take (8 * from) c.args.frame.now ++ xs) (address_step entries i)
 
 pub returns : goal.returns

@@ -19,7 +19,7 @@ loop-i-preserved c =
     let start = take from c.args.frame.now in
     let i = c.loop-i.i in
     let done = cfg_bytes entries i in
-    let byte = c.cfg_at.result in
+    let byte = c.listed_cfg.result in
     let zeros : List ℕ = replicate (63 - i) 0 in
     let inside : i < length entries = search rules in
     let few : i < 64 = omega (arith, inside, c.requires.few) in
@@ -34,7 +34,7 @@ loop-i-preserved c =
     ∙ ap (λ k. start ++ set (done ++ replicate (64 - i) 0) k byte) place
     ∙ ap (λ k. start ++ set (done ++ replicate k 0) (length done) byte) left
     ∙ ap (λ xs. start ++ xs) (set-append_seam done 0 zeros byte ∙ sym (append_assoc done (byte ∷ []) zeros)
-    ∙ ap (λ b. (done ++ b ∷ []) ++ zeros) c.cfg_at.ensures ∙ ap (λ xs. xs ++ zeros) (cfg_step entries i)
+    ∙ ap (λ b. (done ++ b ∷ []) ++ zeros) c.listed_cfg.ensures ∙ ap (λ xs. xs ++ zeros) (cfg_step entries i)
     ∙ ap (λ k. cfg_bytes entries (i + 1) ++ replicate k 0) less)
 
 pub returns : goal.returns

@@ -11,7 +11,7 @@ use Rattle.context_switch.specs.Contexts.{saved_of}
 use Rattle.context_switch.specs.Harts.{bank_of, number_of, world_of}
 use Rattle.context_switch.specs.declared.hart.Hart.{Hart}
 use Rattle.monitor_core.specs.Changes.{is_same}
-use Rattle.monitor_core.specs.Cores.{kept_of, worlds_of}
+use Rattle.monitor_core.specs.Cores.{core_kept, worlds_of}
 use Rattle.enclave_table.specs.Views.{current_view}
 use Rattle.hart_sim.specs.Banks.{LoadsFewest}
 use Rattle.hart_sim.specs.Parts.{IsHart}
@@ -59,7 +59,7 @@ returns-clause-state c = λ i.
 pub returns-clause-fit : goal.returns-clause-fit
 returns-clause-fit c =
     let core = c.in-Ok.core in
-    let limit = (kept_of core).table.layout.limit in
+    let limit = (core_kept core).table.layout.limit in
     let there : Limit → Type 0 = λ l. limit_number l ≡ limit_number limit in
     let known : there c.limit-limit.result = ap limit_number (c.limit-limit.ensures ∙ ap (λ t. t.table.layout.limit) c.table.ensures) in
     let host = λ (n : ℕ). ap (λ s. s.worlds n) (c.in-Ok.ensures.state (λ who. zeros)) in
@@ -94,15 +94,15 @@ returns-clause-banks c = λ hart bank low off has.
     let entries = c.entries-entries.result.now in
     let host = λ (n : ℕ). ap (λ s. s.worlds n) (c.in-Ok.ensures.state (λ who. zeros)) in
     let loads : (h : Hart) (n : ℕ) → HasList (bank_of h) entries → IsBankOf (bank_of h) c.limit-limit.result entries
-    → LoadsFewest (bank_of h) (current_view (kept_of core).table (worlds_of core n)) = λ h n list exact.
-    subst (λ w. LoadsFewest (bank_of h) (current_view (kept_of core).table w)) (host 0 ∙ sym (host n)) (record {
+    → LoadsFewest (bank_of h) (current_view (core_kept core).table (worlds_of core n)) = λ h n list exact.
+    subst (λ w. LoadsFewest (bank_of h) (current_view (core_kept core).table w)) (host 0 ∙ sym (host n)) (record {
       list = entries;
       loaded = list;
       fewest = c.entries-entries.ensures.fewest;
       exact = subst (λ l. IsBankOf (bank_of h) l entries) (sym exact.limit_is) exact;
     }) in
     let there = of_hart (slice_get (c.new.result ∷ (c.new-2.result ∷ (c.new-3.result ∷ (c.new-4.result ∷ [])))) hart) bank has in
-    subst (λ b. LoadsFewest b (current_view (kept_of core).table (worlds_of core hart))) there.2
-    (each_of (λ n h. LoadsFewest (bank_of h) (current_view (kept_of core).table (worlds_of core n))) c.new.result c.new-2.result c.new-3.result c.new-4.result
+    subst (λ b. LoadsFewest b (current_view (core_kept core).table (worlds_of core hart))) there.2
+    (each_of (λ n h. LoadsFewest (bank_of h) (current_view (core_kept core).table (worlds_of core n))) c.new.result c.new-2.result c.new-3.result c.new-4.result
     (loads c.new.result 0 c.new.ensures.list c.new.ensures.bank) (loads c.new-2.result 1 c.new-2.ensures.list c.new-2.ensures.bank)
     (loads c.new-3.result 2 c.new-3.ensures.list c.new-3.ensures.bank) (loads c.new-4.result 3 c.new-4.ensures.list c.new-4.ensures.bank) hart there.0 there.1)

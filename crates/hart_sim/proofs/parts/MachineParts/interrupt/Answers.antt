@@ -1,6 +1,6 @@
 use Rattle.std.proofs.Common.{◌∙◌, ap, refl, slice_set, sym, arith}
 use Rattle.pmp_encoding.specs.Limits.{limit_number}
-use Rattle.monitor_core.specs.Cores.{state_of}
+use Rattle.monitor_core.specs.Cores.{core_state}
 use Rattle.hart_sim.specs.Parts.{registers_in}
 use Rattle.hart_sim.proofs.BankPlaces.{read_at}
 use Rattle.hart_sim.proofs.Followed.{interrupt_followed}
@@ -22,7 +22,7 @@ returns-clause-step c =
     let at = read_at old.harts hart c.index-self-hart.result (omega (arith, c.requires.on.fit.four, c.requires.few)) in
     let both = interrupt_followed old core c.follow.new.contexts hart _ c.follow.new.here c.interrupt-load.new.changes c.interrupt-load.result c.requires.on.fit at
     e.platform e.others e.load c.follow.ensures (e.step (registers_in old.harts old.contexts)) in (
-      state_of core (registers_in (slice_set old.harts hart c.follow.new.here) c.follow.new.contexts),
+      core_state core (registers_in (slice_set old.harts hart c.follow.new.here) c.follow.new.contexts),
       both.1,
       refl,
       c.reply_to_interrupt.ensures,

@@ -1,6 +1,6 @@
 use Rattle.std.proofs.Common.{◌∙◌, Some, ap, refl, arith}
 use Rattle.pmp_encoding.specs.Limits.{limit_number}
-use Rattle.monitor_core.specs.Cores.{kept_of, state_of, worlds_of}
+use Rattle.monitor_core.specs.Cores.{core_kept, core_state, worlds_of}
 use Rattle.monitor_core.proofs.Said.{same_sets}
 use Rattle.hart_sim.specs.Parts.{shown}
 use Rattle.hart_sim.proofs.BankPlaces.{read_at}
@@ -22,7 +22,7 @@ returns-clause-fit c =
     let old = c.args.self.now in
     let at = read_at old.harts c.args.hart c.index-self-hart.result (omega (arith, c.requires.fit.four, c.requires.hart)) in
     let is = c.requires.fit.each c.args.hart _ at in
-    harts_put old.harts (worlds_of old.core) (worlds_of old.core) (kept_of old.core).table.layout.limit c.args.hart _ c.put_bank.new.self c.requires.fit at
+    harts_put old.harts (worlds_of old.core) (worlds_of old.core) (core_kept old.core).table.layout.limit c.args.hart _ c.put_bank.new.self c.requires.fit at
     (record {
       number = c.put_bank.ensures.number ∙ is.number;
       world = c.put_bank.ensures.world ∙ is.world;
@@ -34,5 +34,5 @@ pub returns-clause-state : goal.returns-clause-state
 returns-clause-state c =
     let old = c.args.self.now in
     let at = read_at old.harts c.args.hart c.index-self-hart.result (omega (arith, c.requires.fit.four, c.requires.hart)) in
-    ap (λ sets. shown (state_of old.core sets) old.memory) (same_sets (λ who.
+    ap (λ sets. shown (core_state old.core sets) old.memory) (same_sets (λ who.
     put_alike old.harts old.contexts c.args.hart _ c.put_bank.new.self who at c.put_bank.ensures.number c.put_bank.ensures.world c.put_bank.ensures.registers))

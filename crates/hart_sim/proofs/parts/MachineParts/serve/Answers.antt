@@ -3,7 +3,7 @@ use Rattle.std.specs.Prelude.{IfSome}
 use Rattle.pmp_encoding.specs.Limits.{limit_number}
 use Rattle.pmp_encoding.specs.declared.pages.PageRange.{PageRange}
 use Rattle.platforms.specs.Platform.{PlatformLayout}
-use Rattle.monitor_core.specs.Cores.{kept_of, state_of}
+use Rattle.monitor_core.specs.Cores.{core_kept, core_state}
 use Rattle.monitor_core.specs.Frames.{ClearsMemory}
 use Rattle.monitor_core.proofs.Put.{put_there}
 use Rattle.monitor_core.proofs.Running.{others_put, loads_put}
@@ -24,7 +24,7 @@ in_space layout None x = tt
 in_space layout (Some range) x = x.inside
 
 pub zero-requires : goal.zero-requires
-zero-requires c = in_space (kept_of c.args.self.now.core).table.layout c.serve-served.result.zero c.serve-served.ensures.zeroed
+zero-requires c = in_space (core_kept c.args.self.now.core).table.layout c.serve-served.result.zero c.serve-served.ensures.zeroed
 
 pub follow-requires-clause-limited : goal.follow-requires-clause-limited
 follow-requires-clause-limited c =
@@ -52,7 +52,7 @@ returns-clause-served c =
     let both = call_followed old core harts c.follow.new.contexts hart _ c.follow.new.here
     (with_words (running_registers (core_in old) hart) call_places c.args.words.now) c.serve-served.new.changes r.load (measured_in (byte_at old.memory)) r.answer
     r.zero put third e.platform e.others e.load c.follow.ensures (e.step (registers_in harts old.contexts) (ap call_of asked)) in
-    let new = state_of core (registers_in (slice_set harts hart c.follow.new.here) c.follow.new.contexts) in
+    let new = core_state core (registers_in (slice_set harts hart c.follow.new.here) c.follow.new.contexts) in
     (r.zero, new, both.1, c.zero.ensures new)
 
 pub returns-clause-frame : goal.returns-clause-frame
@@ -78,6 +78,6 @@ returns-clause-frame c =
     let after = registers_in now c.follow.new.contexts in
     frame_served old (record old { core = core; memory = c.zero.new.memory; harts = now; contexts = c.follow.new.contexts }) hart r.load c.requires.on
     c.requires.few c.requires.awake
-    (others_put (core_in old) (state_of old.core sets) (state_of core after) hart file put.state (e.others sets after))
-    (loads_put r.load (core_in old) (state_of old.core sets) (state_of core after) hart file put.state (e.load sets after)) e.platform f.fit e.lists
+    (others_put (core_in old) (core_state old.core sets) (core_state core after) hart file put.state (e.others sets after))
+    (loads_put r.load (core_in old) (core_state old.core sets) (core_state core after) hart file put.state (e.load sets after)) e.platform f.fit e.lists
     (λ i other. f.others i other ∙ put.banks i) f.loaded f.own (λ off. f.calm off ∙ put.banks hart)

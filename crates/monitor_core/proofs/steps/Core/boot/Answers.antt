@@ -1,11 +1,11 @@
 use Rattle.std.proofs.Common.{subst, ap}
 use Rattle.platforms.specs.Platform.{IsLayout}
-use Rattle.monitor_core.specs.Cores.{kept_of, marks_of, worlds_of}
+use Rattle.monitor_core.specs.Cores.{core_kept, core_marks, worlds_of}
 use Rattle.monitor_core.specs.States.{MonitorState}
 use Rattle.monitor_core.proofs.steps.Core.boot.Goals as goal
 
 pub returns-in-Ok-clause-state : goal.returns-in-Ok-clause-state
-unfolding kept_of worlds_of marks_of
+unfolding core_kept worlds_of core_marks
 returns-in-Ok-clause-state c = λ sets.
     let with : MonitorState → MonitorState = λ s. record s { registers = sets } in
     ap with c.in-Ok.ensures.state

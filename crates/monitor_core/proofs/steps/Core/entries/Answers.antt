@@ -1,14 +1,14 @@
-use Rattle.monitor_core.specs.Cores.{kept_of, worlds_of}
+use Rattle.monitor_core.specs.Cores.{core_kept, worlds_of}
 use Rattle.monitor_core.proofs.steps.Core.entries.Goals as goal
 
 pub returns-clause-fewest : goal.returns-clause-fewest
-unfolding kept_of worlds_of
+unfolding core_kept worlds_of
 returns-clause-fewest c = c.entries.ensures.list.fewest
 
 pub returns-clause-room : goal.returns-clause-room
-unfolding kept_of
+unfolding core_kept
 returns-clause-room c = c.entries.ensures.list.room
 
 pub returns-clause-value : goal.returns-clause-value
-unfolding kept_of worlds_of
+unfolding core_kept worlds_of
 returns-clause-value c = c.entries.ensures.value

@@ -1,6 +1,6 @@
 use Rattle.std.proofs.Common.{sym, subst}
 use Rattle.sbi_decode.specs.Calls.{call_of}
-use Rattle.monitor_core.specs.Cores.{kept_of, marks_of, worlds_of}
+use Rattle.monitor_core.specs.Cores.{core_kept, core_marks, worlds_of}
 use Rattle.monitor_core.specs.Changes.{past_call, with_running}
 use Rattle.monitor_core.specs.Parts.{bare, state_in}
 use Rattle.monitor_core.specs.SetChanges.{changed}
@@ -16,15 +16,15 @@ use Rattle.monitor_core.proofs.Wanted.{call_refused_by_need}
 use Rattle.monitor_core.proofs.steps.Core.serve.Goals as goal
 
 pub serve-requires-clause-on : goal.serve-requires-clause-on
-unfolding kept_of
+unfolding core_kept
 serve-requires-clause-on g c = record { known = c.requires.hart; whole = c.args.self.now.whole }
 
 pub serve-requires-clause-awake : goal.serve-requires-clause-awake
-unfolding marks_of
+unfolding core_marks
 serve-requires-clause-awake g c = c.requires.awake
 
 pub returns-clause-step : goal.returns-clause-step
-unfolding kept_of worlds_of marks_of
+unfolding core_kept worlds_of core_marks
 returns-clause-step g c = λ sets same.
     let s = state_in c.args.self.now.parts sets in
     let file = past_call (running_registers s c.args.hart) in
@@ -36,12 +36,12 @@ pub returns-clause-sets : goal.returns-clause-sets
 returns-clause-sets g c = c.serve.ensures.sets
 
 pub returns-clause-load : goal.returns-clause-load
-unfolding kept_of worlds_of marks_of
+unfolding core_kept worlds_of core_marks
 returns-clause-load g c = λ before after.
     loads_any c.serve.result.load c.args.self.now.parts c.serve.new.self c.args.hart before after c.serve.ensures.load
 
 pub returns-clause-awake : goal.returns-clause-awake
-unfolding marks_of
+unfolding core_marks
 returns-clause-awake g c =
     let s = bare c.args.self.now.parts in
     let there = with_running s c.args.hart (past_call (running_registers s c.args.hart)) in
@@ -49,15 +49,15 @@ returns-clause-awake g c =
     (state_in c.serve.new.self (changed c.args.hart c.serve.new.changes (λ who. zeros))) c.requires.awake (c.serve.ensures.step (λ who. zeros))
 
 pub returns-clause-platform : goal.returns-clause-platform
-unfolding kept_of
+unfolding core_kept
 returns-clause-platform g c = c.serve.ensures.frame.layout
 
 pub returns-clause-lists : goal.returns-clause-lists
-unfolding kept_of
+unfolding core_kept
 returns-clause-lists g c = c.serve.ensures.frame.lists
 
 pub returns-clause-need : goal.returns-clause-need
-unfolding kept_of worlds_of
+unfolding core_kept worlds_of
 returns-clause-need g c =
     let s = bare c.args.self.now.parts in
     let there = with_running s c.args.hart (past_call (running_registers s c.args.hart)) in
@@ -66,7 +66,7 @@ returns-clause-need g c =
     (c.serve.ensures.step (λ who. zeros))
 
 pub returns-clause-others : goal.returns-clause-others
-unfolding kept_of worlds_of marks_of
+unfolding core_kept worlds_of core_marks
 returns-clause-others g c = λ before after.
     let old = c.args.self.now.parts in
     let s = bare old in
@@ -78,7 +78,7 @@ returns-clause-others g c = λ before after.
     record { worlds = stays.worlds; awake = stays.awake; views = stays.views }
 
 pub returns-clause-zeroed : goal.returns-clause-zeroed
-unfolding kept_of
+unfolding core_kept
 returns-clause-zeroed g c =
     let s = bare c.args.self.now.parts in
     let there = with_running s c.args.hart (past_call (running_registers s c.args.hart)) in

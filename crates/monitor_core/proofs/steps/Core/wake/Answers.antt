@@ -1,6 +1,6 @@
 use Rattle.std.proofs.Common.{ℕ, ◌==◌, ◌∙◌, refl, ap, sym}
 use Rattle.sbi_decode.specs.Registers.{zeros}
-use Rattle.monitor_core.specs.Cores.{kept_of, marks_of, worlds_of}
+use Rattle.monitor_core.specs.Cores.{core_kept, core_marks, worlds_of}
 use Rattle.monitor_core.specs.Parts.{mark_in}
 use Rattle.monitor_core.proofs.Framed.{whole_same}
 use Rattle.monitor_core.proofs.Marks.{was_marked}
@@ -20,9 +20,9 @@ invariant_of-self c =
     }
 
 pub returns-clause-state : goal.returns-clause-state
-unfolding kept_of worlds_of marks_of
+unfolding core_kept worlds_of core_marks
 returns-clause-state c = c.clear_mark.ensures.state
 
 pub returns-clause-kept : goal.returns-clause-kept
-unfolding kept_of
+unfolding core_kept
 returns-clause-kept c = c.clear_mark.ensures.table
