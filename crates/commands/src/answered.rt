@@ -5,8 +5,8 @@ ghost use Rattle.commands.specs.Answered.{noted, said};
 
 use arrayvec::ArrayVec;
 use command_inputs::Trouble;
-use text_lines::append;
 use register_text::ListingNotes;
+use text_lines::append;
 use trace_answers::CommentNote;
 
 /// What is said beside a status, on standard error: whole lines, each of which begins with `# `.

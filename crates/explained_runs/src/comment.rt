@@ -11,9 +11,9 @@ use crate::refusals::refusal_text;
 use arrayvec::ArrayVec;
 use enclave_table::Table;
 use hart_sim::Reply;
-use text_lines::append;
 use pmp_match::{Access, Kind};
 use sbi_decode::{Call, World};
+use text_lines::append;
 use trace_answers::{Comment, push_address, push_number, push_reason};
 
 /// Appends `host`, or `enclave ID`.

@@ -16,7 +16,9 @@ use Rattle.hart_trace.specs.declared.event.Event.TheVariants as events
 use Rattle.text_lines.specs.declared.lexical.NotUnderstood.{NotUnderstood}
 use Rattle.text_lines.specs.Words.{words_of}
 use Rattle.text_lines.specs.Numbers.{numeral_of, number_of}
-use Rattle.hart_trace.specs.Events.{Word, ◌>>=◌, mode_of, sized, access_of, with_no_value, with_value, has_leading_zero, register_of, setting_of, numbers_of}
+use Rattle.hart_trace.specs.declared.fault.EventKind.{EventKind}
+use Rattle.hart_trace.specs.declared.fault.EventKind.TheVariants as kinds
+use Rattle.hart_trace.specs.Events.{Word, ◌>>=◌, mode_of, sized, access_of, with_no_value, with_value, has_leading_zero, register_of, setting_of, numbers_of, event_by, kind_of}
 use Rattle.hart_trace.specs.Events.{call_in, interrupt_of, event_of, hart_of, on_hart, said_by, meaning_of}
 use Rattle.hart_sim.specs.Steps.{IsEvent}
 
@@ -104,27 +106,20 @@ irq_known : (words : List Word) (event : Event) → interrupt_of words ≡ Some 
 irq_known [] event e = let is : events.Irq ≡ event = under e in rw (← is) tt
 irq_known (word ∷ words) event e = absurd (let h : None ≡ Some event = e in cc)
 
+by_kind : (kind : EventKind) (words : List Word) (event : Event) → event_by kind words ≡ Some event → IsEvent event
+by_kind kinds.Fetch words event e =
+    let x = bound (access_of Fetch words) with_no_value event e in no_value_known x.0 event (access_known Fetch words x.0 x.1) x.2
+by_kind kinds.Load words event e =
+    let x = bound (access_of Load words) with_no_value event e in no_value_known x.0 event (access_known Load words x.0 x.1) x.2
+by_kind kinds.Store words event e =
+    let x = bound (access_of Store words) with_value event e in value_known x.0 event (access_known Store words x.0 x.1) x.2
+by_kind kinds.Reg words event e = setting_known words event e
+by_kind kinds.Ecall words event e = call_known words event e
+by_kind kinds.Irq words event e = irq_known words event e
+
 event_known : (words : List Word) (event : Event) → event_of words ≡ Some event → IsEvent event
 event_known [] event e = absurd (let h : None ≡ Some event = e in cc)
-event_known (k ∷ words) event e = elim (chosen (bytes_eq k (codes "fetch")) (access_of Fetch words >>= with_no_value) _ event e) [
-  | inl p ↦ let x = bound (access_of Fetch words) with_no_value event p in no_value_known x.0 event (access_known Fetch words x.0 x.1) x.2
-  | inr e1 ↦ elim (chosen (bytes_eq k (codes "load")) (access_of Load words >>= with_no_value) _ event e1) [
-    | inl p ↦ let x = bound (access_of Load words) with_no_value event p in no_value_known x.0 event (access_known Load words x.0 x.1) x.2
-    | inr e2 ↦ elim (chosen (bytes_eq k (codes "store")) (access_of Store words >>= with_value) _ event e2) [
-      | inl p ↦ let x = bound (access_of Store words) with_value event p in value_known x.0 event (access_known Store words x.0 x.1) x.2
-      | inr e3 ↦ elim (chosen (bytes_eq k (codes "reg")) (setting_of words) _ event e3) [
-        | inl p ↦ setting_known words event p
-        | inr e4 ↦ elim (chosen (bytes_eq k (codes "ecall")) (call_in words) _ event e4) [
-          | inl p ↦ call_known words event p
-          | inr e5 ↦ elim (chosen (bytes_eq k (codes "irq")) (interrupt_of words) None event e5) [
-            | inl p ↦ irq_known words event p
-            | inr e6 ↦ absurd (let h : None ≡ Some event = e6 in cc)
-          ]
-        ]
-      ]
-    ]
-  ]
-]
+event_known (k ∷ words) event e = let kind = bound (kind_of k) _ event e in by_kind kind.0 words event kind.2
 
 hart_known : (harts hart : ℕ) (word : Word) → hart_of harts word ≡ Some hart → hart < harts
 hart_known harts hart [] e = absurd (let h : None ≡ Some hart = e in cc)

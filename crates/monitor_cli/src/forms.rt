@@ -12,9 +12,9 @@ use byte_streams::{Counted, Sink, Source};
 use command_inputs::Trouble;
 use commands::{lint_as_platform, lint_as_trace, lint_listing, lint_map};
 use input_files::Taker;
-use text_lines::split_line;
 use pmp_encoding::Xlen;
 use std::alloc::{AllocError, Global};
+use text_lines::split_line;
 
 /// What an input should be.
 #[derive(Clone, Copy)]

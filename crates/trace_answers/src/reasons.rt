@@ -6,10 +6,10 @@ ghost use Rattle.trace_answers.specs.Reasons.{IsReason, extent_text, has_all, pa
 
 use crate::comment::{Comment, push_address, push_number};
 use crate::deciders::Deciders;
-use text_lines::append;
 use pmp_encoding::{Extent, SPACE_SIZE};
 use pmp_match::{Access, is_aligned};
 use printed_lines::letters;
+use text_lines::append;
 
 /// What decides an access.
 #[derive(Clone, Copy)]
