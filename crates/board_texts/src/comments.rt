@@ -9,10 +9,10 @@ ghost use Rattle.board_texts.specs.Comments.{comment_text, comments_on, extent_t
 use crate::pages::pages_of;
 use board_ranges::{Extent, Found, Kind};
 use device_tree::Reservation;
-use text_lines::{push, push_address};
 use permission_map::Run;
 use pmp_encoding::{PAGE_SIZE, PageRange, Perm};
 use std::alloc::AllocError;
+use text_lines::{push, push_address};
 
 /// How many bytes of a name are shown.
 const SHOWN: usize = 32;

@@ -17,10 +17,10 @@ use crate::read_back::makes;
 use crate::view::{NOWHERE, board_map};
 use board_ranges::{Found, ranges_of};
 use device_tree::{PlacedPiece, Reservation, read_tree};
-use text_lines::{push, push_address};
 use permission_map::{MapFault, PermissionMap, Run};
 use pmp_encoding::PAGE_SIZE;
 use std::alloc::{AllocError, Global};
+use text_lines::{push, push_address};
 
 /// Appends the line of a run.
 fn push_run(text: &mut Vec<u8>, run: &Run) -> Result<(), AllocError>

@@ -10,10 +10,10 @@ use crate::comments::{gives, push_comments, push_lefts, push_reservations};
 use crate::harts::{harts_of, harts_used};
 use board_ranges::{Found, Kind};
 use device_tree::Reservation;
-use text_lines::{push, push_address, push_number};
 use permission_map::{PermissionMap, Run};
 use pmp_encoding::PAGE_SIZE;
 use std::alloc::{AllocError, Global};
+use text_lines::{push, push_address, push_number};
 
 /// Appends a base and a size.
 fn push_keys(text: &mut Vec<u8>, base: u64, size: u64) -> Result<(), AllocError>

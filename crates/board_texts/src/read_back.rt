@@ -5,9 +5,9 @@ ghost use Rattle.toml.specs.View.{table_view};
 ghost use Rattle.map_text.specs.MapFile.{Makes};
 ghost use Rattle.board_texts.specs.ReadBack.{HasNumbers, HasRanges, IsTextOf};
 
+use input_files::{TextFault, devices_at, monitor_at, number_or, ram_at, unknown_key};
 use map_text::{MapFileFault, map_of};
 use permission_map::{PermissionMap, Run};
-use input_files::{TextFault, devices_at, monitor_at, number_or, ram_at, unknown_key};
 use pmp_encoding::Perm;
 use std::alloc::Global;
 use toml::Table;

@@ -15,7 +15,10 @@ use crate::entry::RegionEntry;
 use crate::letters::perm_of;
 use crate::names::mentions;
 use pmp_encoding::{Entry, Perm, Region, Xlen};
-use text_lines::{NotUnderstood, Words, after_text, begins_with, is_text, len_before, number, numeral, split_line, without_return};
+use text_lines::{
+    NotUnderstood, Words, after_text, begins_with, is_text, len_before, number, numeral,
+    split_line, without_return,
+};
 
 /// The words of a line, and none where a byte outside its comment is not allowed there.
 fn words_in(raw: &[u8]) -> Words<'_>
