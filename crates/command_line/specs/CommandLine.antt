@@ -153,7 +153,8 @@ entry_rule = option_rule (codes "entry") (codes "0" ∷ [])
 abbrev pub monitor_rule : Rule
 monitor_rule = values_rule base_name 2
 
--- each subcommand as `clap` sees it: its files, its options, and the values that they have otherwise
+-- each subcommand as `clap` sees it: its files, its options, and the values that they have
+-- otherwise
 abbrev pub run_app : App
 run_app = with_rule
     (with_rule

@@ -108,7 +108,8 @@ fn mode_of(word: &str) -> Option<Mode>
 /// The value of an argument that has to be there.
 pub(crate) fn value_in<'a>(given: &ArgMatches<'a>, name: &str) -> Result<&'a str, Fault<'a>>
     ensures value { IfOk result (λ word. values_of given.now name.now ≡ Some word.now) }
-    ensures missing { IfErr result (Breaks (values_of given.now) (flags_of given.now) (has name.now)) }
+    ensures missing { IfErr result (Breaks (values_of given.now) (flags_of given.now)
+        (has name.now)) }
 {
     match word_in(given, name) {
         Some(word) => Ok(word),

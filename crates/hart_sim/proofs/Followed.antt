@@ -195,7 +195,8 @@ words_put old hart h now words fit at is = put_there_is old hart h now (with_wor
     (is ∙ ap (λ f. with_registers h (with_words f call_places words)) (sym (running_in old hart h fit at)))
 
 -- a call that the monitor served, and that the hart followed
-pub call_followed : (old : MachineParts) (core : Core) (harts : List Hart) (then_ : Contexts) (hart : ℕ) (m k : Hart) (file : RegisterFile) (changes : SetChanges)
+pub call_followed : (old : MachineParts) (core : Core) (harts : List Hart) (then_ : Contexts) (hart : ℕ) (m k : Hart) (file : RegisterFile)
+    (changes : SetChanges)
     (load : Bool) (digests : Create → List ℕ) (answer : Answer) (zero : Option PageRange) → PutThere old harts hart file → slice_get harts hart ≡ Some m
     → (core_kept core).table.layout ≡ (core_kept old.core).table.layout
     → ((before after : Runner → RegisterFile) → KeepsOthers (core_state old.core before) (core_state core after) hart)

@@ -42,9 +42,11 @@ chosen : (r : Bool) (x rest d : RegisterFile) (o : Option RegisterFile) → (r �
 chosen true x rest d o is = refl
 chosen false x rest d o is = is refl
 
-by_found : (harts : List Hart) (contexts : Contexts) (who : Runner) → registers_in harts contexts who ≡ unwrap_or (found harts who) (registers_in [] contexts who)
+by_found : (harts : List Hart) (contexts : Contexts) (who : Runner)
+    → registers_in harts contexts who ≡ unwrap_or (found harts who) (registers_in [] contexts who)
 by_found [] contexts who = refl
-by_found (hart ∷ harts) contexts who = chosen (runs hart who) (registers_of hart) (registers_in harts contexts who) (registers_in [] contexts who) (found harts who)
+by_found (hart ∷ harts) contexts who = chosen (runs hart who) (registers_of hart) (registers_in harts contexts who) (registers_in [] contexts who)
+    (found harts who)
     (λ off. by_found harts contexts who)
 
 first_of : (r : Bool) (x rest d : RegisterFile) (o : Option RegisterFile) → (r ≡ true → o ≡ None) → rest ≡ unwrap_or o d
@@ -117,7 +119,8 @@ apart worlds alone i j same = by (worlds i) (worlds j) refl refl same
     by (InEnclave a) Host p q e = absurd (let h : EnclaveOf a ≡ HostOf j = e in cc)
     by (InEnclave a) (InEnclave b) p q e = let h : EnclaveOf a ≡ EnclaveOf b = e in let ids : a ≡ b = cc in alone i j a p (q ∙ ap InEnclave (sym ids))
 
-pub runner_is : (hart : Hart) (n : ℕ) (world : World) (limit : Limit) → IsHart hart n world limit → runner_of (number_of hart) (world_of hart) ≡ runner_of n world
+pub runner_is : (hart : Hart) (n : ℕ) (world : World) (limit : Limit) → IsHart hart n world limit
+    → runner_of (number_of hart) (world_of hart) ≡ runner_of n world
 runner_is hart n world limit h = ap₂ runner_of h.number h.world
 
 -- no other hart runs what runs on a hart

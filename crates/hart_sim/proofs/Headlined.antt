@@ -34,7 +34,8 @@ pub banks_of : (platform : PlatformLayout) (events : List (ℕ × Event)) (repli
 banks_of platform _ _ m (booted b) = b.banks
 banks_of platform _ _ m (happened a hart event reply x) = x.kept
 
-pub layout_of : (platform : PlatformLayout) (s : MachineState) (events : List (ℕ × Event)) (replies : List Reply) → Run (opening_state platform) events replies s
+pub layout_of : (platform : PlatformLayout) (s : MachineState) (events : List (ℕ × Event)) (replies : List Reply)
+    → Run (opening_state platform) events replies s
     → s.table.layout ≡ platform
 layout_of platform _ _ _ still = refl
 layout_of platform s _ _ (step {events} {replies} {mid} run hart event reply low possible x) = layout_stays mid hart event reply s x

@@ -25,7 +25,8 @@ pub record Loads (core : Core) (was now : Hart) : Type 0 where
       (list_of (core_kept core) (worlds_of core (number_of was)))
 
 -- the registers on the hart and the saved ones change as the monitor says; the hart loads the
--- entries of its world where that is asked for, and stays in its world with its bank where it is not
+-- entries of its world where that is asked for, and stays in its world with its bank where it is
+-- not
 pub record Follows (core : Core) (changes : SetChanges) (load : Bool) (was now : Hart)
     (before after : Contexts) : Type 0 where
   pub sets : (who : Runner) → registers_in (now ∷ []) after who

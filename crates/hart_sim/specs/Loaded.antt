@@ -1,4 +1,5 @@
--- The small machine and the registers that are loaded on its harts, and nothing else of the machine.
+-- The small machine and the registers that are loaded on its harts, and nothing else of the
+-- machine.
 use Rattle.std.specs.Prelude.{◌≡◌, ◌≢◌, ℕ, ◌<◌, List, [], ◌∷◌, ◌++◌, Option, Some}
 use Rattle.pmp_encoding.specs.declared.bank.Bank.{Bank}
 use Rattle.platforms.specs.Platform.{PlatformLayout, IsLayout}
@@ -29,8 +30,8 @@ pub data Loaded (platform : PlatformLayout) : List (ℕ × Event) → List Reply
       → Loaded platform (events ++ (hart, event) ∷ []) (replies ++ reply ∷ []) new after
 
 -- what follows: the replies are a run, and on each hart that is not marked the bank means the view
--- of the world there by the fewest entries, though an event loads entries on its own hart alone. The
--- worlds and the table are sound, and the platform is the one that was booted
+-- of the world there by the fewest entries, though an event loads entries on its own hart alone.
+-- The worlds and the table are sound, and the platform is the one that was booted
 pub record StaysRight (platform : PlatformLayout) (events : List (ℕ × Event))
     (replies : List Reply) (s : MachineState) (banks : ℕ → Option Bank) : Type 0 where
   pub run : Run (opening_state platform) events replies s

@@ -98,14 +98,16 @@ same_for_judge line hart event first rest means begins none =
 
 -- the access that `judge` takes of a line with words
 pub access_is :
-    (line : List ℕ) (hart : Option ℕ) (event : Event) (first : PlacedWord) (rest : List PlacedWord) → meaning_of 4 line ≡ Some (Some (named_or_first hart, event))
+    (line : List ℕ) (hart : Option ℕ) (event : Event) (first : PlacedWord) (rest : List PlacedWord)
+    → meaning_of 4 line ≡ Some (Some (named_or_first hart, event))
     → placed_words (content_of line) ≡ first ∷ rest → hart_of 4 first.1 ≡ hart → access_on line ≡ option_map Some (judged hart event)
 access_is line None event first rest means begins named = same_for_judge line 0 event first rest means begins named
 access_is line (Some hart) event first rest means begins named = named_for_judge line (Some (hart, event)) first rest hart means begins named
 
 -- and why it takes none
 pub fault_is :
-    (line : List ℕ) (hart : Option ℕ) (event : Event) (first : PlacedWord) (rest : List PlacedWord) → meaning_of 4 line ≡ Some (Some (named_or_first hart, event))
+    (line : List ℕ) (hart : Option ℕ) (event : Event) (first : PlacedWord) (rest : List PlacedWord)
+    → meaning_of 4 line ≡ Some (Some (named_or_first hart, event))
     → placed_words (content_of line) ≡ first ∷ rest → hart_of 4 first.1 ≡ hart → access_fault line ≡ run_fault hart first event
 fault_is line hart event first rest means begins named = rw (means, begins, named) refl
 

@@ -49,7 +49,8 @@ pub record ReadsAccess (event : EventKind) (kind : Kind) (text : List ℕ) (at :
   pub within : end ≤ length text
 
 -- they do not, and this is wrong with them
-pub record LacksAccess (event : EventKind) (kind : Kind) (text : List ℕ) (at : ℕ) (fault : Fault) : Type 0 where
+pub record LacksAccess (event : EventKind) (kind : Kind) (text : List ℕ) (at : ℕ)
+    (fault : Fault) : Type 0 where
   pub says : access_of kind (words_in (placed_at text at)) ≡ None
   pub wrong : (slots : List Slot)
       → slots_fault event (Mode ∷ Size kind ∷ Address ∷ slots) (placed_at text at) at ≡ Some fault

@@ -125,8 +125,8 @@ abbrev pub no_access_fault : Option Access → PlacedWord → Option Fault
 no_access_fault (Some access) first = None
 no_access_fault None first = Some (first.0, first.1, EventOfRun)
 
--- why `judge` does not take a line that begins with a word, by the hart that the word names and what
--- `run` understands: the word names a hart, or the event is no access
+-- why `judge` does not take a line that begins with a word, by the hart that the word names and
+-- what `run` understands: the word names a hart, or the event is no access
 abbrev pub run_fault : Option ℕ → PlacedWord → Event → Option Fault
 run_fault (Some hart) first event = Some (first.0, first.1, HartOfRun)
 run_fault None first event = no_access_fault (access_of_event event) first

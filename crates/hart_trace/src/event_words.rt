@@ -159,7 +159,8 @@ fn word_in<'a>(
 fn mode_in<'a>(event: EventKind, text: &'a [u8], at: usize) -> Result<(Mode, usize), LineFault<'a>>
     requires { at ≤ length text.now }
     ensures read { IfOk result (λ found. Reads mode_of text.now at found.0 found.1) }
-    ensures fault { IfErr result (λ fault. Lacks event Slot.Mode mode_of text.now at (told fault)) }
+    ensures fault { IfErr result (λ fault.
+        Lacks event Slot.Mode mode_of text.now at (told fault)) }
 {
     let placed = word_in(event, Slot::Mode, text, at)?;
     match mode_of(placed.word) {
@@ -261,7 +262,8 @@ fn access_in<'a>(
 /// A fetch, from the word after `fetch` on.
 fn fetch_in<'a>(text: &'a [u8], at: usize) -> Result<Event, LineFault<'a>>
     requires { at ≤ length text.now }
-    ensures value { result_ok result ≡ event_by EventKind.Fetch (words_in (placed_at text.now at)) }
+    ensures value { result_ok result
+        ≡ event_by EventKind.Fetch (words_in (placed_at text.now at)) }
     ensures fault { IfErr result (λ fault. AtFault EventKind.Fetch text.now at (told fault)) }
 {
     let (access, end) = access_in(EventKind::Fetch, Kind::Fetch, text, at)?;
@@ -272,7 +274,8 @@ fn fetch_in<'a>(text: &'a [u8], at: usize) -> Result<Event, LineFault<'a>>
 /// A load, from the word after `load` on.
 fn load_in<'a>(text: &'a [u8], at: usize) -> Result<Event, LineFault<'a>>
     requires { at ≤ length text.now }
-    ensures value { result_ok result ≡ event_by EventKind.Load (words_in (placed_at text.now at)) }
+    ensures value { result_ok result
+        ≡ event_by EventKind.Load (words_in (placed_at text.now at)) }
     ensures fault { IfErr result (λ fault. AtFault EventKind.Load text.now at (told fault)) }
 {
     let (access, end) = access_in(EventKind::Load, Kind::Load, text, at)?;
@@ -283,7 +286,8 @@ fn load_in<'a>(text: &'a [u8], at: usize) -> Result<Event, LineFault<'a>>
 /// A store, from the word after `store` on.
 fn store_in<'a>(text: &'a [u8], at: usize) -> Result<Event, LineFault<'a>>
     requires { at ≤ length text.now }
-    ensures value { result_ok result ≡ event_by EventKind.Store (words_in (placed_at text.now at)) }
+    ensures value { result_ok result
+        ≡ event_by EventKind.Store (words_in (placed_at text.now at)) }
     ensures fault { IfErr result (λ fault. AtFault EventKind.Store text.now at (told fault)) }
 {
     let (access, access_end) = access_in(EventKind::Store, Kind::Store, text, at)?;
@@ -307,7 +311,8 @@ fn setting_in<'a>(text: &'a [u8], at: usize) -> Result<Event, LineFault<'a>>
 /// A call, from the word after `ecall` on.
 fn call_in<'a>(text: &'a [u8], at: usize) -> Result<Event, LineFault<'a>>
     requires { at ≤ length text.now }
-    ensures value { result_ok result ≡ event_by EventKind.Ecall (words_in (placed_at text.now at)) }
+    ensures value { result_ok result
+        ≡ event_by EventKind.Ecall (words_in (placed_at text.now at)) }
     ensures fault { IfErr result (λ fault. AtFault EventKind.Ecall text.now at (told fault)) }
 {
     let mut numbers = ArrayVec::new();
@@ -357,7 +362,8 @@ pub(crate) fn event_in<'a>(text: &'a [u8], keyword: Placed<'a>) -> Result<Event,
     requires end { keyword.end ≡ end_of (keyword.before, keyword.word.now) }
     ensures value { result_ok result ≡ event_of (keyword.entry.word.now
         ∷ words_in (placed_at text.now keyword.entry.end)) }
-    ensures fault { IfErr result (λ fault. event_fault (keyword.entry.before, keyword.entry.word.now)
+    ensures fault { IfErr result (λ fault.
+        event_fault (keyword.entry.before, keyword.entry.word.now)
         (placed_at text.now keyword.entry.end) ≡ Some (told fault)) }
 {
     let Some(kind) = kind_of(keyword.word) else {

@@ -18,7 +18,8 @@ use Rattle.input_files.specs.declared.breach.TomlPath.TheVariants.{File, Monitor
 use Rattle.input_files.specs.declared.breach.Breach.{Breach}
 use Rattle.input_files.specs.declared.breach.Breach.TheVariants as breaches
 use Rattle.input_files.specs.Overlaps.{IsOverlap, placed_ranges}
-use Rattle.input_files.specs.declared.breach.Breach.TheVariants.{Unknown, Missing, NoNumber, NoPages}
+use Rattle.input_files.specs.declared.breach.Breach.TheVariants.{Unknown, Missing, NoNumber}
+use Rattle.input_files.specs.declared.breach.Breach.TheVariants.{NoPages}
 use Rattle.input_files.specs.declared.breach.Breach.TheVariants.{NoPerm, NoTable, NoTables, Rule}
 
 -- a key as it is written

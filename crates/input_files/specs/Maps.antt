@@ -1,5 +1,6 @@
 -- Whether a file is a map, and which of its lines are not understood.
-use Rattle.std.specs.Prelude.{◌⊎◌, ℕ, ◌+◌, Bool, true, false, List, [], ◌∷◌, ◌++◌, Option, Some, None}
+use Rattle.std.specs.Prelude.{◌⊎◌, ℕ, ◌+◌, Bool, true, false, List, [], ◌∷◌, ◌++◌, Option, Some}
+use Rattle.std.specs.Prelude.{None}
 use Rattle.permission_map.specs.declared.runs.Run.{Run}
 use Rattle.map_text.specs.MapFile.{FaultAt, IsUnknown, Makes, MakesTooMany, raw_says}
 

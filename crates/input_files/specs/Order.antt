@@ -6,7 +6,8 @@ use Rattle.input_files.specs.declared.breach.Key.TheVariants as keys
 use Rattle.input_files.specs.declared.breach.TomlPath.{TomlPath}
 use Rattle.input_files.specs.declared.breach.TomlPath.TheVariants.{File, Monitor, Ram, Device}
 use Rattle.input_files.specs.declared.breach.Breach.{Breach}
-use Rattle.input_files.specs.declared.breach.Breach.TheVariants.{Unknown, Missing, NoNumber, NoPages}
+use Rattle.input_files.specs.declared.breach.Breach.TheVariants.{Unknown, Missing, NoNumber}
+use Rattle.input_files.specs.declared.breach.Breach.TheVariants.{NoPages}
 use Rattle.input_files.specs.declared.breach.Breach.TheVariants.{NoPerm, NoTable, NoTables, Overlap}
 use Rattle.input_files.specs.declared.breach.Breach.TheVariants.{Rule}
 use Rattle.input_files.specs.Breaches.{Breaks, BreaksAt, IsBreach}

@@ -79,7 +79,8 @@ pub data AreNamed (whole : List Run) : List Numbered → List Numbered → List 
 
 -- these lines are named; without all of them together, the settings that are left lead to the same
 -- map
-pub record AreIdle (settings : List Numbered) (whole : List Run) (idle : List IdleLine) : Type 0 where
+pub record AreIdle (settings : List Numbered) (whole : List Run)
+    (idle : List IdleLine) : Type 0 where
   pub left : List Numbered
   pub are_named : AreNamed whole [] settings idle left
   pub same : SetTo [] left whole

@@ -1,5 +1,6 @@
 -- Whether a file is a trace, and which of its lines are not taken, and why.
-use Rattle.std.specs.Prelude.{ℕ, ◌+◌, nat_le, nat_lt, ◌&&◌, if◌then◌else◌, Bool, true, false, List, []}
+use Rattle.std.specs.Prelude.{ℕ, ◌+◌, nat_le, nat_lt, ◌&&◌, if◌then◌else◌, Bool, true, false, List}
+use Rattle.std.specs.Prelude.{[]}
 use Rattle.std.specs.Prelude.{◌∷◌, ◌++◌, length, Option, Some, None, is_some}
 use Rattle.std.specs.List.{list_all}
 use Rattle.text_lines.specs.Lines.{raw_lines, without_return}
@@ -26,7 +27,8 @@ fault_by Judge line = access_fault line
 abbrev pub is_taken : Taker → List ℕ → Bool
 is_taken taker raw = nat_le (length raw) 1023 && takes taker (without_return raw)
 
--- what is wrong with one that is not taken: it is too long, or its words are not what they should be
+-- what is wrong with one that is not taken: it is too long, or its words are not what they should
+-- be
 abbrev pub fault_of : Taker → List ℕ → Option Fault
 fault_of taker raw = if nat_lt 1023 (length raw) then Some (1023, [], LongLine)
     else fault_by taker (without_return raw)

@@ -20,7 +20,8 @@ use toml::Table;
 
 /// The devices of a platform, as its document has them.
 fn devices_of(alloc: Global, document: &Table) -> Result<Vec<(u64, u64, Perm)>, AllocError>
-    requires { (platform : PlatformLayout) × IsPlatformDocument (table_view document.now) platform }
+    requires { (platform : PlatformLayout)
+        × IsPlatformDocument (table_view document.now) platform }
     ensures { IfOk result (λ devices. (platform : PlatformLayout)
         × IsPlatformDocument (table_view document.now) platform
         × (devices.items ≡ platform.devices)) }
@@ -70,7 +71,8 @@ pub(crate) fn warnings(
     text: &str,
     document: &Table,
 ) -> Result<Vec<u8>, AllocError>
-    requires { (platform : PlatformLayout) × IsPlatformDocument (table_view document.now) platform }
+    requires { (platform : PlatformLayout)
+        × IsPlatformDocument (table_view document.now) platform }
 {
     let devices = devices_of(alloc, document)?;
     let found = held_masters(alloc, devices.as_slice())?;

@@ -116,7 +116,8 @@ impl Core {
     /// in any order that means that view is shorter.
     pub fn entries(&self, hart: u8) -> &[Entry]
         requires { hart < 4 }
-        ensures fewest { IsFewest (current_view (core_kept self.now).table (worlds_of self.now hart))
+        ensures fewest { IsFewest (current_view (core_kept self.now).table
+            (worlds_of self.now hart))
             result.now }
         ensures room { length result.now ≤ limit_number (core_kept self.now).table.layout.limit }
         ensures value { result.now ≡ list_of (core_kept self.now) (worlds_of self.now hart) }

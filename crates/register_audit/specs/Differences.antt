@@ -16,7 +16,8 @@ pub data AreOdd : List Stretch → List Stretch → Type 0 where
   other : {all odd : List Stretch} → (s : Stretch) → s.wanted ≢ s.given → AreOdd all odd
       → AreOdd (s ∷ all) (s ∷ odd)
 
--- these are the stretches of the space on which registers give a mode another permission than a view
+-- these are the stretches of the space on which registers give a mode another permission than a
+-- view
 pub record AreDifferences (mode : Mode) (view : View) (registers : Registers)
     (odd : List Stretch) : Type 0 where
   pub given : List Extent

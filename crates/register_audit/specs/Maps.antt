@@ -17,9 +17,9 @@ use Rattle.register_audit.specs.Pages.{HasFirstBytes, IsTooFine}
 use Rattle.register_audit.specs.MapTexts.{map_text}
 use Rattle.register_audit.specs.Modes.{AreGiven}
 
--- a text about extents, and whether it is a map: the lines of the map that they mean; or a line about
--- the first bytes whose permission differs from that of their page's first byte; or, if there are
--- none, about an access that an entry cuts
+-- a text about extents, and whether it is a map: the lines of the map that they mean; or a line
+-- about the first bytes whose permission differs from that of their page's first byte; or, if there
+-- are none, about an access that an entry cuts
 pub data IsMapOfExtents (extents : List Extent) : List ℕ → Bool → Type 0 where
   mapped : (runs : List Run) → AreRuns runs → ExtentsMean extents (view_of_runs runs)
       → IsMapOfExtents extents (map_text runs) true

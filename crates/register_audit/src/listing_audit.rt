@@ -108,7 +108,8 @@ pub fn audit<W: Sink>(
     requires short { length listing.now < 2 ^ 64 - 1 }
     ensures written { IfOk result (λ means.
         IsAudit mode (view_of_runs map.now) xlen listing.now means
-        × (text : List ℕ) × TakesAll text (writing W.contents W.failures W.stalls out.old out.new)) }
+        × (text : List ℕ)
+        × TakesAll text (writing W.contents W.failures W.stalls out.old out.new)) }
     ensures means { result ≡ Ok true
         → (leaves : Listing) × (listed xlen listing.now ≡ Some leaves)
         × (unknown_bit leaves.mseccfg ≡ None)

@@ -83,7 +83,8 @@ more_agreeing does old now new lines answers line said n false short e number fo
 
 -- one line more with an answer
 more_answered :
-    {S : Type 0} (does : Meaning S) (old now new : S) (lines answers : List (List ℕ)) (line said : List ℕ) (n : ℕ) (first : Option LineAnswer) → IsShortLine line
+    {S : Type 0} (does : Meaning S) (old now new : S) (lines answers : List (List ℕ)) (line said : List ℕ) (n : ℕ) (first : Option LineAnswer)
+    → IsShortLine line
     → n ≡ length lines + 1
     → Found does old lines answers now first → does now (length answers) (without_return line) (Some said) new
     → Found does old (lines ++ line ∷ []) (answers ++ said ∷ []) new (first_with first n (without_return line) (Some said))

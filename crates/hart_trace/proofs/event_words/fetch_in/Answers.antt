@@ -28,4 +28,5 @@ returns-in_err-end_in-clause-fault c =
     rw (p.1, p.2) (c.in_ok-access.ensures.read.right [] ∙ exceeds EventKind.Fetch c.args.text.now c.in_ok-access.end _ c.in_err-end_in.ensures.fault)
 
 pub returns-clause-value : goal.returns-clause-value
-returns-clause-value c = sym (look_read Kind.Fetch (words_in (placed_at c.args.text.now c.args.at)) _ _ c.in_ok-access.ensures.read.says (ap words_in c.in_ok-end_in.ensures.end))
+returns-clause-value c = sym (look_read Kind.Fetch (words_in (placed_at c.args.text.now c.args.at)) _ _ c.in_ok-access.ensures.read.says
+    (ap words_in c.in_ok-end_in.ensures.end))

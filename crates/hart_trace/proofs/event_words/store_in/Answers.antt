@@ -39,4 +39,5 @@ returns-in_err-end_in-clause-fault c =
 pub returns-clause-value : goal.returns-clause-value
 returns-clause-value c =
     let v = c.in_ok-value.ensures.read in
-    sym (store_read (words_in (placed_at c.args.text.now c.args.at)) _ _ (v.0).1 _ c.in_ok-access.ensures.read.says (ap words_in (v.1 ∙ ap (λ ws. v.0 ∷ ws) c.in_ok-end_in.ensures.end)) v.2)
+    sym (store_read (words_in (placed_at c.args.text.now c.args.at)) _ _ (v.0).1 _ c.in_ok-access.ensures.read.says (ap words_in (v.1
+    ∙ ap (λ ws. v.0 ∷ ws) c.in_ok-end_in.ensures.end)) v.2)

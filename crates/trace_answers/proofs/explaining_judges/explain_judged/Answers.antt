@@ -13,7 +13,8 @@ returns-clause-all g c =
     let outcomes = g.J.AccessJudge.outcomes in
     let by = c.args.by.now in
     let begun : ExplainingJudge _ _ = record { by = c.args.by; deciders = c.args.deciders } in
-    if_ok c.interpret_lines.result (mapped_all (Keeps by) stateless (explains outcomes) (explaining (answered_by (outcomes by))) (follows outcomes by) begun _ _ _ _ _ refl) (c.interpret_lines.ensures.all tt)
+    if_ok c.interpret_lines.result (mapped_all (Keeps by) stateless (explains outcomes) (explaining (answered_by (outcomes by)))
+    (follows outcomes by) begun _ _ _ _ _ refl) (c.interpret_lines.ensures.all tt)
 
 pub returns-clause-line : goal.returns-clause-line
 returns-clause-line g c = λ n e.

@@ -20,7 +20,8 @@ returns-clause-step c =
     let core = c.interrupt-load.new.self in
     let e = c.interrupt-load.ensures in
     let at = read_at old.harts hart c.index-self-hart.result (omega (arith, c.requires.on.fit.four, c.requires.few)) in
-    let both = interrupt_followed old core c.follow.new.contexts hart _ c.follow.new.here c.interrupt-load.new.changes c.interrupt-load.result c.requires.on.fit at
+    let both = interrupt_followed old core c.follow.new.contexts hart _ c.follow.new.here c.interrupt-load.new.changes c.interrupt-load.result c.requires.on.fit
+    at
     e.platform e.others e.load c.follow.ensures (e.step (registers_in old.harts old.contexts)) in (
       core_state core (registers_in (slice_set old.harts hart c.follow.new.here) c.follow.new.contexts),
       both.1,
@@ -36,7 +37,8 @@ returns-clause-frame c =
     let e = c.interrupt-load.ensures in
     let harts = slice_set old.harts hart c.follow.new.here in
     let at = read_at old.harts hart c.index-self-hart.result (omega (arith, c.requires.on.fit.four, c.requires.few)) in
-    let f = (interrupt_followed old core c.follow.new.contexts hart _ c.follow.new.here c.interrupt-load.new.changes c.interrupt-load.result c.requires.on.fit at
+    let f = (interrupt_followed old core c.follow.new.contexts hart _ c.follow.new.here c.interrupt-load.new.changes c.interrupt-load.result c.requires.on.fit
+    at
     e.platform e.others e.load c.follow.ensures (e.step (registers_in old.harts old.contexts))).0 in
     let sets = registers_in old.harts old.contexts in
     let after = registers_in harts c.follow.new.contexts in

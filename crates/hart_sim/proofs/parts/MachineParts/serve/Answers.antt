@@ -47,10 +47,13 @@ returns-clause-served c =
     let put = words_put old hart _ c.put_call.new.here c.args.words.now c.requires.on.fit at c.put_call.ensures in
     let first = read_at old.harts hart c.index-self-hart.result (omega (arith, c.requires.on.fit.four, c.requires.few)) in
     let third = read_at harts hart c.index-self-hart-3.result (omega (arith, put.fit.four, c.requires.few)) in
-    let asked = ap (λ s. running_registers s hart) put.state ∙ put_there (core_in old) hart (with_words (running_registers (core_in old) hart) call_places c.args.words.now)
-    ∙ sym (c.put_words.ensures ∙ ap (λ f. with_words f call_places c.args.words.now) (c.registers.ensures ∙ sym (running_in old hart _ c.requires.on.fit first))) in
+    let asked = ap (λ s. running_registers s hart) put.state
+    ∙ put_there (core_in old) hart (with_words (running_registers (core_in old) hart) call_places c.args.words.now)
+    ∙ sym (c.put_words.ensures ∙ ap (λ f. with_words f call_places c.args.words.now) (c.registers.ensures
+    ∙ sym (running_in old hart _ c.requires.on.fit first))) in
     let both = call_followed old core harts c.follow.new.contexts hart _ c.follow.new.here
-    (with_words (running_registers (core_in old) hart) call_places c.args.words.now) c.serve-served.new.changes r.load (measured_in (byte_at old.memory)) r.answer
+    (with_words (running_registers (core_in old) hart) call_places c.args.words.now) c.serve-served.new.changes r.load (measured_in
+    (byte_at old.memory)) r.answer
     r.zero put third e.platform e.others e.load c.follow.ensures (e.step (registers_in harts old.contexts) (ap call_of asked)) in
     let new = core_state core (registers_in (slice_set harts hart c.follow.new.here) c.follow.new.contexts) in
     (r.zero, new, both.1, c.zero.ensures new)
@@ -67,8 +70,10 @@ returns-clause-frame c =
     let put = words_put old hart _ c.put_call.new.here c.args.words.now c.requires.on.fit at c.put_call.ensures in
     let first = read_at old.harts hart c.index-self-hart.result (omega (arith, c.requires.on.fit.four, c.requires.few)) in
     let third = read_at harts hart c.index-self-hart-3.result (omega (arith, put.fit.four, c.requires.few)) in
-    let asked = ap (λ s. running_registers s hart) put.state ∙ put_there (core_in old) hart (with_words (running_registers (core_in old) hart) call_places c.args.words.now)
-    ∙ sym (c.put_words.ensures ∙ ap (λ f. with_words f call_places c.args.words.now) (c.registers.ensures ∙ sym (running_in old hart _ c.requires.on.fit first))) in
+    let asked = ap (λ s. running_registers s hart) put.state
+    ∙ put_there (core_in old) hart (with_words (running_registers (core_in old) hart) call_places c.args.words.now)
+    ∙ sym (c.put_words.ensures ∙ ap (λ f. with_words f call_places c.args.words.now) (c.registers.ensures
+    ∙ sym (running_in old hart _ c.requires.on.fit first))) in
     let file = with_words (running_registers (core_in old) hart) call_places c.args.words.now in
     let f = (call_followed old core harts c.follow.new.contexts hart _ c.follow.new.here file c.serve-served.new.changes r.load
     (measured_in (byte_at old.memory)) r.answer r.zero put third e.platform e.others e.load c.follow.ensures

@@ -22,7 +22,8 @@ returns-in_err-more-clause-line g c =
     let p = err_from_is_err_and c.from_residual.result c.from_residual.ensures.1 in
     let read = c.in_err-more.ensures.read in
     let number = c.read_more.ensures.number ∙ c.reads.invariant.number in
-    rw (p.1, p.2) (refuses_read _ c.reads.self c.read_more.new.self _ _ _ c.reads.invariant.gathered.0 read.0 c.as_slice-bytes.result.now c.len_before-len.result
+    rw (p.1, p.2)
+    (refuses_read _ c.reads.self c.read_more.new.self _ _ _ c.reads.invariant.gathered.0 read.0 c.as_slice-bytes.result.now c.len_before-len.result
     c.in_err-more.field-0.0 c.reads.invariant.gathered.1 c.reads.invariant.limit
     c.read_more.ensures.taken number c.as_slice-bytes.ensures.value c.len_before-len.ensures.len c.if-len-held.false c.if-len-gt-LONGEST.false read.1)
 
