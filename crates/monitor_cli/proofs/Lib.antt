@@ -1,6 +1,7 @@
 pub mod Ends
 pub mod FarPages
 pub mod Judgements
+pub mod LintEnds
 pub mod ListingTroubles
 pub mod Live
 pub mod MapEnds

@@ -14,7 +14,7 @@ pub of_tree :
     → Ends (IsTreeMapped options.mode bytes) (IsTreeUnmapped file options.mode bytes) out done
     → Ends (IsMapped options first) (IsUnmapped file options first) out done
 of_tree options file first out bytes (Ok status) read is told = (told.0, (bytes, read, inl (is, told.1)), told.2)
-of_tree options file first out bytes (Err trouble) read is (inl cut) = inl (cut.0, cut.1, cut.2, (bytes, read, inl (is, cut.3)), cut.4)
+of_tree options file first out bytes (Err trouble) read is (inl cut) = inl (cut.0, (cut.1.0, cut.1.1, (bytes, read, inl (is, cut.1.2)), cut.1.3))
 of_tree options file first out bytes (Err trouble) read is (inr stopped) = elim stopped.0 [
   | inl memory ↦ inr (inl memory, stopped.1)
   | inr none ↦ inr (inr (inr (bytes, read, inl none)), stopped.1)

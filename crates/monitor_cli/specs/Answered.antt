@@ -15,5 +15,5 @@ answer_status false = 1
 
 -- that of what answers yes or no
 abbrev pub judged : Result Bool Trouble → Result ℕ Trouble
-judged (Ok yes) = Ok (answer_status yes)
+judged (Ok answer) = Ok (answer_status answer)
 judged (Err trouble) = Err trouble

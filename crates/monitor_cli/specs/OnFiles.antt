@@ -49,7 +49,7 @@ pub record IsOpened {O : Type 0} (stream : O) (out : Output O) : Type 0 where
 
 -- a task ended on its files with that status. It was done on what its places read and on an output
 -- that held nothing yet; then what was held of that was handed on
-pub record EndsOnFiles {R P S F D O : Type 0} (stdin : S) (source : Input R S F D
+pub record EndsOnFiles (R D P : Type 0) {S F O : Type 0} (stdin : S) (source : Input R S F D
     → Input R S F D → Reading (Input R S F D)) (stdout : O)
     (contents : Explained (RetryInterrupted O) → Option (List ℕ)) (request : Request) (status : ℕ) :
     Type 0 where

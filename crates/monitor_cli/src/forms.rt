@@ -1,6 +1,8 @@
 //! What an input should be, and the hint of one that is not: what `lint` says of it, line by line, or that it has more bytes than it
 //! may.
 
+ghost use Rattle.std.specs.Prelude.{◌<◌, ◌^◌};
+
 use crate::boards::TREE_BYTES;
 use crate::lint::{TRACE_BYTES, lint_as_platform, lint_as_trace, lint_listing, lint_map};
 use crate::platform_inputs::PLATFORM_BYTES;
@@ -123,13 +125,13 @@ pub(crate) fn size_hint<'a, R: Source>(
 /// The lines of a text, each after `hint: `.
 fn hints_in(alloc: Global, text: &[u8]) -> Result<Vec<u8>, AllocError> {
     let mut hints = Vec::new(alloc);
-    let mut rest = text;
-    while !rest.is_empty() {
-        let (line, behind) = split_line(rest);
-        hints.extend_from_slice(b"hint: ")?;
-        hints.extend_from_slice(line)?;
-        hints.push(b'\n')?;
-        rest = behind;
+    let mut is_first = true;
+    for byte in text {
+        if is_first {
+            hints.extend_from_slice(b"hint: ")?;
+        }
+        hints.push(*byte)?;
+        is_first = *byte == b'\n';
     }
     Ok(hints)
 }

@@ -30,16 +30,21 @@ struct Bounds {
 /// The hint of a map that needs this many entries, where that is more than it may, or than configuration words have room for.
 fn need_hint(alloc: Global, name: &str, bounds: Bounds, needed: u64) -> Hint<'static> {
     let entries = if needed == 1 { "entry" } else { "entries" };
-    let said = match (bounds.most, bounds.words) {
-        (Some(most), _) if most < needed => {
-            format!(in alloc; ": needs {needed} {entries}, at most {most}\n")?
+    if let Some(most) = bounds.most {
+        if most < needed {
+            let said = format!(in alloc; ": needs {needed} {entries}, at most {most}\n")?;
+            return Ok(Some(hint_of(alloc, name, said.as_bytes())?));
         }
-        (_, Some(there)) if there < needed => {
-            format!(in alloc; ": needs {needed} {entries}, {there} are there: no configuration words\n")?
+    }
+    if let Some(there) = bounds.words {
+        if there < needed {
+            let said = format!(in alloc;
+                ": needs {needed} {entries}, {there} are there: no configuration words\n"
+            )?;
+            return Ok(Some(hint_of(alloc, name, said.as_bytes())?));
         }
-        _ => return Ok(None),
-    };
-    Ok(Some(hint_of(alloc, name, said.as_bytes())?))
+    }
+    Ok(None)
 }
 
 /// The hint of a platform that does not boot.

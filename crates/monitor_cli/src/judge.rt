@@ -3,6 +3,7 @@
 ghost use Rattle.std.specs.Prelude.{◌-◌, ◌^◌, ◌<◌, IfErr, IfOk, List, Option, Some, ℕ, ◌≡◌, option_map};
 ghost use Rattle.byte_streams.specs.Writings.{writing, Breaks, IsWell};
 ghost use Rattle.hart_trace.specs.Answers.{answered_by};
+ghost use Rattle.pmp_encoding.specs.Limits.{limit_number};
 ghost use Rattle.trace_answers.specs.Comparisons.{LineAnswer, found_in};
 ghost use Rattle.trace_answers.specs.Explained.{explaining};
 ghost use Rattle.program_files.specs.Reading.{reading};
@@ -129,6 +130,13 @@ fn judge_by<'a, J: AccessJudge, D: Deciders, R: Source, L, W: LineSink<L>>(
     }
 }
 
+/// How many entries a hart of that limit has.
+fn entry_count(limit: Limit) -> u64
+    ensures { result ≡ limit_number limit }
+{
+    u64::from(limit.number())
+}
+
 /// Loads the entries of a map and judges a trace by them.
 #[inline(never)]
 fn judge_by_map<'a, R: Source, L, W: LineSink<L>>(
@@ -147,7 +155,7 @@ fn judge_by_map<'a, R: Source, L, W: LineSink<L>>(
         (status_in result) }
 {
     let map = map_in(alloc, file, first)?;
-    let most = u64::from(limit.number());
+    let most = entry_count(limit);
     let plan = plan_within(alloc, file, &map, options.xlen, Some(most))?;
     let bank = Bank::of_packed(plan.entries(), limit);
     let segments = Segments::of(&bank);

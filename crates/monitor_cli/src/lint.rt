@@ -1,10 +1,10 @@
 //! `lint`: what is wrong with a map file, a platform file, a listing of registers or a trace.
 
-ghost use Rattle.std.specs.Prelude.{◌≡◌, ◌-◌, ◌^◌, ◌<◌, IfErr, IfOk, length, false, true};
+ghost use Rattle.std.specs.Prelude.{◌≡◌, ◌-◌, ◌^◌, ◌<◌, ℕ, List, IfErr, IfOk, length, true};
 ghost use Rattle.input_files.specs.Traces.{is_trace};
 ghost use Rattle.input_files.specs.Maps.{IsVerdictOfLines};
-ghost use Rattle.program_files.specs.Reading.{reading};
-ghost use Rattle.monitor_cli.specs.Lints.{names_platform, HasHarts, HasNoHarts, IsFound, IsListingFound, IsOfDevices, Lints};
+ghost use Rattle.program_files.specs.Reading.{reading, HasBytes, HasNoBytes};
+ghost use Rattle.monitor_cli.specs.Lints.{names_platform, Finds, HasHarts, HasNoHarts, IsFound, IsListingFound, IsOfDevices, Lints};
 
 use crate::platform_inputs::read_platform;
 use byte_streams::{Sink, Source};
@@ -152,6 +152,26 @@ fn harts_in<'a, R: Source>(
     Ok(platform.harts())
 }
 
+/// Prints what is wrong with a file that should be a platform where its name ends in `.toml`, and otherwise a map.
+fn lint_by_name<'a, R: Source, W: Sink>(
+    alloc: Global,
+    file: &'a str,
+    first: &mut R,
+    out: &mut W,
+) -> Result<bool, Trouble<'a>>
+    ensures { let one = reading R.remaining R.failures first.old first.new in
+        Finds (λ is. (bytes : List ℕ) × HasBytes (2 ^ 20) one bytes
+        × IsFound (names_platform file.entry.now) bytes is)
+        (HasNoBytes (2 ^ 20) file.entry one) result }
+{
+    let bytes = bytes_in(alloc, file, first, MAP_BYTES)?;
+    if names_platform(file) {
+        lint_as_platform(alloc, file, bytes.as_slice(), out)
+    } else {
+        lint_map(alloc, file, bytes.as_slice(), out)
+    }
+}
+
 /// Prints what is wrong with a file, line by line, and answers whether it is what it should be: a platform where its name ends in
 /// `.toml` and otherwise a map, or as the options say a listing of registers or a trace, which is for the harts of a platform where
 /// one is named.
@@ -170,14 +190,7 @@ pub(crate) fn do_lint<'a, R: Source, W: Sink>(
         (source first.old first.new) (source second.old second.new) result }
 {
     match options.kind {
-        LintKind::ByName => {
-            let bytes = bytes_in(alloc, file, first, MAP_BYTES)?;
-            if names_platform(file) {
-                lint_as_platform(alloc, file, bytes.as_slice(), out)
-            } else {
-                lint_map(alloc, file, bytes.as_slice(), out)
-            }
-        }
+        LintKind::ByName => lint_by_name(alloc, file, first, out),
         LintKind::Registers => {
             let bytes = bytes_in(alloc, file, first, REGISTER_BYTES)?;
             lint_listing(options.xlen, file, bytes.as_slice(), out)

@@ -80,7 +80,7 @@ pub fn perform_on_files<'a, R: Files, S: Read + Copy, O: Write + Drop, E: Sink>(
     request: &Request<'a>,
     is_terminal: bool,
 ) -> Result<u8, AllocError>
-    ensures { IfOk result (EndsOnFiles {R = R} {P = Bor R} {D = R.Dir} lent.now.stdin
+    ensures { IfOk result (EndsOnFiles R R.Dir (Bor R) lent.now.stdin
         (input_over R.File.remaining S.remaining) stdout (λ stream. O.contents stream.inner.inner)
         request.now) }
 {

@@ -38,5 +38,5 @@ returns g c =
       | inr (inr device) ↦
           let w = rw c.as_slice.ensures.value at c.in-Err.ensures.broken (ap (λ f. Err f) device.0) in
           rw (trouble ∙ device.1)
-          (inl (refl, w.2, w.0, (_, _, c.entries.result.now, c.in_ok-map.ensures.made, c.in_ok-listing.ensures.whole, fewest, reached, w.1), w.3))
+          (inl (refl, (w.2, w.0, (_, _, c.entries.result.now, c.in_ok-map.ensures.made, c.in_ok-listing.ensures.whole, fewest, reached, w.1), w.3)))
     ]

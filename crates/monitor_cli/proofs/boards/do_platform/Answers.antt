@@ -19,7 +19,7 @@ pub returns-in_err-write_whole : goal.returns-in_err-write_whole
 returns-in_err-write_whole g c =
     let p = err_from_is_err_and c.from_residual-in_err-write_whole.result c.from_residual-in_err-write_whole.ensures.1 in
     let ok = rw c.as_slice.ensures.value at c.in-Ok.ensures.ok in
-    rw (p.1, p.2) (inl (refl, _, _, (_, c.in_ok-bytes.ensures.whole, ok, refl), rw c.as_slice-2.ensures.value at c.in_err-write_whole.ensures))
+    rw (p.1, p.2) (inl (refl, (_, _, (_, c.in_ok-bytes.ensures.whole, ok, refl), rw c.as_slice-2.ensures.value at c.in_err-write_whole.ensures)))
 
 pub returns : goal.returns
 returns g c =

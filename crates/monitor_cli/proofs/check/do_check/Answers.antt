@@ -19,7 +19,7 @@ returns-in_err-write_whole g c =
     let found = c.in_ok-found.ensures.whole in
     let verdict = c.verdict-line.ensures.verdict (view_of_runs c.in_ok-map.map) found.0 found.2 in
     let broken = rw c.as_slice.ensures.value at c.in_err-write_whole.ensures in
-    rw (p.1, p.2) (inl (refl, _, _, (_, _, c.in_ok-map.ensures.made, found.1, verdict), broken))
+    rw (p.1, p.2) (inl (refl, (_, _, (_, _, c.in_ok-map.ensures.made, found.1, verdict), broken)))
 
 pub returns : goal.returns
 returns g c =

@@ -11,16 +11,13 @@ returns-in_err-map g c =
 pub returns-in_err-plan : goal.returns-in_err-plan
 returns-in_err-plan g c =
     let p = err_from_is_err_and c.from_residual-in_err-plan.result c.from_residual-in_err-plan.ensures.1 in
-    rw (p.1, p.2) (no_plan _ (inr (_, c.in_ok-map.ensures.made, rw c.number.ensures at c.in_err-plan.ensures.refused)) refl refl)
-
-pub of_packed-requires : goal.of_packed-requires
-of_packed-requires g c = rw (c.entries.ensures, sym c.number.ensures) c.in_ok-plan.ensures.planned.within
+    rw (p.1, p.2) (no_plan _ (inr (_, c.in_ok-map.ensures.made, rw c.entry_count-most.ensures at c.in_err-plan.ensures.refused)) refl refl)
 
 pub returns : goal.returns
 returns g c = judged _ c.of_packed-bank.result _ c.in_ok-map.ensures.made
     (record {
       entries = c.entries.result.now;
-      planned = rw (sym c.entries.ensures, c.number.ensures) at c.in_ok-plan.ensures.planned;
+      planned = rw (sym c.entries.ensures, c.entry_count-most.ensures) at c.in_ok-plan.ensures.planned;
       reached = rw (sym c.entries.ensures) at c.in_ok-plan.ensures.reached;
       list = c.of_packed-bank.ensures.list;
       registers = c.of_packed-bank.ensures.registers;

@@ -14,7 +14,7 @@ pub returns-then-is_tree : goal.returns-then-is_tree
 returns-then-is_tree g c =
     let is = rw c.as_slice.ensures.value at (sym c.is_tree.ensures ∙ c.if-is_tree.true) in
     let told = rw c.as_slice-then-is_tree.ensures.value at c.print_map_of_tree.ensures in
-    rw c.quiet.ensures (of_tree _ _ _ _ _ c.print_map_of_tree.result c.in_ok-bytes.ensures.whole is told)
+    rw c.quiet.ensures (of_tree c.args.options.now c.args.file _ _ c.in_ok-bytes.bytes.items c.print_map_of_tree.result c.in_ok-bytes.ensures.whole is told)
 
 pub returns-in-Ok : goal.returns-in-Ok
 returns-in-Ok g c =
@@ -27,8 +27,8 @@ returns-in-Err-TooManyRanges g c =
     let fine = rw c.as_slice-2.ensures.value at c.in-Err-TooManyRanges.ensures.many (ap (λ f. Err f) c.in-Err-TooManyRanges.field-0-is) in
     inr (inr (inr (_, c.in_ok-bytes.ensures.whole, inr (fine.0, fine.1, fine.2, refl))), fine.3)
 
-pub returns-in-Err-Listing : goal.returns-in-Err-Listing
-returns-in-Err-Listing g c =
+pub returns : goal.returns
+returns g c =
     let of_listing = ap (λ f. Err f) c.in-Err-Listing.field-0-is in
     let trouble = c.listing_trouble.ensures in
     let none = rw c.as_slice.ensures.value at (sym c.is_tree.ensures ∙ c.if-is_tree.false) in
@@ -40,5 +40,5 @@ returns-in-Err-Listing g c =
           rw (trouble ∙ memory.1) (inr (inl refl, c.in-Err-Listing.ensures.untouched (of_listing ∙ ap (λ f. Err (Listing f)) memory.0)))
       | inr (inr device) ↦
           let w = rw c.as_slice-2.ensures.value at c.in-Err-Listing.ensures.broken (of_listing ∙ ap (λ f. Err (Listing f)) device.0) in
-          rw (trouble ∙ device.1) (inl (refl, w.0, _, (_, c.in_ok-bytes.ensures.whole, inr (none, (w.1, w.2, refl))), w.3))
+          rw (trouble ∙ device.1) (inl (refl, (w.0, _, (_, c.in_ok-bytes.ensures.whole, inr (none, (w.1, w.2, refl))), w.3)))
     ]

@@ -37,7 +37,7 @@ pub returns-in_err-print_as : goal.returns-in_err-print_as
 returns-in_err-print_as g c =
     let p = err_from_is_err_and c.from_residual-in_err-print_as.result c.from_residual-in_err-print_as.ensures.1 in
     let w = rw c.entries.ensures at c.in_err-print_as.ensures in
-    rw (p.1, p.2) (inl (refl, w.0, record {
+    rw (p.1, p.2) (inl (refl, (w.0, record {
       runs = c.in_ok-map.map;
       has_map = c.in_ok-map.ensures.made;
       entries = c.in_ok-plan.plan.entries;
@@ -45,7 +45,7 @@ returns-in_err-print_as g c =
       reached = c.in_ok-plan.ensures.reached;
       certified = (_, c.in_ok-plan.ensures.certificate c.args.limit, c.in_ok-put_certificate.ensures.put);
       printed = w.1;
-    }, w.2))
+    }, w.2)))
 
 pub returns : goal.returns
 returns g c =

@@ -39,8 +39,8 @@ returns-in_err-write_whole g c =
     let made = rw c.as_slice.ensures.value at c.in_ok-map.ensures.made in
     let text = rw (c.entries.ensures ∙ ap (λ (p : Planned). p.entries) c.in_ok-plan.ensures) at c.in_ok-text.ensures in
     rw (p.1, p.2)
-    (inl (refl, _, _, (_, _, _, c.in_ok-bytes.ensures.whole, made, c.in_ok-packed.ensures.planned, c.in_ok-packed.ensures.reached, text, refl),
-    rw c.as_slice-3.ensures.value at c.in_err-write_whole.ensures))
+    (inl (refl, (_, _, (_, _, _, c.in_ok-bytes.ensures.whole, made, c.in_ok-packed.ensures.planned, c.in_ok-packed.ensures.reached, text, refl),
+    rw c.as_slice-3.ensures.value at c.in_err-write_whole.ensures)))
 
 pub returns : goal.returns
 returns g c =

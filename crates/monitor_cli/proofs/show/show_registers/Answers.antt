@@ -23,5 +23,5 @@ returns g c =
       | inr (inl memory) ↦ rw (trouble ∙ memory.1) (inr (inl refl, c.in-Err.ensures.untouched (ap (λ f. Err f) memory.0)))
       | inr (inr device) ↦
           let w = rw c.as_slice.ensures.value at c.in-Err.ensures.broken (ap (λ f. Err f) device.0) in
-          rw (trouble ∙ device.1) (inl (refl, w.2, w.0, (_, c.in_ok-listing.ensures.whole, w.1), w.3))
+          rw (trouble ∙ device.1) (inl (refl, (w.2, w.0, (_, c.in_ok-listing.ensures.whole, w.1), w.3)))
     ]
