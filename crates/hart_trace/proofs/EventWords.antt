@@ -164,7 +164,7 @@ address_lacks event kind text at mode_end size_end mode size fault needed m s la
     by_lack : Lacks event slots.Address number_of text size_end fault → access_of kind (words_in (placed_at text at)) ≡ None
     by_lack (inl none) = rw (m.1, s.1, none.0) refl
     by_lack (inr bad) = rw (m.1, s.1, bad.2) (bad_address kind (m.0).1 (s.0).1 (bad.0).1 mode size (words_in bad.1) m.2 (size_said kind (s.0).1 size (number_of
-    (s.0).1) refl s.2).0 bad.3)
+        (s.0).1) refl s.2).0 bad.3)
 
 -- a word too many
 pub exceeds : (event : EventKind) (text : List ℕ) (at : ℕ) (fault : Fault) → Exceeds event text at fault

@@ -45,7 +45,7 @@ pub(crate) fn with_notes<'a>(
     ensures { status_in result ≡ done.entry }
 {
     match done {
-        Ok(status) => Ok(noted(status, listing, &ArrayVec::new())),
+        Ok(status) => Ok(noted(status, listing, &CommentNote::new())),
         Err(trouble) => Err(trouble),
     }
 }

@@ -22,7 +22,7 @@ use pmp_match::{Deciders, Segments};
 use program_files::{REGISTER_BYTES, Trouble, bytes_in, map_in};
 use register_audit::{ListingNotes, ListingRules, Ruled, rules_in};
 use std::alloc::Global;
-use trace_answers::{Compared, Difference, compare_judged, explain_judged};
+use trace_answers::{CommentNote, Compared, Difference, compare_judged, explain_judged};
 
 /// Reports the first difference, where there is one, and answers the status.
 pub(crate) fn tell_first<W: Sink>(
@@ -190,7 +190,7 @@ fn judge_by_registers<'a, R: Source, L, W: LineSink<L>>(
         }
         Ruled::Refused(line) => {
             write_whole(out, line.as_slice())?;
-            Ok(noted(1, &notes, &ArrayVec::new()))
+            Ok(noted(1, &notes, &CommentNote::new()))
         }
     }
 }

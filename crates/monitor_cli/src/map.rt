@@ -10,7 +10,6 @@ ghost use Rattle.monitor_cli.specs.Commands.{Ends, IsMapped, IsTreeMapped, IsTre
 use crate::answered::{Answered, answer_status, noted, quiet};
 use crate::boards::board_trouble;
 use crate::listings::listing_trouble;
-use arrayvec::ArrayVec;
 use board_texts::{is_tree, map_text_of};
 use byte_streams::{Sink, Source, write_whole};
 use command_line::Options;
@@ -18,6 +17,7 @@ use pmp_match::Mode;
 use program_files::{REGISTER_BYTES, Trouble, bytes_in};
 use register_audit::{MapOfFault, print_map_of};
 use std::alloc::Global;
+use trace_answers::CommentNote;
 
 /// Whether a mode is machine mode.
 fn is_machine(mode: Mode) -> bool
@@ -69,7 +69,7 @@ pub(crate) fn do_map<'a, R: Source, W: Sink>(
         return quiet(print_map_of_tree(alloc, file, mode, bytes.as_slice(), out));
     }
     match print_map_of(alloc, mode, xlen, bytes.as_slice(), out) {
-        Ok(answer) => Ok(noted(answer_status(answer.is_map), &answer.notes, &ArrayVec::new())),
+        Ok(answer) => Ok(noted(answer_status(answer.is_map), &answer.notes, &CommentNote::new())),
         Err(MapOfFault::TooManyRanges) => Err(Trouble::TooManyRanges { file }),
         Err(MapOfFault::Listing(fault)) => Err(listing_trouble(file, fault)),
     }
