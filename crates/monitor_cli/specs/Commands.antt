@@ -1,6 +1,7 @@
--- How the commands end that print what they found of their inputs: each has a relation for what it read and decided, and one for
--- why it has no answer.
-use Rattle.std.specs.Prelude.{◌≡◌, ◌≢◌, ◌⊎◌, ℕ, ◌^◌, ◌++◌, Bool, true, false, List, None, Option, Some, Result, Ok, Err, length}
+-- How the commands end that print what they found of their inputs: each has a relation for what it
+-- read and decided, and one for why it has no answer.
+use Rattle.std.specs.Prelude.{◌≡◌, ◌≢◌, ◌⊎◌, ℕ, ◌^◌, ◌++◌, Bool, true, false, List, None, Option}
+use Rattle.std.specs.Prelude.{Some, Result, Ok, Err, length}
 use Rattle.std.specs.Borrow.{Bor}
 use Rattle.byte_streams.specs.Writings.{Breaks, IsUnwritten, TakesAll, Writing}
 use Rattle.pmp_encoding.specs.declared.limit.Limit.{Limit}
@@ -35,8 +36,9 @@ use Rattle.monitor_cli.specs.CertifiedPlan.{IsPlanned, IsUnplanned}
 use Rattle.monitor_cli.specs.Plan.{HasNoPlan}
 use Rattle.monitor_cli.specs.Verdicts.{IsVerdict}
 
--- how a command ends: a text of this kind is printed, with its answer; or the device fails, and a beginning of one is; or there
--- is a trouble, want of memory or one of this kind, and nothing is printed
+-- how a command ends: a text of this kind is printed, with its answer; or the device fails, and a
+-- beginning of one is; or there is a trouble, want of memory or one of this kind, and nothing is
+-- printed
 abbrev pub Ends : {W A : Type 0} → (List ℕ → A → Type 0) → (Trouble → Type 0) → Writing W
     → Result A Trouble → Type 0
 Ends IsText IsTrouble out (Ok answer) = (text : List ℕ) × IsText text answer × TakesAll text out
@@ -46,10 +48,12 @@ Ends {A = A} IsText IsTrouble out (Err trouble) =
 
 -- a listing of registers was read, and a line of it is not understood
 abbrev pub HasUnknown : {R : Type 0} → Bor (List ℕ) → Xlen → Reading R → Trouble → Type 0
-HasUnknown file xlen source trouble = (listing : List ℕ) × (n : ℕ) × HasBytes (2 ^ 20) source listing
+HasUnknown file xlen source trouble = (listing : List ℕ) × (n : ℕ)
+    × HasBytes (2 ^ 20) source listing
     × IsFirstUnknown xlen listing n × (trouble ≡ NotUnderstood file n)
 
--- `check`: the map is read, then the certificate, and the line and the status are those of the verdict
+-- `check`: the map is read, then the certificate, and the line and the status are those of the
+-- verdict
 abbrev pub IsChecked : {R : Type 0} → Reading R → Reading R → List ℕ → ℕ → Type 0
 IsChecked first second text status = (runs : List Run) × (bytes : List ℕ) × HasMap first runs
     × HasBytes (2 ^ 26) second bytes × IsVerdict (view_of_runs runs) bytes text status
@@ -60,8 +64,9 @@ abbrev pub IsUnchecked : {R : Type 0} → Bor (List ℕ) → Bor (List ℕ) → 
 IsUnchecked map cert first second trouble = (HasNoMap map first trouble × IsUnread second)
     ⊎ HasNoBytes (2 ^ 26) cert second trouble
 
--- `audit`: the map is read, then the listing of registers, and the answer is whether they mean the map for a mode. The text names
--- how many entries are enough, which the hart's address registers reach
+-- `audit`: the map is read, then the listing of registers, and the answer is whether they mean the
+-- map for a mode. The text names how many entries are enough, which the hart's address registers
+-- reach
 abbrev pub IsAudited : {R : Type 0} → Options → Reading R → Reading R → List ℕ → Bool → Type 0
 IsAudited options first second text means = (runs : List Run) × (listing : List ℕ)
     × (entries : List Entry) × HasMap first runs × HasBytes (2 ^ 20) second listing
@@ -78,14 +83,15 @@ IsUnaudited map registers options first second trouble =
     × IsUnplanned (view_of_runs runs) options.xlen None map trouble)
     ⊎ HasUnknown registers options.xlen second trouble))
 
--- the table of a map in a format: as JSON it is the object of its stretches, and otherwise it is for
--- people
+-- the table of a map in a format: as JSON it is the object of its stretches, and otherwise it is
+-- for people
 abbrev pub IsShown : TableFormat → View → List Entry → Limit → List ℕ → Type 0
 IsShown tables.Text view entries limit text = Unit {0}
 IsShown tables.Svg view entries limit text = Unit {0}
 IsShown tables.Json view entries limit text = IsJsonTable view entries limit text
 
--- `show`: the map is read, and the text is the table of its stretches, where the hart's address registers reach its entries
+-- `show`: the map is read, and the text is the table of its stretches, where the hart's address
+-- registers reach its entries
 abbrev pub IsMapShown : {R : Type 0} → Limit → Options → Reading R → List ℕ → Bool → Type 0
 IsMapShown limit options first text meant = (bytes : List ℕ) × (runs : List Run)
     × (entries : List Entry) × HasBytes (2 ^ 20) first bytes × Makes bytes runs
@@ -97,7 +103,8 @@ IsMapShown limit options first text meant = (bytes : List ℕ) × (runs : List R
 abbrev pub IsMapUnshown : {R : Type 0} → Bor (List ℕ) → Options → Reading R → Trouble → Type 0
 IsMapUnshown map options first trouble = HasNoPlan map options.xlen options.at_most first trouble
 
--- `show --registers`: the listing of registers is read, and the answer is whether they mean something
+-- `show --registers`: the listing of registers is read, and the answer is whether they mean
+-- something
 abbrev pub AreRegistersShown : {R : Type 0} → Options → Reading R → List ℕ → Bool → Type 0
 AreRegistersShown options first text meant = (listing : List ℕ) × HasBytes (2 ^ 20) first listing
     × IsRegisterTable options.xlen listing meant
@@ -115,16 +122,19 @@ ShowsAs true file limit options first out done =
 ShowsAs false file limit options first out done =
     Ends (IsMapShown limit options first) (IsMapUnshown file options first) out done
 
--- `map` of a device tree: the text is the map of its board. What machine mode may do is not asked of it
+-- `map` of a device tree: the text is the map of its board. What machine mode may do is not asked
+-- of it
 abbrev pub IsTreeMapped : Mode → List ℕ → List ℕ → ℕ → Type 0
 IsTreeMapped mode bytes text status = (mode ≢ Machine) × IsMapOfTree bytes text × (status ≡ 0)
 
--- `map` of a listing of registers: the text is the map that they mean for a mode, or why there is none
+-- `map` of a listing of registers: the text is the map that they mean for a mode, or why there is
+-- none
 abbrev pub AreRegistersMapped : Options → List ℕ → List ℕ → ℕ → Type 0
 AreRegistersMapped options bytes text status = (is_map : Bool)
     × IsMapFile options.mode options.xlen bytes text is_map × (status ≡ answer_status is_map)
 
--- `map`: a file is read, which is a device tree where its bytes begin as one does, and a listing of registers otherwise
+-- `map`: a file is read, which is a device tree where its bytes begin as one does, and a listing of
+-- registers otherwise
 abbrev pub IsMapped : {R : Type 0} → Options → Reading R → List ℕ → ℕ → Type 0
 IsMapped options first text status = (bytes : List ℕ) × HasBytes (2 ^ 20) first bytes
     × (((is_tree bytes ≡ true) × IsTreeMapped options.mode bytes text status)
@@ -145,10 +155,12 @@ abbrev pub IsUnmapped : {R : Type 0} → Bor (List ℕ) → Options → Reading 
 IsUnmapped file options first trouble = HasNoListing file options.xlen first trouble
     ⊎ ((bytes : List ℕ) × HasBytes (2 ^ 20) first bytes
     × (IsTreeUnmapped file options.mode bytes trouble
-    ⊎ ((leaves : Listing) × (listed options.xlen bytes ≡ Some leaves) × AreTooFine options.mode leaves
+    ⊎ ((leaves : Listing) × (listed options.xlen bytes ≡ Some leaves)
+    × AreTooFine options.mode leaves
     × (trouble ≡ TooManyRanges file))))
 
--- `platform`: the device tree of a board is read, and the text is its platform, with the monitor where it is given
+-- `platform`: the device tree of a board is read, and the text is its platform, with the monitor
+-- where it is given
 abbrev pub IsPlatformTold : {R : Type 0} → Option (ℕ × ℕ) → Reading R → List ℕ → ℕ → Type 0
 IsPlatformTold monitor first text status = (bytes : List ℕ) × HasBytes (2 ^ 20) first bytes
     × IsPlatformOfTree monitor bytes text × (status ≡ 0)

@@ -7,4 +7,5 @@ use Rattle.trace_answers.specs.Comparisons.{LineAnswer}
 -- text and 1 otherwise
 abbrev pub IsTold : Option LineAnswer → Option (List ℕ) → Option (List ℕ) → ℕ → Type 0
 IsTold None before after status = (after ≡ before) × (status ≡ 0)
-IsTold (Some found) before after status = ((text : List ℕ) × Appends before after text) × (status ≡ 1)
+IsTold (Some found) before after status = ((text : List ℕ) × Appends before after text)
+    × (status ≡ 1)

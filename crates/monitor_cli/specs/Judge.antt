@@ -76,8 +76,8 @@ JudgesTraceAs answers.Explained outcomes trace second out done =
 JudgesTraceAs answers.Compared outcomes trace second out done =
     JudgesExpecting (answered_by outcomes) trace second out done
 
--- `judge`: the map is read and its entries are loaded, and then the trace is judged by them; or there is no plan of it that fits
--- the hart
+-- `judge`: the map is read and its entries are loaded, and then the trace is judged by them; or
+-- there is no plan of it that fits the hart
 pub data JudgesByMap {R W : Type 0} (map trace : Bor (List ℕ)) (limit : Limit) (options : Options)
     (first second : Reading R) (out : Writing W) : Result ℕ Trouble → Type 0 where
   judged :

@@ -8,7 +8,7 @@ use Rattle.input_files.specs.Traces.{is_trace}
 use Rattle.input_files.specs.Maps.{IsVerdictOfLines}
 use Rattle.pmp_encoding.specs.declared.xlen.Xlen.{Xlen}
 use Rattle.platforms.specs.Platform.{PlatformLayout}
-use Rattle.input_files.specs.Document.{IsPlatformFile}
+use Rattle.input_files.specs.Platforms.{IsPlatformVerdict}
 use Rattle.register_audit.specs.declared.listing.Listing.{Listing}
 use Rattle.register_audit.specs.RegisterListings.{IsFirstUnknown, listed}
 use Rattle.command_line.specs.declared.options.LintKind.{LintKind}
@@ -24,8 +24,7 @@ names_platform name = ends_with (λ a b. a == b) name (codes ".toml")
 
 -- whether bytes are a platform, where the first says that they should be one, and otherwise a map
 abbrev pub IsFound : Bool → List ℕ → Bool → Type 0
-IsFound true bytes true = (platform : PlatformLayout) × IsPlatformFile bytes platform
-IsFound true bytes false = Unit {0}
+IsFound true bytes is = IsPlatformVerdict bytes is
 IsFound false bytes is = IsVerdictOfLines bytes is
 
 -- whether they are a listing of registers
@@ -48,7 +47,8 @@ HasNoHarts (Some file) source trouble = HasNoPlatform file source trouble
 abbrev pub IsOfDevices : Trouble → Type 0
 IsOfDevices trouble = (trouble ≡ Output) ⊎ (trouble ≡ Memory)
 
--- a file is found to be what it should be or not; or there is a trouble: memory, standard output, or one of this kind
+-- a file is found to be what it should be or not; or there is a trouble: memory, standard output,
+-- or one of this kind
 abbrev pub Finds : (Bool → Type 0) → (Trouble → Type 0) → Result Bool Trouble → Type 0
 Finds IsIt IsTrouble (Ok is) = IsIt is
 Finds IsIt IsTrouble (Err trouble) = IsOfDevices trouble ⊎ IsTrouble trouble
@@ -57,7 +57,8 @@ Finds IsIt IsTrouble (Err trouble) = IsOfDevices trouble ⊎ IsTrouble trouble
 abbrev pub Lints : {R : Type 0} → LintKind → Xlen → Bor (List ℕ) → Option (Bor (List ℕ)) → Reading R
     → Reading R → Result Bool Trouble → Type 0
 Lints kinds.ByName xlen file platform first second done =
-    Finds (λ is. (bytes : List ℕ) × HasBytes (2 ^ 20) first bytes × IsFound (names_platform file.now) bytes is)
+    Finds (λ is. (bytes : List ℕ) × HasBytes (2 ^ 20) first bytes
+    × IsFound (names_platform file.now) bytes is)
     (HasNoBytes (2 ^ 20) file first) done
 Lints kinds.Registers xlen file platform first second done =
     Finds (λ is. (bytes : List ℕ) × HasBytes (2 ^ 20) first bytes × IsListingFound xlen bytes is)

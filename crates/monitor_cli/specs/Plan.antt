@@ -1,5 +1,6 @@
 -- What `plan` comes to on the files and streams that are lent for it.
-use Rattle.std.specs.Prelude.{◌≡◌, ◌⊎◌, ℕ, ◌-◌, min, List, Option, Some, None, Result, Ok, Err, option_map}
+use Rattle.std.specs.Prelude.{◌≡◌, ◌⊎◌, ℕ, ◌-◌, min, List, Option, Some, None, Result, Ok, Err}
+use Rattle.std.specs.Prelude.{option_map}
 use Rattle.std.specs.Borrow.{Bor}
 use Rattle.byte_streams.specs.Writings.{Breaks, IsUnwritten, TakesAll, Writing}
 use Rattle.pmp_encoding.specs.declared.limit.Limit.{Limit}
@@ -50,7 +51,8 @@ IsPrinted options limit map entries text =
 abbrev pub most_of : Limit → Options → Option ℕ
 most_of limit options = most_entries limit options.first options.at_most options.format
 
--- what `plan` is made of: the map was read, its certificate is written where one is asked for, and the text is that of the plan
+-- what `plan` is made of: the map was read, its certificate is written where one is asked for, and
+-- the text is that of the plan
 pub record IsPlanMade {R C : Type 0} (map : Bor (List ℕ)) (file : Option (Bor (List ℕ)))
     (limit : Limit) (options : Options) (source : Reading R) (cert : Placing C) (text : List ℕ) :
     Type 0 where
@@ -79,8 +81,8 @@ pub record BreaksCertificate {R C : Type 0} (file : Option (Bor (List ℕ))) (li
   pub certificate : IsCertificateOf (view_of_runs runs) limit entries bytes
   pub broken : IsNotPut bytes file cert trouble
 
--- `plan`: the text is printed, or a beginning of it where the device fails; or there is no plan, and nothing is written; or the
--- certificate is not put in its place, and nothing is printed
+-- `plan`: the text is printed, or a beginning of it where the device fails; or there is no plan,
+-- and nothing is written; or the certificate is not put in its place, and nothing is printed
 abbrev pub Plans : {R C W : Type 0} → Bor (List ℕ) → Option (Bor (List ℕ)) → Limit → Options
     → Reading R → Placing C → Writing W → Result ℕ Trouble → Type 0
 Plans map file limit options source cert out (Ok status) = (text : List ℕ) × (status ≡ 0)

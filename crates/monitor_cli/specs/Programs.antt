@@ -11,7 +11,8 @@ use Rattle.program_files.specs.Troubles.{status_of}
 use Rattle.monitor_cli.specs.Answered.{judged}
 use Rattle.monitor_cli.specs.CertifiedPlan.{Placing, WritesNothing}
 use Rattle.monitor_cli.specs.Commands.{Ends, IsAudited, IsChecked, IsMapped, IsPlatformTold}
-use Rattle.monitor_cli.specs.Commands.{IsPlatformUntold, IsUnaudited, IsUnchecked, IsUnmapped, ShowsAs}
+use Rattle.monitor_cli.specs.Commands.{IsPlatformUntold, IsUnaudited, IsUnchecked, IsUnmapped}
+use Rattle.monitor_cli.specs.Commands.{ShowsAs}
 use Rattle.monitor_cli.specs.Judge.{JudgesBy}
 use Rattle.monitor_cli.specs.Lints.{Lints}
 use Rattle.monitor_cli.specs.Measure.{IsDigested, IsUndigested}
@@ -51,9 +52,9 @@ Comes (tasks.Platform board monitor) options first second cert out done =
     Ends (IsPlatformTold monitor first) (IsPlatformUntold board monitor first) out done
     × IsUnread second × WritesNothing cert
 
--- a task was done or came to trouble. The status is 0 where it was done, 1 where the checker, `audit` or `lint` refused, or
--- registers have no table, mean no map or judge nothing, 2 for bad input, 3 for a device, 4 for memory, and it does not depend on
--- standard error
+-- a task was done or came to trouble. The status is 0 where it was done, 1 where the checker,
+-- `audit` or `lint` refused, or registers have no table, mean no map or judge nothing, 2 for bad
+-- input, 3 for a device, 4 for memory, and it does not depend on standard error
 pub record Performs {R C W : Type 0} (request : Request) (first second : Reading R)
     (cert : Placing C) (out : Writing W) (status : ℕ) : Type 0 where
   pub done : Result ℕ Trouble

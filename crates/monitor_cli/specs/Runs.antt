@@ -62,7 +62,8 @@ pub data RunsTrace {R W : Type 0} (does : Meaning Machine) (booted : Machine) (t
 -- a trace happens so and a comment after each answer says what happened: after the report come
 -- the measurements, and last a summary
 pub data RunsExplaining {R W : Type 0} (does : Meaning Machine) (booted : Machine)
-    (trace : Bor (List ℕ)) (measure : Bool) (second : Reading R) (out : Writing W) : Result ℕ Trouble
+    (trace : Bor (List ℕ)) (measure : Bool) (second : Reading R)
+    (out : Writing W) : Result ℕ Trouble
     → Type 0 where
   explained :
       (ended : Machine) (report measured : Option (List ℕ)) (summary : List ℕ)
@@ -94,7 +95,8 @@ pub data RunsExplaining {R W : Type 0} (does : Meaning Machine) (booted : Machin
 -- differs, the first that does is reported after the report and the measurements, and the status is
 -- 1
 pub data RunsExpecting {R W : Type 0} (does : Meaning Machine) (booted : Machine)
-    (trace : Bor (List ℕ)) (measure : Bool) (second : Reading R) (out : Writing W) : Result ℕ Trouble
+    (trace : Bor (List ℕ)) (measure : Bool) (second : Reading R)
+    (out : Writing W) : Result ℕ Trouble
     → Type 0 where
   compared :
       (ended : Machine) (report measured : Option (List ℕ)) (difference : Option LineAnswer)

@@ -71,7 +71,8 @@ fn judge_explaining<'a, J: AccessJudge, D: Deciders, R: Source, L, W: LineSink<L
     second: &mut R,
     out: &mut W,
 ) -> Result<u8, Trouble<'a>>
-    ensures { JudgesTrace (explaining (answered_by (J.outcomes by.now))) trace.entry (reading R.remaining R.failures second.old second.new)
+    ensures { JudgesTrace (explaining (answered_by (J.outcomes by.now))) trace.entry
+        (reading R.remaining R.failures second.old second.new)
         (writing W.contents W.failures W.stalls out.old out.new) result }
 {
     explain_judged::<J, D, R, L, W>(by, deciders, second, out).map_err(|fault| Trouble::of_run(

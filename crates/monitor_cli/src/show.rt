@@ -47,7 +47,8 @@ fn shown_as(
     limit: Limit,
 ) -> Result<Vec<u8>, Memory>
     requires { length bytes.now < 2 ^ 64 - 1 }
-    ensures { IfOk result (λ text. IsShown options.now.table (view_of_runs map.now) entries.now limit
+    ensures { IfOk result (λ text.
+        IsShown options.now.table (view_of_runs map.now) entries.now limit
         text.items) }
 {
     match options.table {
