@@ -1,5 +1,5 @@
 -- The faults of a subcommand with values that names no task.
-use Rattle.std.specs.Prelude.{List, [], ◌∷◌, ℕ, ◌<◌, Option, Some, None, ◌++◌, ◌≡◌, ◌≢◌, ◌⊎◌, codes}
+use Rattle.std.specs.Prelude.{List, [], ◌∷◌, ℕ, ◌<◌, Option, Some, None, ◌≡◌, ◌≢◌, ◌⊎◌, codes}
 use Rattle.std.specs.Prelude.{true}
 use Rattle.pmp_encoding.specs.declared.limit.Limit.{Limit}
 use Rattle.pmp_encoding.specs.Limits.{limit_number}

@@ -115,23 +115,41 @@ impl<'a> Fault<'a> {
 impl fmt::Display for Fault<'_> {
     fn fmt<W: fmt::Write>(&self, f: &mut fmt::Formatter<W>) -> fmt::Result {
         if let Some((option, word, values)) = self.value() {
-            return write!(f, "invalid value '{word}' for '--{option}'\n  [possible values: {values}]");
+            return write!(
+                f,
+                "invalid value '{word}' for '--{option}'\n  [possible values: {values}]"
+            );
         }
         match *self {
             Fault::AtMost(word) => {
-                write!(f, "invalid value '{word}' for '--at-most <N>': no number below 2^64")
+                write!(
+                    f,
+                    "invalid value '{word}' for '--at-most <N>': no number below 2^64"
+                )
             }
             Fault::Name(word) => {
-                write!(f, "invalid value '{word}' for '--name <NAME>': no C identifier of at most 32 bytes")
+                write!(
+                    f,
+                    "invalid value '{word}' for '--name <NAME>': no C identifier of at most 32 bytes"
+                )
             }
             Fault::First(word) => {
-                write!(f, "invalid value '{word}' for '--first <K>': no number below that of --entries")
+                write!(
+                    f,
+                    "invalid value '{word}' for '--first <K>': no number below that of --entries"
+                )
             }
             Fault::Number { option, word } => {
-                write!(f, "invalid value '{word}' for '--{option} <N>': no number below 2^64")
+                write!(
+                    f,
+                    "invalid value '{word}' for '--{option} <N>': no number below 2^64"
+                )
             }
             Fault::Monitor(word) => {
-                write!(f, "invalid value '{word}' for '--monitor <BASE> <SIZE>': no number below 2^64")
+                write!(
+                    f,
+                    "invalid value '{word}' for '--monitor <BASE> <SIZE>': no number below 2^64"
+                )
             }
             Fault::TakesPlace(map) => {
                 write!(f, "the certificate would take the place of the map '{map}'")
@@ -158,11 +176,13 @@ impl Fault<'_> {
             Fault::NoCosts => {
                 "'--costs' is for the text of a map, and cannot be used with '--registers', '--format svg' or '--format json'"
             }
-            Fault::NoMachine => "'--mode m' is for registers, and cannot be used without '--registers'",
+            Fault::NoMachine =>
+                "'--mode m' is for registers, and cannot be used without '--registers'",
             Fault::Pages => {
                 "an enclave has 1 to 1024 pages of text and data, 1 of text at least, and at most 256 shared"
             }
-            Fault::EntryOffset => "'--entry <N>' has to be even and less than the bytes of the text",
+            Fault::EntryOffset =>
+                "'--entry <N>' has to be even and less than the bytes of the text",
             Fault::MonitorPages => {
                 "'--monitor <BASE> <SIZE>' has to be whole pages of 4096 bytes, one at least, and none past 2^56"
             }

@@ -7,8 +7,8 @@ ghost use Rattle.command_line.specs.Faults.Demand.{has, names_hints};
 ghost use Rattle.command_line.specs.Hints.{are_told, hints_word};
 ghost use Rattle.command_line.specs.Given.{flags_of, values_of};
 
-use crate::values::value_in;
 use crate::fault::Fault;
+use crate::values::value_in;
 use clap::ArgMatches;
 
 /// When hints are given.

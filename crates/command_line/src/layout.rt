@@ -6,8 +6,8 @@ ghost use Rattle.command_line.specs.Faults.Demand.{has, numbers};
 ghost use Rattle.command_line.specs.Layouts.{at_zero, IsEnclave, IsLaidOut, IsNumber};
 ghost use Rattle.command_line.specs.Given.{flags_of, values_of};
 
-use crate::values::value_in;
 use crate::fault::Fault;
+use crate::values::value_in;
 use clap::ArgMatches;
 use measurement::{Create, Layout};
 use text_lines::number;

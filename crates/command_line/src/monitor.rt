@@ -6,7 +6,7 @@ ghost use Rattle.command_line.specs.Monitors.{AreWholePages, IsMonitor, IsOfPage
 ghost use Rattle.command_line.specs.Given.{flags_of, values_of};
 
 use crate::fault::Fault;
-use crate::found::{word_in};
+use crate::found::word_in;
 use clap::ArgMatches;
 use pmp_encoding::PAGE_SIZE;
 use text_lines::number;

@@ -9,11 +9,11 @@ ghost use Rattle.command_line.specs.CommandLine.{AreNone, IsFaultIn, IsRequest};
 ghost use Rattle.command_line.specs.Given.{flags_of, values_of};
 
 use crate::fault::Fault;
-use clap::ArgMatches;
 use crate::hints::hints_in;
 use crate::options::Options;
 use crate::task::{Subcommand, Task};
 use crate::tasks::task_in;
+use clap::ArgMatches;
 
 /// A task, and how it is done.
 #[derive(Clone, Copy)]

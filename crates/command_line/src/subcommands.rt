@@ -6,9 +6,9 @@ ghost use Rattle.command_line.specs.CommandLine.{app_by, bare_app, program_app, 
 
 use crate::arguments::Argument;
 use crate::table::{Row, row_of};
+use crate::task::{SUBCOMMANDS, Subcommand};
 use crate::texts::{ABOUT, EXAMPLE, VERSION};
 use clap::Command;
-use crate::task::{SUBCOMMANDS, Subcommand};
 use std::alloc::{AllocError, Global};
 
 /// A command without arguments, with its texts for help.

@@ -7,18 +7,18 @@ ghost use Rattle.command_line.specs.Faults.Demand.{of_trace, one_answer, one_kin
 ghost use Rattle.command_line.specs.Tasks.{input_word, HasAnswers, HasKind, HasValues, IsOfMap, IsOfRegisters, IsOfText, IsRequestOf};
 ghost use Rattle.command_line.specs.Given.{flags_of, values_of};
 
-use crate::values::{
-    at_most_in, first_in, format_in, limit_in, mode_in, name_in, table_format_in, value_in,
-    width_in,
-};
 use crate::fault::Fault;
-use crate::found::{word_in, is_given};
-use clap::ArgMatches;
+use crate::found::{is_given, word_in};
 use crate::layout::layout_in;
 use crate::monitor::monitor_in;
 use crate::options::{Answers, LintKind, Options, TableFormat};
 use crate::request::Request;
 use crate::task::{Subcommand, Task};
+use crate::values::{
+    at_most_in, first_in, format_in, limit_in, mode_in, name_in, table_format_in, value_in,
+    width_in,
+};
+use clap::ArgMatches;
 use pmp_match::Mode;
 
 /// The word for standard input.

@@ -15,9 +15,9 @@ ghost use Rattle.command_line.specs.Tasks.{limit_word, format_word, mode_word, t
 ghost use Rattle.command_line.specs.Given.{flags_of, values_of};
 
 use crate::fault::Fault;
-use crate::found::{word_in};
-use clap::ArgMatches;
+use crate::found::word_in;
 use crate::options::{Format, TableFormat};
+use clap::ArgMatches;
 use pmp_encoding::{Limit, Xlen};
 use pmp_match::Mode;
 use text_lines::number;

@@ -3,9 +3,9 @@
 use crate::machines::example_machine;
 use byte_streams::Direct;
 use byte_streams::fakes::{PieceSink, PieceSource};
-use trace_answers::explain_run;
 use std::alloc::Global;
 use std::process::Abort;
+use trace_answers::explain_run;
 
 /// Of a trace on a new machine the last answer is this one.
 fn ends_with(rt: &impl Abort, alloc: Global, trace: &[u8], last: &[u8]) {

@@ -3,10 +3,10 @@
 use crate::machines::example_machine;
 use byte_streams::Direct;
 use byte_streams::fakes::{PieceSink, PieceSource};
-use trace_answers::{Tally, asked_of, explain_run, print_summary};
 use hart_sim::Machine;
 use std::alloc::Global;
 use std::process::Abort;
+use trace_answers::{Tally, asked_of, explain_run, print_summary};
 
 /// What was counted on a machine has this summary.
 fn is_summed_up(rt: &impl Abort, tally: &Tally, machine: &Machine, summary: &[u8]) {

@@ -1,5 +1,5 @@
 -- How runs over lines and plans end.
-use Rattle.std.proofs.Common.{ℕ, ◌-◌, ◌≡◌, ◌≤◌, ◌⊎◌, inl, inr, List, Option, Some, None, Result, Ok, Err, IfErr, arith, refl}
+use Rattle.std.proofs.Common.{ℕ, ◌-◌, ◌≡◌, ◌≤◌, List, Option, Some, None, Result, Ok, Err, arith, refl}
 use Rattle.std.specs.Result.{MatchResult}
 use Rattle.text_lines.specs.declared.fault.RunFault.{RunFault}
 use Rattle.text_lines.specs.declared.fault.RunFault.TheVariants as runs

@@ -1,5 +1,5 @@
 -- How `map` of a device tree ends.
-use Rattle.std.proofs.Common.{◌≡◌, ◌^◌, ℕ, List, Bool, true, Result, Ok, Err, inl, inr}
+use Rattle.std.proofs.Common.{◌≡◌, ◌^◌, ℕ, List, true, Result, Ok, Err, inl, inr}
 use Rattle.std.specs.Borrow.{Bor}
 use Rattle.board_texts.specs.Boards.{is_tree}
 use Rattle.byte_streams.specs.Writings.{Writing}

@@ -1,5 +1,5 @@
 -- The certificate of a plan of a view.
-use Rattle.std.proofs.Common.{◌≡◌, ℕ, ◌*◌, ◌<◌, ◌≤◌, length, All, None, Some, arith, refl}
+use Rattle.std.proofs.Common.{◌≡◌, ◌*◌, ◌≤◌, length, All, arith, refl}
 use Rattle.pmp_encoding.specs.declared.limit.Limit.{Limit}
 use Rattle.pmp_encoding.specs.declared.perm.Perm.TheVariants.{NoAccess}
 use Rattle.pmp_match.specs.Bounds.{IsSoundBound, bound_of}

@@ -14,8 +14,6 @@ use Rattle.pmp_encoding.specs.Banks.{HasList, IsBankOf}
 use Rattle.pmp_encoding.specs.Limits.{limit_number}
 use Rattle.pmp_match.specs.Meaning.{View, IsFewest}
 use Rattle.pmp_match.specs.Bounds.{BoundTree}
-use Rattle.permission_map.specs.declared.runs.Run.{Run}
-use Rattle.permission_map.specs.Runs.{view_of_runs}
 use Rattle.prefix_tree.specs.TreeOf.{tree_of}
 use Rattle.entry_planner.specs.Choice.{AreChosen}
 use Rattle.entry_planner.specs.Order.{AreInOrder}

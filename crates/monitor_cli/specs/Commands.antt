@@ -1,7 +1,7 @@
 -- How the commands end that print what they found of their inputs: each has a relation for what it
 -- read and decided, and one for why it has no answer.
-use Rattle.std.specs.Prelude.{◌≡◌, ◌≢◌, ◌⊎◌, ℕ, ◌^◌, ◌++◌, Bool, true, false, List, None, Option}
-use Rattle.std.specs.Prelude.{Some, Result, Ok, Err, length}
+use Rattle.std.specs.Prelude.{◌≡◌, ◌≢◌, ◌⊎◌, ℕ, ◌^◌, Bool, true, false, List, None, Option}
+use Rattle.std.specs.Prelude.{Some, Result, Ok, Err}
 use Rattle.std.specs.Borrow.{Bor}
 use Rattle.byte_streams.specs.Writings.{Breaks, IsUnwritten, TakesAll, Writing}
 use Rattle.pmp_encoding.specs.declared.limit.Limit.{Limit}

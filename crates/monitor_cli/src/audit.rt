@@ -37,7 +37,16 @@ pub(crate) fn do_audit<'a, R: Source, W: Sink>(
     let plan = plan_within(alloc, file, &map, options.xlen, None)?;
     let fewest = plan.entries().len() as u64;
     let (mode, xlen, all) = (options.mode, options.xlen, options.all);
-    match audit(alloc, &map, fewest, mode, xlen, listing.as_slice(), all, out) {
+    match audit(
+        alloc,
+        &map,
+        fewest,
+        mode,
+        xlen,
+        listing.as_slice(),
+        all,
+        out,
+    ) {
         Ok(means) => Ok(means),
         Err(fault) => Err(listing_trouble(registers, fault)),
     }

@@ -22,14 +22,18 @@ pub(crate) fn board_trouble<'a>(file: &'a str, fault: &BoardTextFault) -> Troubl
 {
     match fault {
         BoardTextFault::Memory
-        | BoardTextFault::Tree(TreeFault {
-            reason: TreeReason::Memory,
-            ..
-        })
-        | BoardTextFault::Ranges(BoardFault {
-            reason: BoardReason::BadRows(RowFault::Memory),
-            ..
-        }) => Trouble::Memory,
+        | BoardTextFault::Tree(
+            TreeFault {
+                reason: TreeReason::Memory,
+                ..
+            },
+        )
+        | BoardTextFault::Ranges(
+            BoardFault {
+                reason: BoardReason::BadRows(RowFault::Memory),
+                ..
+            },
+        ) => Trouble::Memory,
         _ => Trouble::NoBoardText {
             file,
             said: fault_line(fault),

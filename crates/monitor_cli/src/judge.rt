@@ -120,9 +120,7 @@ fn judge_by<'a, J: AccessJudge, D: Deciders, R: Source, L, W: LineSink<L>>(
         (writing W.contents W.failures W.stalls out.old out.new) (status_in result) }
 {
     match answers {
-        Answers::Plain => {
-            with_notes(notes, judge_plainly::<J, R, L, W>(by, trace, second, out))
-        }
+        Answers::Plain => { with_notes(notes, judge_plainly::<J, R, L, W>(by, trace, second, out)) }
         Answers::Explained => with_notes(
             notes,
             judge_explaining::<J, D, R, L, W>(by, deciders, trace, second, out),
@@ -161,7 +159,15 @@ fn judge_by_map<'a, R: Source, L, W: LineSink<L>>(
     let bank = Bank::of_packed(plan.entries(), limit);
     let segments = Segments::of(&bank);
     let notes = ArrayVec::new();
-    judge_by::<_, _, R, L, W>(&segments, &bank, options.answers, &notes, trace, second, out)
+    judge_by::<_, _, R, L, W>(
+        &segments,
+        &bank,
+        options.answers,
+        &notes,
+        trace,
+        second,
+        out,
+    )
 }
 
 /// Takes registers as they are and judges a trace by them. The status is 1 where they judge nothing.

@@ -12,9 +12,7 @@ use command_line::{LintKind, Options};
 use input_files::{LintFault, Taker, lint_platform, lint_trace};
 use itoa::Buffer;
 use pmp_encoding::Xlen;
-use program_files::{
-    MAP_BYTES, REGISTER_BYTES, Trouble, bytes_in, shown, text_of, write_named,
-};
+use program_files::{MAP_BYTES, REGISTER_BYTES, Trouble, bytes_in, shown, text_of, write_named};
 use register_audit::{is_listing, listing_of};
 use std::alloc::Global;
 

@@ -69,7 +69,11 @@ pub(crate) fn do_map<'a, R: Source, W: Sink>(
         return quiet(print_map_of_tree(alloc, file, mode, bytes.as_slice(), out));
     }
     match print_map_of(alloc, mode, xlen, bytes.as_slice(), out) {
-        Ok(answer) => Ok(noted(answer_status(answer.is_map), &answer.notes, &CommentNote::new())),
+        Ok(answer) => Ok(noted(
+            answer_status(answer.is_map),
+            &answer.notes,
+            &CommentNote::new(),
+        )),
         Err(MapOfFault::TooManyRanges) => Err(Trouble::TooManyRanges { file }),
         Err(MapOfFault::Listing(fault)) => Err(listing_trouble(file, fault)),
     }

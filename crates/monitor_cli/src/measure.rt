@@ -8,9 +8,9 @@ ghost use Rattle.monitor_cli.specs.Commands.{Ends};
 ghost use Rattle.monitor_cli.specs.Measure.{digest_text, enclave_digest, page_of, word_text, IsDigested, IsUndigested};
 
 use byte_streams::{Sink, Source, write_whole};
-use program_files::{Trouble, bytes_in};
 use measurement::{Layout, Measure, word};
 use printed_lines::digest_text;
+use program_files::{Trouble, bytes_in};
 use std::alloc::{AllocError, Global};
 use text_lines::{Line, push_decimal, push_hex, push_text};
 

@@ -16,11 +16,11 @@ ghost use Rattle.monitor_cli.specs.Measurements.{AreMeasures, IsDigest, IsMeasur
 
 use byte_streams::{DeviceFault, Sink, write_whole};
 use byteorder::{ByteOrder, LittleEndian};
-use program_files::Trouble;
 use enclave_table::Table;
 use hart_sim::Machine;
 use platforms::{BootFault, Platform};
 use printed_lines::measure_line;
+use program_files::Trouble;
 use std::alloc::Global;
 
 /// The most enclaves that are live, and their largest id.

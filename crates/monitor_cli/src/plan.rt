@@ -18,7 +18,12 @@ use register_formats::{print_asm, print_c, print_json};
 use std::alloc::Global;
 
 /// How many entries a plan may have, where there is a bound: C and assembly are printed of a whole bank alone.
-pub(crate) fn most_entries(limit: Limit, first: u8, at_most: Option<u64>, format: Format) -> Option<u64>
+pub(crate) fn most_entries(
+    limit: Limit,
+    first: u8,
+    at_most: Option<u64>,
+    format: Format,
+) -> Option<u64>
     ensures { result ≡ most_entries limit first at_most format }
 {
     match format {

@@ -27,7 +27,11 @@ fn text_trouble<'a>(file: &'a str, fault: TextFault) -> Trouble<'a>
 pub const PLATFORM_BYTES: usize = 1 << 20;
 
 /// The platform that the bytes of a file are.
-pub(crate) fn platform_in<'a>(alloc: Global, file: &'a str, bytes: &[u8]) -> Result<Platform, Trouble<'a>>
+pub(crate) fn platform_in<'a>(
+    alloc: Global,
+    file: &'a str,
+    bytes: &[u8],
+) -> Result<Platform, Trouble<'a>>
     ensures ok { IfOk result (IsPlatformFile bytes.now) }
     ensures refused { IfErr result (λ trouble.
         (trouble ≡ Trouble.Memory)

@@ -71,9 +71,7 @@ fn run_task<'a, R: Source, M, C: CertificateSink<M>, L, W: LineSink<L>>(
             map,
             cert: file,
             limit,
-        } => {
-            quiet(do_plan::<R, M, C, W>(alloc, map, file, limit, options, first, cert, out))
-        }
+        } => { quiet(do_plan::<R, M, C, W>(alloc, map, file, limit, options, first, cert, out)) }
         Task::Judge { map, trace, limit } => {
             do_judge::<R, L, W>(alloc, map, trace, limit, options, first, second, out)
         }

@@ -9,15 +9,15 @@ ghost use Rattle.trace_answers.specs.Explained.{explaining};
 ghost use Rattle.monitor_cli.specs.Answered.{status_in};
 ghost use Rattle.monitor_cli.specs.Runs.{Runs, RunsExpecting, RunsExplaining, RunsTrace, RunsTraceAs};
 
-use crate::measurements::{boot_machine, measure_where};
-use byte_streams::{LineSink, Source};
-use program_files::Trouble;
 use crate::answered::{Answered, noted, quiet};
 use crate::judge::tell_first;
+use crate::measurements::{boot_machine, measure_where};
 use crate::platform_inputs::read_platform;
 use arrayvec::ArrayVec;
-use hart_sim::{Machine, run_lines};
+use byte_streams::{LineSink, Source};
 use command_line::Answers;
+use hart_sim::{Machine, run_lines};
+use program_files::Trouble;
 use std::alloc::Global;
 use trace_answers::{Compared, Ran, compare_lines, explain_run, print_summary};
 

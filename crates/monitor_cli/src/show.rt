@@ -76,7 +76,14 @@ fn show_map<'a, R: Source, W: Sink>(
     let map = map_by(alloc, file, bytes.as_slice())?;
     let packed = plan_within(alloc, file, &map, options.xlen, options.at_most)?;
     let plan = packed.unpacked(alloc)?;
-    let text = shown_as(alloc, options, bytes.as_slice(), &map, plan.entries(), limit)?;
+    let text = shown_as(
+        alloc,
+        options,
+        bytes.as_slice(),
+        &map,
+        plan.entries(),
+        limit,
+    )?;
     write_whole(out, text.as_slice())?;
     Ok(true)
 }

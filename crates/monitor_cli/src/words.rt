@@ -6,8 +6,7 @@ ghost use Rattle.command_line.specs.CommandLine.{program_app, Refuses};
 ghost use Rattle.monitor_cli.specs.Words.{IsTask};
 
 use clap::Error;
-use command_line::request_of_words;
-use command_line::Task;
+use command_line::{Task, request_of_words};
 use std::alloc::Global;
 
 /// The task that the words of a command line name; the first word is the program's own. Nothing is said of its options:

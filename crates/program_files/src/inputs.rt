@@ -7,10 +7,10 @@ ghost use Rattle.map_text.specs.declared.map_file.MapFileFault.{MapFileFault};
 ghost use Rattle.program_files.specs.Troubles.{map_trouble};
 
 use crate::trouble::Trouble;
+use crate::whole::read_whole;
 use byte_streams::Source;
 use map_text::{MAP_BYTES, map_of};
 use permission_map::PermissionMap;
-use crate::whole::read_whole;
 use std::alloc::Global;
 
 /// How many bytes a listing of registers may have.

@@ -4,8 +4,7 @@ ghost use Rattle.std.specs.Prelude.{◌≡◌, ◌≤◌, ◌++◌, codes, decim
 ghost use Rattle.trace_answers.specs.Explained.{explained};
 
 use arrayvec::{ArrayString, ArrayVec};
-use text_lines::{append, unended};
-use text_lines::{Line, push_decimal, push_text};
+use text_lines::{Line, append, push_decimal, push_text, unended};
 
 /// The words of a comment. A part that does not fit is left out.
 pub type Comment = ArrayString<256>;

@@ -5,9 +5,8 @@
 
 use crate::comments::{is_numbered, is_spoken, remark_of, says_answer};
 use arrayvec::{ArrayString, ArrayVec};
-use text_lines::len_before;
 use std::fmt::Write;
-use text_lines::{Words, is_name};
+use text_lines::{Words, is_name, len_before};
 
 /// The number of lines that are named.
 const NAMED: usize = 8;

@@ -40,7 +40,7 @@ returns c =
         list = subst (λ b. HasList b (list_of (core_kept core) (worlds_of core (number_of was)))) (sym bank) (subst (HasList (bank_of went)) list s.list);
         exact = subst (λ b. IsBankOf b b.limit (list_of (core_kept core) (worlds_of core (number_of was)))) (sym bank) exact;
         fewest = subst (λ n.
-          IsFewest (current_view (core_kept core).table (worlds_of core n)) (list_of (core_kept core) (worlds_of core (number_of was)))) place
+            IsFewest (current_view (core_kept core).table (worlds_of core n)) (list_of (core_kept core) (worlds_of core (number_of was)))) place
             (subst (IsFewest (current_view (core_kept core).table (worlds_of core c.number-number.result))) list c.entries.ensures.fewest);
       };
       stays = λ off. absurd (let on = sym c.if-not-load.false ∙ off in cc);

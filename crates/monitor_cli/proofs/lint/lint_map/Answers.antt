@@ -1,5 +1,4 @@
-use Rattle.std.proofs.Common.{◌≡◌, ℕ, Bool, true, false, List, Ok, ap, inr, refl}
-use Rattle.std.proofs.lemmas.Result.{err_from_is_err_and}
+use Rattle.std.proofs.Common.{◌≡◌, ℕ, Bool, true, false, List, Ok, ap, refl}
 use Rattle.permission_map.specs.declared.runs.Run.{Run}
 use Rattle.map_text.specs.MapFile.{Makes}
 use Rattle.input_files.specs.Maps.{IsAtFault, IsVerdictOfLines}

@@ -14,10 +14,19 @@ returns-in-Err g c = elim c.board_trouble.ensures [
 pub returns-in_err-write_whole : goal.returns-in_err-write_whole
 returns-in_err-write_whole g c =
     let p = err_from_is_err_and c.from_residual.result c.from_residual.ensures.1 in
-    rw (p.1, p.2) (inl (refl, (_, _, (λ e. true≢false (sym (c.is_machine.ensures.1 e) ∙ c.if-is_machine.false), c.in-Ok.ensures.ok, refl),
-    rw c.as_slice.ensures.value at c.in_err-write_whole.ensures)))
+    rw (p.1, p.2) (inl (
+      refl,
+      (
+        _,
+        _,
+        (λ e. true≢false (sym (c.is_machine.ensures.1 e) ∙ c.if-is_machine.false), c.in-Ok.ensures.ok, refl),
+        rw c.as_slice.ensures.value at c.in_err-write_whole.ensures,
+      ),
+    ))
 
 pub returns : goal.returns
-returns g c =
-    (_, (λ e. true≢false (sym (c.is_machine.ensures.1 e) ∙ c.if-is_machine.false), c.in-Ok.ensures.ok, refl),
-    rw c.as_slice.ensures.value at c.in_ok-write_whole.ensures)
+returns g c = (
+  _,
+  (λ e. true≢false (sym (c.is_machine.ensures.1 e) ∙ c.if-is_machine.false), c.in-Ok.ensures.ok, refl),
+  rw c.as_slice.ensures.value at c.in_ok-write_whole.ensures,
+)

@@ -20,12 +20,21 @@ returns-in_err-write_whole g c =
     let text : c.in-Ok.text.items ≡ digest_text (enclave_digest c.args.layout c.in_ok-bytes.bytes.items) =
     c.in-Ok.ensures ∙ ap (λ b. digest_text (enclave_digest c.args.layout b)) c.as_slice.ensures.value in
     rw (p.1, p.2)
-    (inl (refl, (_, _, (_, c.has_too_many.ensures.few c.if-has_too_many.false, c.in_ok-bytes.ensures.whole, c.as_slice-2.ensures.value ∙ text, refl),
-    c.in_err-write_whole.ensures)))
+    (inl (
+      refl,
+      (
+        _,
+        _,
+        (_, c.has_too_many.ensures.few c.if-has_too_many.false, c.in_ok-bytes.ensures.whole, c.as_slice-2.ensures.value ∙ text, refl),
+        c.in_err-write_whole.ensures,
+      ),
+    ))
 
 pub returns : goal.returns
 returns g c =
     let text : c.in-Ok.text.items ≡ digest_text (enclave_digest c.args.layout c.in_ok-bytes.bytes.items) =
-    c.in-Ok.ensures ∙ ap (λ b. digest_text (enclave_digest c.args.layout b)) c.as_slice.ensures.value in
-    (_, (_, c.has_too_many.ensures.few c.if-has_too_many.false, c.in_ok-bytes.ensures.whole, c.as_slice-2.ensures.value ∙ text, refl),
-    c.in_ok-write_whole.ensures)
+    c.in-Ok.ensures ∙ ap (λ b. digest_text (enclave_digest c.args.layout b)) c.as_slice.ensures.value in (
+      _,
+      (_, c.has_too_many.ensures.few c.if-has_too_many.false, c.in_ok-bytes.ensures.whole, c.as_slice-2.ensures.value ∙ text, refl),
+      c.in_ok-write_whole.ensures,
+    )

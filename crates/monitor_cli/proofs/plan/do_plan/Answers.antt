@@ -16,15 +16,18 @@ returns-in_err-plan g c =
 pub returns-in_err-put_certificate : goal.returns-in_err-put_certificate
 returns-in_err-put_certificate g c =
     let p = err_from_is_err_and c.from_residual-in_err-put_certificate.result c.from_residual-in_err-put_certificate.ensures.1 in
-    rw (p.1, p.2) (inr (refl, inr (record {
-      runs = c.in_ok-map.map;
-      has_map = c.in_ok-map.ensures.made;
-      entries = c.in_ok-plan.plan.entries;
-      planned = rw c.most_entries-most.ensures at c.in_ok-plan.ensures.planned;
-      bytes = _;
-      certificate = c.in_ok-plan.ensures.certificate c.args.limit;
-      broken = c.in_err-put_certificate.ensures.broken;
-    })))
+    rw (p.1, p.2) (inr (
+      refl,
+      inr (record {
+        runs = c.in_ok-map.map;
+        has_map = c.in_ok-map.ensures.made;
+        entries = c.in_ok-plan.plan.entries;
+        planned = rw c.most_entries-most.ensures at c.in_ok-plan.ensures.planned;
+        bytes = _;
+        certificate = c.in_ok-plan.ensures.certificate c.args.limit;
+        broken = c.in_err-put_certificate.ensures.broken;
+      }),
+    ))
 
 pub print_as-requires : goal.print_as-requires
 print_as-requires g c = record {
@@ -37,15 +40,22 @@ pub returns-in_err-print_as : goal.returns-in_err-print_as
 returns-in_err-print_as g c =
     let p = err_from_is_err_and c.from_residual-in_err-print_as.result c.from_residual-in_err-print_as.ensures.1 in
     let w = rw c.entries.ensures at c.in_err-print_as.ensures in
-    rw (p.1, p.2) (inl (refl, (w.0, record {
-      runs = c.in_ok-map.map;
-      has_map = c.in_ok-map.ensures.made;
-      entries = c.in_ok-plan.plan.entries;
-      planned = rw c.most_entries-most.ensures at c.in_ok-plan.ensures.planned;
-      reached = c.in_ok-plan.ensures.reached;
-      certified = (_, c.in_ok-plan.ensures.certificate c.args.limit, c.in_ok-put_certificate.ensures.put);
-      printed = w.1;
-    }, w.2)))
+    rw (p.1, p.2) (inl (
+      refl,
+      (
+        w.0,
+        record {
+          runs = c.in_ok-map.map;
+          has_map = c.in_ok-map.ensures.made;
+          entries = c.in_ok-plan.plan.entries;
+          planned = rw c.most_entries-most.ensures at c.in_ok-plan.ensures.planned;
+          reached = c.in_ok-plan.ensures.reached;
+          certified = (_, c.in_ok-plan.ensures.certificate c.args.limit, c.in_ok-put_certificate.ensures.put);
+          printed = w.1;
+        },
+        w.2,
+      ),
+    ))
 
 pub returns : goal.returns
 returns g c =

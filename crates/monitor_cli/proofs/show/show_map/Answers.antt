@@ -13,8 +13,11 @@ returns-in_err-bytes g c =
 pub returns-in_err-map : goal.returns-in_err-map
 returns-in_err-map g c =
     let p = err_from_is_err_and c.from_residual-in_err-map.result c.from_residual-in_err-map.ensures.1 in
-    rw (p.1, p.2) (inr (inr (inl (no_map_of c.args.file _ c.in_ok-bytes.bytes.items _ c.in_ok-bytes.ensures.whole
-    (rw c.as_slice.ensures.value at c.in_err-map.ensures.refused))), refl))
+    rw (p.1, p.2) (inr (
+      inr (inl (no_map_of c.args.file _ c.in_ok-bytes.bytes.items _ c.in_ok-bytes.ensures.whole
+          (rw c.as_slice.ensures.value at c.in_err-map.ensures.refused))),
+      refl,
+    ))
 
 pub returns-in_err-packed : goal.returns-in_err-packed
 returns-in_err-packed g c =
@@ -39,12 +42,21 @@ returns-in_err-write_whole g c =
     let made = rw c.as_slice.ensures.value at c.in_ok-map.ensures.made in
     let text = rw (c.entries.ensures ∙ ap (λ (p : Planned). p.entries) c.in_ok-plan.ensures) at c.in_ok-text.ensures in
     rw (p.1, p.2)
-    (inl (refl, (_, _, (_, _, _, c.in_ok-bytes.ensures.whole, made, c.in_ok-packed.ensures.planned, c.in_ok-packed.ensures.reached, text, refl),
-    rw c.as_slice-3.ensures.value at c.in_err-write_whole.ensures)))
+    (inl (
+      refl,
+      (
+        _,
+        _,
+        (_, _, _, c.in_ok-bytes.ensures.whole, made, c.in_ok-packed.ensures.planned, c.in_ok-packed.ensures.reached, text, refl),
+        rw c.as_slice-3.ensures.value at c.in_err-write_whole.ensures,
+      ),
+    ))
 
 pub returns : goal.returns
 returns g c =
     let made = rw c.as_slice.ensures.value at c.in_ok-map.ensures.made in
-    let text = rw (c.entries.ensures ∙ ap (λ (p : Planned). p.entries) c.in_ok-plan.ensures) at c.in_ok-text.ensures in
-    (_, (_, _, _, c.in_ok-bytes.ensures.whole, made, c.in_ok-packed.ensures.planned, c.in_ok-packed.ensures.reached, text, refl),
-    rw c.as_slice-3.ensures.value at c.in_ok-write_whole.ensures)
+    let text = rw (c.entries.ensures ∙ ap (λ (p : Planned). p.entries) c.in_ok-plan.ensures) at c.in_ok-text.ensures in (
+      _,
+      (_, _, _, c.in_ok-bytes.ensures.whole, made, c.in_ok-packed.ensures.planned, c.in_ok-packed.ensures.reached, text, refl),
+      rw c.as_slice-3.ensures.value at c.in_ok-write_whole.ensures,
+    )
