@@ -1,6 +1,6 @@
 //! The table of a listing.
 
-ghost use Rattle.std.specs.Prelude.{◌≡◌, ◌-◌, ◌^◌, ◌<◌, ℕ, Err, IfOk, List, length};
+ghost use Rattle.std.specs.Prelude.{Bool, ◌≡◌, ◌-◌, ◌^◌, ◌<◌, ℕ, Err, IfOk, List, length};
 ghost use Rattle.byte_streams.specs.Writings.{writing, Breaks, TakesAll};
 ghost use Rattle.register_audit.specs.RegisterListings.{IsFirstUnknown};
 ghost use Rattle.register_audit.specs.declared.fault.ListingFault as ListingFault;
