@@ -330,12 +330,12 @@ def aliases(specs, found):
                 continue
             owner, _, last = path.rpartition(".")
             if last == "TheVariants":
-                modules[word] = owner.rpartition(".")[2]
+                modules.setdefault(word, set()).add(owner.rpartition(".")[2])
             elif owner.endswith(".TheVariants"):
                 single[word] = f"{owner.rpartition('.')[0].rpartition('.')[2]}::{last}"
             elif word in names:
                 raise SystemExit(f"headline: {item} says {word} of {path}, which the page has under another name")
-    before = ", ".join(f"`{it}.` of `{modules[it]}`" for it in sorted(modules))
+    before = ", ".join(f"`{it}.` of {' or '.join(f'`{owner}`' for owner in sorted(modules[it]))}" for it in sorted(modules))
     alone = "; ".join(f"`{it}` is `{single[it]}`" for it in sorted(single))
     return f"Variants of a type stand behind a word of their own: {before}. {alone}."
 
