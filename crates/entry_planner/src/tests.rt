@@ -1,6 +1,6 @@
 //! What a split block costs, as a plan keeps it.
 
-use crate::costs::add_costs;
+use crate::plans::plan;
 use permission_map::PermissionMap;
 use pmp_encoding::Perm;
 use prefix_tree::build;
@@ -11,8 +11,12 @@ fn half_of_the_space_costs_one_under_no_access_and_under_full_access(rt: HostRun
     let half = 1 << 43;
     assert!(rt; map.set_range(0, half, Perm::ReadWriteExecute).is_ok());
     let tree = build(rt.alloc(), &map).expect(&rt, "memory");
-    let mut costs = Vec::new(rt.alloc());
-    let cost = add_costs(&tree.root(), &mut costs).expect(&rt, "memory");
-    assert!(rt; cost.least == 1);
-    assert!(rt; cost.best.bits == 0x21);
+    let plan = plan(rt.alloc(), &tree).expect(&rt, "memory");
+    assert!(rt; plan.branches() == 1);
+    assert!(rt; plan.cost(0, Perm::NoAccess) == 1);
+    assert!(rt; plan.cost(0, Perm::ReadWriteExecute) == 1);
+    assert!(rt; plan.cost(0, Perm::Read) == 2);
+    assert!(rt; plan.cost(0, Perm::ReadWrite) == 2);
+    assert!(rt; plan.cost(0, Perm::Execute) == 2);
+    assert!(rt; plan.cost(0, Perm::ReadExecute) == 2);
 }
