@@ -2,7 +2,7 @@
 use Rattle.std.proofs.Common.{◌≡◌, ℕ, List}
 use Rattle.pmp_encoding.specs.declared.perm.Perm.{Perm}
 use Rattle.permission_map.specs.declared.runs.Run.{Run}
-use Rattle.board_ranges.specs.Meaning.{Range}
+use Rattle.device_tree.specs.Meaning.{Range}
 use Rattle.platforms.specs.Platform.{PlatformLayout}
 use Rattle.platforms.specs.declared.platform.PlatformFault.{PlatformFault}
 use Rattle.input_files.specs.Document.{Builds, IsPlatformFile}

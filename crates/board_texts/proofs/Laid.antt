@@ -3,7 +3,7 @@ use Rattle.std.proofs.Common.{◌≡◌, ℕ, Bool, true, false, cond, ◌&&◌,
 use Rattle.pmp_encoding.specs.declared.perm.Perm.{Perm}
 use Rattle.pmp_encoding.specs.declared.pages.PageRange.{PageRange}
 use Rattle.pmp_encoding.specs.Views.{SameView, in_range}
-use Rattle.board_ranges.specs.Meaning.{Range}
+use Rattle.device_tree.specs.Meaning.{Range}
 use Rattle.board_texts.specs.declared.view.Layer.{Layer}
 use Rattle.board_texts.specs.Views.{covers, is_covered, laid, perm_of}
 

@@ -3,7 +3,7 @@ use Rattle.std.proofs.Common.{◌≡◌, ℕ, ◌+◌, ◌-◌, ◌*◌, ◌/◌
 use Rattle.std.proofs.lemmas.Grind.{common_steps}
 use Rattle.std.proofs.lemmas.Bool.Decides.{nat_tests}
 use Rattle.pmp_encoding.specs.Views.{in_range}
-use Rattle.board_ranges.specs.declared.rows.Extent.{Extent}
+use Rattle.device_tree.specs.declared.rows.Extent.{Extent}
 use Rattle.board_texts.specs.Pages.{has_all_of, has_byte_of, inner, outer}
 
 inner_numbers :

@@ -1,7 +1,7 @@
 -- What is no platform as runs is none as a board.
 use Rattle.std.proofs.Common.{ℕ, List, Option}
 use Rattle.permission_map.specs.declared.runs.Run.{Run}
-use Rattle.board_ranges.specs.Meaning.{Range}
+use Rattle.device_tree.specs.Meaning.{Range}
 use Rattle.board_texts.specs.declared.fault.BoardTextFault.{BoardTextFault}
 use Rattle.board_texts.specs.declared.fault.BoardTextFault.TheVariants as faults
 use Rattle.board_texts.specs.Platforms.{IsBoardLayout, IsBoardRefusal, IsMapRefusal}

@@ -11,9 +11,9 @@ use Rattle.device_tree.specs.Nodes.{Tree}
 use Rattle.device_tree.specs.Trees.{ReadsAs, front_of}
 use Rattle.device_tree.specs.Places.{Block, block_of}
 use Rattle.device_tree.specs.Refusals.{IsTreeFault}
-use Rattle.board_ranges.specs.declared.fault.BoardFault.{BoardFault}
-use Rattle.board_ranges.specs.Meaning.{Range, TreeSays}
-use Rattle.board_ranges.specs.Refusals.{IsBoardFaultIn}
+use Rattle.device_tree.specs.declared.board_fault.BoardFault.{BoardFault}
+use Rattle.device_tree.specs.Meaning.{Range, TreeSays}
+use Rattle.device_tree.specs.BoardRefusals.{IsBoardFaultIn}
 use Rattle.text_lines.specs.Pieces.{address_text}
 use Rattle.device_tree.specs.declared.fault.TreeFault.{TreeFault}
 use Rattle.device_tree.specs.declared.fault.TreeReason.TheVariants as tree_reasons

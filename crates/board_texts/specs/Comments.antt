@@ -7,11 +7,11 @@ use Rattle.pmp_encoding.specs.declared.perm.Perm.{Perm}
 use Rattle.pmp_encoding.specs.declared.perm.Perm.TheVariants.{ReadWrite, ReadWriteExecute}
 use Rattle.permission_map.specs.declared.runs.Run.{Run}
 use Rattle.device_tree.specs.declared.reservations.Reservation.{Reservation}
-use Rattle.board_ranges.specs.declared.rows.Extent.{Extent}
-use Rattle.board_ranges.specs.declared.kinds.Kind.{Kind}
-use Rattle.board_ranges.specs.declared.kinds.Kind.TheVariants.{Memory, Device, Machine}
-use Rattle.board_ranges.specs.declared.kinds.Kind.TheVariants.{Reserved, Hart}
-use Rattle.board_ranges.specs.Meaning.{Range}
+use Rattle.device_tree.specs.declared.rows.Extent.{Extent}
+use Rattle.device_tree.specs.declared.kinds.Kind.{Kind}
+use Rattle.device_tree.specs.declared.kinds.Kind.TheVariants.{Memory, Device, Machine}
+use Rattle.device_tree.specs.declared.kinds.Kind.TheVariants.{Reserved, Hart}
+use Rattle.device_tree.specs.Meaning.{Range}
 use Rattle.text_lines.specs.Pieces.{address_text}
 use Rattle.board_texts.specs.Pages.{pages_of}
 

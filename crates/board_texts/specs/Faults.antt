@@ -2,9 +2,9 @@
 use Rattle.std.specs.Prelude.{ℕ, List, ◌++◌, codes, decimal}
 use Rattle.device_tree.specs.declared.fault.TreeReason.{TreeReason}
 use Rattle.device_tree.specs.declared.fault.TreeReason.TheVariants as trees
-use Rattle.board_ranges.specs.declared.fault.BoardReason.{BoardReason}
-use Rattle.board_ranges.specs.declared.fault.BoardReason.TheVariants.{BadCells, BadRows}
-use Rattle.board_ranges.specs.declared.rows.RowFault.TheVariants as rows
+use Rattle.device_tree.specs.declared.board_fault.BoardReason.{BoardReason}
+use Rattle.device_tree.specs.declared.board_fault.BoardReason.TheVariants.{BadCells, BadRows}
+use Rattle.device_tree.specs.declared.rows.RowFault.TheVariants as rows
 use Rattle.platforms.specs.declared.platform.PlatformFault.{PlatformFault}
 use Rattle.platforms.specs.declared.platform.PlatformFault.TheVariants as rules
 use Rattle.board_texts.specs.declared.fault.BoardTextFault.{BoardTextFault}

@@ -3,10 +3,10 @@ use Rattle.std.specs.Prelude.{ℕ, ◌+◌, ◌*◌, Bool, true, false, cond, le
 use Rattle.std.specs.Prelude.{List, [], ◌∷◌, Option, Some, None, option_map}
 use Rattle.std.specs.List.{list_any}
 use Rattle.pmp_encoding.specs.declared.pages.PageRange.{PageRange}
-use Rattle.board_ranges.specs.declared.rows.Extent.{Extent}
-use Rattle.board_ranges.specs.declared.kinds.Kind.{Kind}
-use Rattle.board_ranges.specs.declared.kinds.Kind.TheVariants.{Memory, Reserved, Hart}
-use Rattle.board_ranges.specs.Meaning.{Range}
+use Rattle.device_tree.specs.declared.rows.Extent.{Extent}
+use Rattle.device_tree.specs.declared.kinds.Kind.{Kind}
+use Rattle.device_tree.specs.declared.kinds.Kind.TheVariants.{Memory, Reserved, Hart}
+use Rattle.device_tree.specs.Meaning.{Range}
 use Rattle.board_texts.specs.Pages.{outer}
 
 -- a byte is one of the extent's

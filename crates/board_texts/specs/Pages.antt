@@ -2,12 +2,12 @@
 use Rattle.std.specs.Prelude.{ℕ, ◌+◌, ◌-◌, ◌*◌, ◌/◌, ◌^◌, Bool, cond, min, nat_lt, nat_le}
 use Rattle.std.specs.Prelude.{◌==◌, ◌&&◌}
 use Rattle.pmp_encoding.specs.declared.pages.PageRange.{PageRange}
-use Rattle.board_ranges.specs.declared.rows.Extent.{Extent}
-use Rattle.board_ranges.specs.declared.registers.Found.{Found}
-use Rattle.board_ranges.specs.declared.kinds.Kind.{Kind}
-use Rattle.board_ranges.specs.declared.kinds.Kind.TheVariants.{Memory, Device, Machine}
-use Rattle.board_ranges.specs.declared.kinds.Kind.TheVariants.{Reserved, Hart}
-use Rattle.board_ranges.specs.Meaning.{Range}
+use Rattle.device_tree.specs.declared.rows.Extent.{Extent}
+use Rattle.device_tree.specs.declared.registers.Found.{Found}
+use Rattle.device_tree.specs.declared.kinds.Kind.{Kind}
+use Rattle.device_tree.specs.declared.kinds.Kind.TheVariants.{Memory, Device, Machine}
+use Rattle.device_tree.specs.declared.kinds.Kind.TheVariants.{Reserved, Hart}
+use Rattle.device_tree.specs.Meaning.{Range}
 
 -- what is said by one that the program found
 abbrev pub range_of : Found → Range

@@ -13,10 +13,10 @@ use Rattle.device_tree.specs.Nodes.{Tree}
 use Rattle.device_tree.specs.Trees.{ReadsAs, front_of}
 use Rattle.device_tree.specs.Places.{Block, block_of}
 use Rattle.device_tree.specs.declared.fault.TreeFault.{TreeFault}
-use Rattle.board_ranges.specs.declared.fault.BoardFault.{BoardFault}
-use Rattle.board_ranges.specs.declared.kinds.Kind.TheVariants.{Memory, Device}
-use Rattle.board_ranges.specs.Meaning.{Range, TreeSays}
-use Rattle.board_ranges.specs.Refusals.{IsBoardFaultIn}
+use Rattle.device_tree.specs.declared.board_fault.BoardFault.{BoardFault}
+use Rattle.device_tree.specs.declared.kinds.Kind.TheVariants.{Memory, Device}
+use Rattle.device_tree.specs.Meaning.{Range, TreeSays}
+use Rattle.device_tree.specs.BoardRefusals.{IsBoardFaultIn}
 use Rattle.platforms.specs.declared.platform.PlatformFault.{PlatformFault}
 use Rattle.platforms.specs.declared.platform.PlatformFault.TheVariants.{BadHarts}
 use Rattle.platforms.specs.CheckLists.{FailsFirst}

@@ -6,10 +6,10 @@ use Rattle.pmp_encoding.specs.declared.perm.Perm.{Perm}
 use Rattle.pmp_encoding.specs.declared.perm.Perm.TheVariants.{NoAccess, ReadWrite}
 use Rattle.pmp_encoding.specs.declared.perm.Perm.TheVariants.{ReadWriteExecute}
 use Rattle.pmp_encoding.specs.Views.{in_range}
-use Rattle.board_ranges.specs.declared.kinds.Kind.{Kind}
-use Rattle.board_ranges.specs.declared.kinds.Kind.TheVariants.{Memory, Device, Machine}
-use Rattle.board_ranges.specs.declared.kinds.Kind.TheVariants.{Reserved}
-use Rattle.board_ranges.specs.Meaning.{Range}
+use Rattle.device_tree.specs.declared.kinds.Kind.{Kind}
+use Rattle.device_tree.specs.declared.kinds.Kind.TheVariants.{Memory, Device, Machine}
+use Rattle.device_tree.specs.declared.kinds.Kind.TheVariants.{Reserved}
+use Rattle.device_tree.specs.Meaning.{Range}
 use Rattle.board_texts.specs.declared.view.Layer.{Layer}
 use Rattle.board_texts.specs.declared.view.Layer.TheVariants.{Devices, Ram, Denied}
 use Rattle.board_texts.specs.Pages.{pages_of}

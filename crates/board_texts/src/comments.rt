@@ -2,13 +2,12 @@
 
 ghost use Rattle.std.specs.Prelude.{◌≡◌, ◌≤◌, ◌++◌, OnOk, length, map, take};
 ghost use Rattle.std.specs.List.{list_any};
-ghost use Rattle.board_ranges.specs.Meaning.{said_of};
+ghost use Rattle.device_tree.specs.Meaning.{said_of};
 ghost use Rattle.board_texts.specs.Pages.{pages_of, range_of};
 ghost use Rattle.board_texts.specs.Comments.{comment_text, comments_on, extent_text, gives, is_from, is_left, is_paged, kind_text, left_out_text, left_reason, left_text, lefts_text, meets, name_text, named_text, pages_text, plain, range_text, reservation_text, reservations_text, rest_text};
 
 use crate::pages::pages_of;
-use board_ranges::{Extent, Found, Kind};
-use device_tree::Reservation;
+use device_tree::{Extent, Found, Kind, Reservation};
 use permission_map::Run;
 use pmp_encoding::{PAGE_SIZE, PageRange, Perm};
 use std::alloc::AllocError;

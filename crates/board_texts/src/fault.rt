@@ -3,8 +3,7 @@
 ghost use Rattle.std.specs.Prelude.{◌≡◌};
 ghost use Rattle.board_texts.specs.Faults.{fault_text, ranges_text, rule_text, tree_text};
 
-use board_ranges::{BoardFault, BoardReason, RowFault};
-use device_tree::{TreeFault, TreeReason};
+use device_tree::{BoardFault, BoardReason, RowFault, TreeFault, TreeReason};
 use platforms::PlatformFault;
 use text_lines::{Line, push_decimal, push_text};
 

@@ -1,11 +1,11 @@
 //! How many harts a tree has.
 
 ghost use Rattle.std.specs.Prelude.{◌≡◌, ◌≤◌, length};
-ghost use Rattle.board_ranges.specs.Meaning.{said_of};
+ghost use Rattle.device_tree.specs.Meaning.{said_of};
 ghost use Rattle.board_texts.specs.Monitors.{harts_of, is_hart};
 ghost use Rattle.board_texts.specs.Platforms.{harts_used};
 
-use board_ranges::{Found, Kind};
+use device_tree::{Found, Kind};
 
 fn is_hart(kind: Kind) -> bool
     ensures { result ≡ is_hart kind }

@@ -7,7 +7,7 @@ ghost use Rattle.device_tree.specs.Pieces.{parts_of};
 ghost use Rattle.device_tree.specs.Nodes.{Tree, parts_of_tree};
 ghost use Rattle.device_tree.specs.Places.{ArePlaced, Block};
 ghost use Rattle.device_tree.specs.Trees.{ReadsAs};
-ghost use Rattle.board_ranges.specs.Meaning.{Range, TreeSays, said_of};
+ghost use Rattle.device_tree.specs.Meaning.{Range, TreeSays, said_of};
 ghost use Rattle.board_texts.specs.Boards.{IsBoardMap, IsLateFault, IsMapOfTree, IsNoMap, IsReadFault, board_map_text, item_text, lines_text, map_head, run_text};
 ghost use Rattle.board_texts.specs.Comments.{comments_on};
 
@@ -15,8 +15,7 @@ use crate::comments::{push_comments, push_lefts, push_reservations};
 use crate::fault::BoardTextFault;
 use crate::read_back::makes;
 use crate::view::{NOWHERE, board_map};
-use board_ranges::{Found, ranges_of};
-use device_tree::{PlacedPiece, Reservation, read_tree};
+use device_tree::{Found, PlacedPiece, Reservation, ranges_of, read_tree};
 use permission_map::{MapFault, PermissionMap, Run};
 use pmp_encoding::PAGE_SIZE;
 use std::alloc::{AllocError, Global};

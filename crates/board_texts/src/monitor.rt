@@ -2,11 +2,11 @@
 
 ghost use Rattle.std.specs.Prelude.{◌≡◌, ◌+◌, ◌^◌, ◌≤◌, IfSome};
 ghost use Rattle.std.specs.List.{list_any};
-ghost use Rattle.board_ranges.specs.Meaning.{said_of};
+ghost use Rattle.device_tree.specs.Meaning.{said_of};
 ghost use Rattle.board_texts.specs.Monitors.{begins_in, has_byte, is_memory, is_reserved, monitor_in};
 
 use crate::pages::outer;
-use board_ranges::{Extent, Found, Kind};
+use device_tree::{Extent, Found, Kind};
 use pmp_encoding::PageRange;
 
 /// Whether a byte is one of the extent's.

@@ -2,10 +2,10 @@
 
 ghost use Rattle.std.specs.Prelude.{◌≡◌, ◌+◌, ◌^◌, ◌<◌, ◌≤◌, ℕ};
 ghost use Rattle.pmp_encoding.specs.Views.{in_range};
-ghost use Rattle.board_ranges.specs.declared.rows.Extent.{Extent};
+ghost use Rattle.device_tree.specs.declared.rows.Extent.{Extent};
 ghost use Rattle.board_texts.specs.Pages.{has_all_of, has_byte_of, inner, outer, page_from, page_of, pages_of, range_of, span};
 
-use board_ranges::{Extent, Found, Kind};
+use device_tree::{Extent, Found, Kind};
 use pmp_encoding::{PAGE_SIZE, PageRange, SPACE_PAGES};
 
 /// The page of a byte, or the end of the space.

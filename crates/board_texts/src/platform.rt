@@ -6,7 +6,7 @@ ghost use Rattle.device_tree.specs.declared.reservations.Reservation.{Reservatio
 ghost use Rattle.device_tree.specs.Pieces.{parts_of};
 ghost use Rattle.device_tree.specs.Nodes.{Tree, parts_of_tree};
 ghost use Rattle.device_tree.specs.Places.{ArePlaced, Block};
-ghost use Rattle.board_ranges.specs.Meaning.{Range, TreeSays, said_of};
+ghost use Rattle.device_tree.specs.Meaning.{Range, TreeSays, said_of};
 ghost use Rattle.board_texts.specs.Monitors.{monitor_of};
 ghost use Rattle.board_texts.specs.Platforms.{IsBoardPlatform, IsBoardRefusal, IsMapRefusal, IsNoPlatform, IsPlatformOfTree, IsTreeRefusal, IsRuleBroken, board_platform_text, built, devices_of, harts_used, layout_of, pages_of_bytes, ram_of};
 ghost use Rattle.board_texts.specs.Views.{board_view};
@@ -21,8 +21,7 @@ use crate::monitor::monitor_in;
 use crate::platform_lines::platform_lines;
 use crate::read_back::is_platform;
 use crate::view::board_map;
-use board_ranges::{Found, Kind, ranges_of};
-use device_tree::{PlacedPiece, Reservation, read_tree};
+use device_tree::{Found, Kind, PlacedPiece, Reservation, ranges_of, read_tree};
 use permission_map::{MapFault, PermissionMap, Run};
 use platforms::{Platform, PlatformFault};
 use pmp_encoding::{PAGE_SIZE, PageRange, Perm};

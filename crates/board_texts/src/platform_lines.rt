@@ -2,14 +2,13 @@
 
 ghost use Rattle.std.specs.Prelude.{◌≡◌, ◌++◌, ◌+◌, ◌^◌, ◌≤◌, ℕ, Option, IfOk, OnOk};
 ghost use Rattle.permission_map.specs.Runs.{end_of};
-ghost use Rattle.board_ranges.specs.Meaning.{said_of};
+ghost use Rattle.device_tree.specs.Meaning.{said_of};
 ghost use Rattle.board_texts.specs.Comments.{comments_on};
 ghost use Rattle.board_texts.specs.Platforms.{board_platform_text, entries_text, given_text, harts_text, head_text, keys_text, part_text, platform_head, table_text, tables_text};
 
 use crate::comments::{gives, push_comments, push_lefts, push_reservations};
 use crate::harts::{harts_of, harts_used};
-use board_ranges::{Found, Kind};
-use device_tree::Reservation;
+use device_tree::{Found, Kind, Reservation};
 use permission_map::{PermissionMap, Run};
 use pmp_encoding::PAGE_SIZE;
 use std::alloc::{AllocError, Global};

@@ -4,12 +4,12 @@ ghost use Rattle.std.specs.Prelude.{◌≡◌, ◌+◌, ◌-◌, ◌^◌, ◌<�
 ghost use Rattle.permission_map.specs.Runs.{view_of_runs};
 ghost use Rattle.pmp_encoding.specs.declared.perm.Perm.TheVariants.{NoAccess};
 ghost use Rattle.pmp_encoding.specs.Views.{SameView, in_range, overwritten};
-ghost use Rattle.board_ranges.specs.Meaning.{said_of};
+ghost use Rattle.device_tree.specs.Meaning.{said_of};
 ghost use Rattle.board_texts.specs.Pages.{pages_of, range_of};
 ghost use Rattle.board_texts.specs.Views.{board_view, is_in, laid, nowhere, perm_of};
 
 use crate::pages::pages_of;
-use board_ranges::{Found, Kind};
+use device_tree::{Found, Kind};
 use permission_map::{MapFault, PermissionMap};
 use pmp_encoding::{PageRange, Perm};
 use std::alloc::Global;

@@ -5,8 +5,8 @@ use Rattle.std.specs.Prelude.{MatchResult}
 use Rattle.std.specs.Io.KnownBytes.{Consumes, IsAtEnd}
 use Rattle.std.proofs.lemmas.Bool.Decides.{nat_tests}
 use Rattle.std.proofs.lemmas.Grind.{common_steps}
-use Rattle.byte_streams.specs.Streams.{GrowsByOne}
-use Rattle.byte_streams.specs.declared.fault.SourceFault.TheVariants as faults
+use Rattle.text_lines.specs.Streams.{GrowsByOne}
+use Rattle.text_lines.specs.declared.stream_fault.SourceFault.TheVariants as faults
 use Rattle.certificate_check.specs.declared.refusal.CheckRefusal.{CheckRefusal}
 use Rattle.certificate_format.specs.declared.header.Header.{Header}
 use Rattle.pmp_encoding.specs.Views.{View}

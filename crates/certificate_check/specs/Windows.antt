@@ -2,10 +2,10 @@
 use Rattle.std.specs.Prelude.{◌≡◌, ◌≢◌, ℕ, ◌+◌, ◌-◌, ◌^◌, ◌<◌, ◌≤◌, min, List, [], ◌++◌, length}
 use Rattle.std.specs.Prelude.{Option, None, Some, Result, Ok, Err}
 use Rattle.std.specs.Io.KnownBytes.{Consumes, IsAtEnd}
-use Rattle.byte_streams.specs.Streams.{GrowsByOne}
+use Rattle.text_lines.specs.Streams.{GrowsByOne}
 use Rattle.certificate_format.specs.declared.header.Header.{Header}
-use Rattle.byte_streams.specs.declared.fault.SourceFault.{SourceFault}
-use Rattle.byte_streams.specs.declared.fault.SourceFault.TheVariants as faults
+use Rattle.text_lines.specs.declared.stream_fault.SourceFault.{SourceFault}
+use Rattle.text_lines.specs.declared.stream_fault.SourceFault.TheVariants as faults
 use Rattle.certificate_check.specs.declared.window.Inflow.{Inflow}
 use Rattle.certificate_check.specs.declared.window.Inflow.TheVariants.{Open, AtEnd, TooLarge}
 use Rattle.certificate_check.specs.declared.window.Inflow.TheVariants.{Failed}

@@ -15,9 +15,9 @@ use crate::nodes::root;
 use crate::refusal::CheckRefusal;
 use crate::sweep::means;
 use crate::window::Window;
-use byte_streams::Source;
 use certificate_format::{Header, Reader};
 use permission_map::PermissionMap;
+use text_lines::Source;
 
 /// Reads the root after the entries, and answers the first of what is left to look at that is not right.
 pub(crate) fn rest_is_right<R: Source>(

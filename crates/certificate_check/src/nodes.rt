@@ -14,10 +14,10 @@ use crate::parts::{costs, perm, tag};
 use crate::refusal::CheckRefusal;
 use crate::runs::RunsAhead;
 use crate::window::Window;
-use byte_streams::Source;
 use certificate_format::{SixCosts, Tag};
 use permission_map::PermissionMap;
 use pmp_encoding::pages_of;
+use text_lines::Source;
 
 /// Reads what follows the tag of a leaf of the 2^log2 pages from `first` on.
 #[inline(always)]

@@ -14,9 +14,9 @@ ghost use Rattle.certificate_check.specs.Windows.{place, Reads};
 use crate::entry_list::entry;
 use crate::refusal::CheckRefusal;
 use crate::window::Window;
-use byte_streams::Source;
 use certificate_format::{Header, ReadFault, Reader, SixCosts, Tag};
 use pmp_encoding::Perm;
+use text_lines::Source;
 
 fn header_in(bytes: &[u8]) -> Result<(Header, usize), ReadFault>
     ensures { MatchResult result (λ x.

@@ -2,7 +2,7 @@
 
 ghost use Rattle.std.specs.Prelude.{◌≡◌, ◌≢◌, ℕ, ◌<◌, ◌≤◌, ◌^◌, List, IfOk, Some, MatchResult, Ok, Err, length};
 ghost use Rattle.std.specs.Io.KnownBytes.{Consumes, IsAtEnd};
-ghost use Rattle.byte_streams.specs.Streams.{GrowsByOne};
+ghost use Rattle.text_lines.specs.Streams.{GrowsByOne};
 ghost use Rattle.pmp_encoding.specs.declared.region.Entry.{Entry};
 ghost use Rattle.certificate_format.specs.Spelling.{SpellsEntries};
 ghost use Rattle.permission_map.specs.Runs.{view_of_runs};
@@ -18,10 +18,10 @@ use crate::parts::{entry_bytes, header};
 use crate::refusal::CheckRefusal;
 use crate::stop::Stop;
 use crate::window::Window;
-use byte_streams::{Source, SourceFault};
 use certificate_format::Header;
 use permission_map::PermissionMap;
 use std::alloc::Global;
+use text_lines::{Source, SourceFault};
 
 /// How many bytes an entry has.
 const ENTRY_BYTES: u64 = 9;

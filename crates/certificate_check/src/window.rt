@@ -1,6 +1,6 @@
 //! A window of fixed size through which the bytes of a source are read.
 
-use byte_streams::{Buffer, Source, SourceFault};
+use text_lines::{Buffer, Source, SourceFault};
 
 /// How many bytes a window has room for.
 const ROOM: usize = 16384;

@@ -4,3 +4,9 @@ pub mod Nodes
 pub mod Trees
 pub mod Places
 pub mod Refusals
+pub mod Cells
+pub mod Windows
+pub mod Properties
+pub mod MachineDevices
+pub mod Meaning
+pub mod BoardRefusals

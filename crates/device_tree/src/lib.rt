@@ -1,17 +1,42 @@
 //! Flattened device trees: what their bytes spell.
 #![tactic(auto)]
 
+mod board_fault;
+#[cfg(test)]
+mod board_tests;
+mod bytes;
+mod cells;
 mod fault;
+mod head;
 mod header;
+mod inner;
+mod kinds;
+mod machine_devices;
 mod nesting;
+mod node;
+mod nodes;
 mod pieces;
+mod properties;
+mod registers;
 mod reservations;
+mod rows;
 #[cfg(test)]
 mod tests;
 mod tree;
+mod ways;
 mod words;
 
+pub use board_fault::{BoardFault, BoardReason};
+pub use cells::Cells;
 pub use fault::{TreeFault, TreeReason};
+pub use head::{Head, after_end, head_of};
+pub use inner::{Inner, inner_of};
+pub use kinds::{Kind, Place};
+pub use nodes::{one_list_law, ranges_of};
 pub use pieces::{Piece, PlacedPiece};
+pub use properties::value_of;
+pub use registers::{Found, cells_of, is_hart, kind_of};
 pub use reservations::Reservation;
+pub use rows::{Extent, RowFault, rows_of};
 pub use tree::{DeviceTree, one_tree_law, read_tree};
+pub use ways::{Way, Window};

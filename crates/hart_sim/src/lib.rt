@@ -41,7 +41,6 @@ mod parts;
 mod step;
 mod trace_run;
 
-pub use byte_streams::{Counted, DeviceFault, Sink, Source, fakes};
 pub use hart_trace::{Event, Reply, parse_line, push_reply};
 pub use laws::{
     creation_law, destruction_law, headline_law, loaded_law, platform_law, privacy_law,
@@ -49,5 +48,5 @@ pub use laws::{
 };
 pub use machine::Machine;
 pub use memory::Memory;
-pub use text_lines::{NotUnderstood, RunFault};
+pub use text_lines::{Counted, DeviceFault, NotUnderstood, RunFault, Sink, Source, fakes};
 pub use trace_run::{run, run_lines};

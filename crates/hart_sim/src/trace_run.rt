@@ -11,11 +11,13 @@ ghost use Rattle.hart_sim.specs.Reports.{DoesLine, RefusesLine, StarvesLine, Goe
 
 use crate::machine::Machine;
 use arrayvec::ArrayVec;
-use byte_streams::{Direct, LineSink, Sink, Source};
 use hart_trace::{
     Event, access_ahead, call_ahead, interrupt_ahead, parse_line, push_reply, setting_ahead,
 };
-use text_lines::{Interpreter, Line, LineRefusal, NotUnderstood, RunFault, interpret_lines};
+use text_lines::{
+    Direct, Interpreter, Line, LineRefusal, LineSink, NotUnderstood, RunFault, Sink, Source,
+    interpret_lines,
+};
 
 impl Machine {
     ghost use Rattle.std.specs.Prelude.{◌≡◌, ◌≢◌, ◌<◌, [], ◌++◌, true, IfOk, IfErr, IfSome, ℕ, decimal};

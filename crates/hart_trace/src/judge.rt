@@ -7,10 +7,11 @@ ghost use Rattle.hart_trace.specs.Answers.{answered_by, is_no_access, judged_by}
 use crate::access_judge::AccessJudge;
 use crate::answers::push_answer;
 use crate::{access_ahead, read_access};
-use byte_streams::{Direct, LineSink, Sink, Source};
 use pmp_encoding::Bank;
 use pmp_match::{Access, Segments};
-use text_lines::{Interpreter, Line, LineRefusal, RunFault, interpret_lines};
+use text_lines::{
+    Direct, Interpreter, Line, LineRefusal, LineSink, RunFault, Sink, Source, interpret_lines,
+};
 
 /// The same access, field by field. As a whole it would be read in one piece while its fields, written just before, are on
 /// their way to memory, and the processor would wait for them.

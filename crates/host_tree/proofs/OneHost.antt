@@ -3,13 +3,13 @@ use Rattle.std.proofs.Common.{◌≡◌, ℕ, List, [], ◌∷◌, ◌++◌, Opt
 use Rattle.device_tree.specs.Pieces.{Part, Setting, begins, has, ends}
 use Rattle.device_tree.specs.Nodes.{Nodes, no_nodes, node, parts_of_nodes, BeginsNoNode, HasNoProperty}
 use Rattle.device_tree.proofs.OneTree.{ends_begins_none}
-use Rattle.board_ranges.specs.declared.cells.Cells.{Cells}
-use Rattle.board_ranges.specs.declared.kinds.Place.{Place}
-use Rattle.board_ranges.specs.declared.rows.Extent.{Extent}
-use Rattle.board_ranges.specs.Windows.{Path}
-use Rattle.board_ranges.specs.Properties.{value_in}
-use Rattle.board_ranges.specs.Meaning.{AreCells, IsInnerWay, inner_place, live_kind, path_or}
-use Rattle.board_ranges.proofs.OneNode.{front, no_front}
+use Rattle.device_tree.specs.declared.cells.Cells.{Cells}
+use Rattle.device_tree.specs.declared.kinds.Place.{Place}
+use Rattle.device_tree.specs.declared.rows.Extent.{Extent}
+use Rattle.device_tree.specs.Windows.{Path}
+use Rattle.device_tree.specs.Properties.{value_in}
+use Rattle.device_tree.specs.Meaning.{AreCells, IsInnerWay, inner_place, live_kind, path_or}
+use Rattle.device_tree.proofs.OneNode.{front, no_front}
 use Rattle.host_tree.specs.declared.writer.TreeWriter.{TreeWriter}
 use Rattle.host_tree.specs.Written.{Adds}
 use Rattle.host_tree.specs.HostNodes.{AreRegisters, HostNodes, IsChild, Portion, a_node, node_settings, nothing}

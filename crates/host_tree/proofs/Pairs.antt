@@ -3,7 +3,7 @@ use Rattle.std.proofs.Common.{◌≡◌, ℕ, zero, suc, ◌-◌, ◌*◌, ◌<�
 use Rattle.std.proofs.Common.{List, [], ◌∷◌, ◌++◌, length, drop, slice_index, append_assoc, length-append}
 use Rattle.std.specs.Prelude.{eqb}
 use Rattle.std.proofs.lemmas.List.{drop_all}
-use Rattle.board_ranges.specs.declared.rows.Extent.{Extent}
+use Rattle.device_tree.specs.declared.rows.Extent.{Extent}
 use Rattle.host_tree.specs.Platforms.{IsClipped, flat_words, pairs_in, triples_in}
 use Rattle.host_tree.proofs.Numbers.{drop_front}
 

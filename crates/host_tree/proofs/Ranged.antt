@@ -3,7 +3,7 @@ use Rattle.std.proofs.Common.{◌≡◌, ℕ, Bool, true, false, cond, List, [],
 use Rattle.std.specs.Prelude.{bytes_eq}
 use Rattle.device_tree.specs.Pieces.{Part, Setting, begins, has, ends}
 use Rattle.device_tree.specs.Nodes.{Nodes, no_nodes, node, parts_of_nodes}
-use Rattle.board_ranges.specs.declared.cells.Cells.{Cells}
+use Rattle.device_tree.specs.declared.cells.Cells.{Cells}
 use Rattle.host_tree.specs.declared.reserved.Reserved.{Reserved}
 use Rattle.host_tree.specs.Settings.{left_settings}
 use Rattle.host_tree.specs.Ranges.{and_nodes, range_nodes, with_ranges}

@@ -3,13 +3,13 @@ use Rattle.std.proofs.Common.{◌≡◌, ℕ, List, [], ◌∷◌, ◌++◌, Opt
 use Rattle.device_tree.specs.Pieces.{Part, Setting, begins, has, ends}
 use Rattle.device_tree.specs.Nodes.{Nodes, node, parts_of_nodes, BeginsNoNode, HasNoProperty}
 use Rattle.device_tree.proofs.OneTree.{ends_begins_none}
-use Rattle.board_ranges.specs.declared.cells.Cells.{Cells}
-use Rattle.board_ranges.specs.declared.kinds.Place.{Place}
-use Rattle.board_ranges.specs.Windows.{Path}
-use Rattle.board_ranges.specs.Properties.{value_in}
-use Rattle.board_ranges.specs.Meaning.{AreCells, IsInnerWay, inner_place, path_or}
-use Rattle.board_ranges.specs.Refusals.{IsNodeFault, SayNone, at_node, in_child, in_later}
-use Rattle.board_ranges.proofs.OneNode.{front}
+use Rattle.device_tree.specs.declared.cells.Cells.{Cells}
+use Rattle.device_tree.specs.declared.kinds.Place.{Place}
+use Rattle.device_tree.specs.Windows.{Path}
+use Rattle.device_tree.specs.Properties.{value_in}
+use Rattle.device_tree.specs.Meaning.{AreCells, IsInnerWay, inner_place, path_or}
+use Rattle.device_tree.specs.BoardRefusals.{IsNodeFault, SayNone, at_node, in_child, in_later}
+use Rattle.device_tree.proofs.OneNode.{front}
 use Rattle.host_tree.specs.declared.fault.MakeFault.{MakeFault}
 use Rattle.host_tree.specs.declared.fault.MakeFault.TheVariants.{NotUnderstood, BadCells, NotWritten}
 use Rattle.host_tree.specs.declared.reserved.Reserved.{Reserved}

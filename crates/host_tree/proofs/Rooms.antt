@@ -1,6 +1,6 @@
 -- A place that lacks room for a host's tree.
 use Rattle.std.proofs.Common.{◌≡◌, ℕ, ◌+◌, ◌<◌, ◌≤◌, List, length, subst, arith}
-use Rattle.board_ranges.specs.declared.rows.Extent.{Extent}
+use Rattle.device_tree.specs.declared.rows.Extent.{Extent}
 use Rattle.host_tree.specs.declared.reserved.Reserved.{Reserved}
 use Rattle.host_tree.specs.HostTrees.{LacksRoom, Needs}
 

@@ -4,11 +4,11 @@ use Rattle.device_tree.specs.declared.reservations.Reservation.{Reservation}
 use Rattle.device_tree.specs.Pieces.{Part, has, ends}
 use Rattle.device_tree.specs.Nodes.{Tree, parts_of_nodes, parts_of_tree}
 use Rattle.device_tree.specs.Trees.{ReadsAs, front_of, reservations_of, strings_of, structure_of}
-use Rattle.board_ranges.specs.declared.cells.Cells.{Cells}
-use Rattle.board_ranges.specs.declared.kinds.Place.TheVariants.{BelowRoot}
-use Rattle.board_ranges.specs.Windows.{same}
-use Rattle.board_ranges.specs.Meaning.{AreCells}
-use Rattle.board_ranges.specs.Refusals.{below_root}
+use Rattle.device_tree.specs.declared.cells.Cells.{Cells}
+use Rattle.device_tree.specs.declared.kinds.Place.TheVariants.{BelowRoot}
+use Rattle.device_tree.specs.Windows.{same}
+use Rattle.device_tree.specs.Meaning.{AreCells}
+use Rattle.device_tree.specs.BoardRefusals.{below_root}
 use Rattle.host_tree.specs.declared.fault.HostTreeFault.TheVariants.{NotMade}
 use Rattle.host_tree.specs.declared.fault.MakeFault.{MakeFault}
 use Rattle.host_tree.specs.declared.fault.MakeFault.TheVariants.{NotUnderstood, BadCells, NotWritten}

@@ -6,8 +6,8 @@ use Rattle.device_tree.specs.declared.reservations.Reservation.{Reservation}
 use Rattle.device_tree.specs.Pieces.{Part, Setting, begins, ends, has, part_of, parts_of}
 use Rattle.device_tree.specs.Nodes.{parts_of_nodes}
 use Rattle.device_tree.specs.Trees.{BeginsWithReservations}
-use Rattle.board_ranges.specs.declared.cells.Cells.{Cells}
-use Rattle.board_ranges.specs.declared.rows.Extent.{Extent}
+use Rattle.device_tree.specs.declared.cells.Cells.{Cells}
+use Rattle.device_tree.specs.declared.rows.Extent.{Extent}
 use Rattle.host_tree.specs.declared.reserved.Reserved.{Reserved}
 use Rattle.host_tree.specs.declared.writer.TreeWriter.{TreeWriter}
 use Rattle.host_tree.specs.Platforms.{IsClipped, clipped_one}

@@ -1,10 +1,10 @@
 -- Why parts are not written, and why those around them are not.
 use Rattle.std.proofs.Common.{◌≡◌, ◌⊎◌, ℕ, zero, suc, ◌+◌, ◌*◌, ◌^◌, ◌<◌, ◌≤◌, List, [], ◌∷◌, ◌++◌, get_or, length, ⊎_elim, inl, inr, subst, sym, arith}
 use Rattle.device_tree.specs.declared.pieces.PlacedPiece.{PlacedPiece}
-use Rattle.board_ranges.specs.declared.kinds.Place.{Place}
+use Rattle.device_tree.specs.declared.kinds.Place.{Place}
 use Rattle.device_tree.specs.declared.reservations.Reservation.{Reservation}
 use Rattle.device_tree.specs.Pieces.{Part, begins, has, ends, part_of, parts_of}
-use Rattle.board_ranges.specs.declared.cells.Cells.{Cells}
+use Rattle.device_tree.specs.declared.cells.Cells.{Cells}
 use Rattle.host_tree.specs.declared.fault.MakeFault.{MakeFault}
 use Rattle.host_tree.specs.declared.fault.MakeFault.TheVariants.{NotUnderstood, BadCells, NotWritten}
 use Rattle.host_tree.specs.declared.reserved.Reserved.{Reserved}

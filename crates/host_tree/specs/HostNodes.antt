@@ -2,15 +2,15 @@
 use Rattle.std.specs.Prelude.{◌≡◌, ℕ, List, [], ◌∷◌, ◌++◌, Option, None, Some, codes, map}
 use Rattle.device_tree.specs.Pieces.{Part, Setting, begins, has}
 use Rattle.device_tree.specs.Nodes.{BeginsNoNode, Nodes, no_nodes, node, parts_of_nodes}
-use Rattle.board_ranges.specs.declared.cells.Cells.{Cells}
-use Rattle.board_ranges.specs.declared.kinds.Kind.{Kind}
-use Rattle.board_ranges.specs.declared.kinds.Place.{Place}
-use Rattle.board_ranges.specs.declared.rows.Extent.{Extent}
-use Rattle.board_ranges.specs.Cells.{AreRows}
-use Rattle.board_ranges.specs.Windows.{Path}
-use Rattle.board_ranges.specs.Properties.{value_in}
-use Rattle.board_ranges.specs.Meaning.{AreCells, IsInnerWay, has_type, inner_place, live_kind}
-use Rattle.board_ranges.specs.Meaning.{path_or}
+use Rattle.device_tree.specs.declared.cells.Cells.{Cells}
+use Rattle.device_tree.specs.declared.kinds.Kind.{Kind}
+use Rattle.device_tree.specs.declared.kinds.Place.{Place}
+use Rattle.device_tree.specs.declared.rows.Extent.{Extent}
+use Rattle.device_tree.specs.Cells.{AreRows}
+use Rattle.device_tree.specs.Windows.{Path}
+use Rattle.device_tree.specs.Properties.{value_in}
+use Rattle.device_tree.specs.Meaning.{AreCells, IsInnerWay, has_type, inner_place, live_kind}
+use Rattle.device_tree.specs.Meaning.{path_or}
 use Rattle.host_tree.specs.declared.writer.TreeWriter.{TreeWriter}
 use Rattle.host_tree.specs.Written.{Adds}
 use Rattle.host_tree.specs.Shares.{is_closed}

@@ -5,10 +5,10 @@ use Rattle.device_tree.specs.Pieces.{has}
 use Rattle.device_tree.specs.Nodes.{Nodes, Tree}
 use Rattle.device_tree.specs.Trees.{ReadsAs, SpellsTree}
 use Rattle.device_tree.specs.Words.{word_at}
-use Rattle.board_ranges.specs.declared.cells.Cells.{Cells}
-use Rattle.board_ranges.specs.declared.kinds.Place.TheVariants.{BelowRoot}
-use Rattle.board_ranges.specs.Windows.{same}
-use Rattle.board_ranges.specs.Meaning.{AreCells}
+use Rattle.device_tree.specs.declared.cells.Cells.{Cells}
+use Rattle.device_tree.specs.declared.kinds.Place.TheVariants.{BelowRoot}
+use Rattle.device_tree.specs.Windows.{same}
+use Rattle.device_tree.specs.Meaning.{AreCells}
 use Rattle.host_tree.specs.declared.reserved.Reserved.{Reserved}
 use Rattle.host_tree.specs.declared.share.Share.{Share}
 use Rattle.host_tree.specs.HostNodes.{HostNodes, Portion}

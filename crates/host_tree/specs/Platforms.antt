@@ -4,8 +4,8 @@ use Rattle.std.specs.Prelude.{List, [], ◌∷◌, ◌++◌, drop, true, false}
 use Rattle.device_tree.specs.declared.reservations.Reservation.{Reservation}
 use Rattle.device_tree.specs.Nodes.{Tree}
 use Rattle.device_tree.specs.Trees.{ReadsAs}
-use Rattle.board_ranges.specs.declared.rows.Extent.{Extent}
-use Rattle.board_ranges.specs.Meaning.{Range, TreeSays}
+use Rattle.device_tree.specs.declared.rows.Extent.{Extent}
+use Rattle.device_tree.specs.Meaning.{Range, TreeSays}
 use Rattle.host_tree.specs.declared.platform.PlatformWords.{PlatformWords}
 use Rattle.host_tree.specs.declared.reserved.Purpose.TheVariants.{Monitor, Pool}
 use Rattle.host_tree.specs.declared.reserved.Reserved.{Reserved}

@@ -6,8 +6,8 @@ use Rattle.byteorder.specs.Endian.{big_bytes}
 use Rattle.device_tree.specs.Pieces.{Setting}
 use Rattle.device_tree.specs.Nodes.{Nodes, no_nodes, node}
 use Rattle.host_tree.specs.Written.{setting}
-use Rattle.board_ranges.specs.declared.cells.Cells.{Cells}
-use Rattle.board_ranges.specs.declared.rows.Extent.{Extent}
+use Rattle.device_tree.specs.declared.cells.Cells.{Cells}
+use Rattle.device_tree.specs.declared.rows.Extent.{Extent}
 use Rattle.host_tree.specs.declared.reserved.Purpose.{Purpose}
 use Rattle.host_tree.specs.declared.reserved.Purpose.TheVariants.{Monitor, Pool}
 use Rattle.host_tree.specs.declared.reserved.Reserved.{Reserved}

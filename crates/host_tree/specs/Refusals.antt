@@ -8,12 +8,12 @@ use Rattle.device_tree.specs.declared.reservations.Reservation.{Reservation}
 use Rattle.device_tree.specs.Pieces.{Part, begins, has, ends}
 use Rattle.device_tree.specs.Nodes.{Nodes, Tree, parts_of_nodes, parts_of_tree}
 use Rattle.device_tree.specs.Trees.{ReadsAs}
-use Rattle.board_ranges.specs.declared.cells.Cells.{Cells}
-use Rattle.board_ranges.specs.declared.kinds.Place.{Place}
-use Rattle.board_ranges.specs.declared.rows.Extent.{Extent}
-use Rattle.board_ranges.specs.Windows.{Path}
-use Rattle.board_ranges.specs.Meaning.{AreCells}
-use Rattle.board_ranges.specs.Refusals.{HasNoRanges, IsNodeFault, SayNone}
+use Rattle.device_tree.specs.declared.cells.Cells.{Cells}
+use Rattle.device_tree.specs.declared.kinds.Place.{Place}
+use Rattle.device_tree.specs.declared.rows.Extent.{Extent}
+use Rattle.device_tree.specs.Windows.{Path}
+use Rattle.device_tree.specs.Meaning.{AreCells}
+use Rattle.device_tree.specs.BoardRefusals.{HasNoRanges, IsNodeFault, SayNone}
 use Rattle.host_tree.specs.declared.fault.HostTreeFault.{HostTreeFault}
 use Rattle.host_tree.specs.declared.fault.HostTreeFault.TheVariants.{NotRead, NotMade}
 use Rattle.host_tree.specs.declared.fault.MakeFault.{MakeFault}

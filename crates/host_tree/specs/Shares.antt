@@ -2,13 +2,13 @@
 use Rattle.std.specs.Prelude.{ℕ, ◌-◌, Bool, true, false, ◌&&◌, ◌||◌, not, leb, ltb}
 use Rattle.std.specs.Prelude.{List, [], ◌∷◌, Option, None, Some, codes}
 use Rattle.device_tree.specs.Pieces.{Part}
-use Rattle.board_ranges.specs.declared.kinds.Kind.{Kind}
-use Rattle.board_ranges.specs.declared.kinds.Kind.TheVariants.{Memory, Device, Machine}
-use Rattle.board_ranges.specs.declared.kinds.Kind.TheVariants.{Reserved, Hart}
-use Rattle.board_ranges.specs.declared.rows.Extent.{Extent}
-use Rattle.board_ranges.specs.Windows.{Path, at_root}
-use Rattle.board_ranges.specs.Properties.{value_in}
-use Rattle.board_ranges.specs.Meaning.{is_there}
+use Rattle.device_tree.specs.declared.kinds.Kind.{Kind}
+use Rattle.device_tree.specs.declared.kinds.Kind.TheVariants.{Memory, Device, Machine}
+use Rattle.device_tree.specs.declared.kinds.Kind.TheVariants.{Reserved, Hart}
+use Rattle.device_tree.specs.declared.rows.Extent.{Extent}
+use Rattle.device_tree.specs.Windows.{Path, at_root}
+use Rattle.device_tree.specs.Properties.{value_in}
+use Rattle.device_tree.specs.Meaning.{is_there}
 
 -- all of an extent is in the range
 abbrev pub is_around : Extent → Extent → Bool

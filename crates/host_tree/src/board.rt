@@ -5,18 +5,17 @@ ghost use Rattle.device_tree.specs.declared.reservations.Reservation.{Reservatio
 ghost use Rattle.device_tree.specs.Pieces.{parts_of};
 ghost use Rattle.device_tree.specs.Nodes.{Tree, parts_of_tree};
 ghost use Rattle.device_tree.specs.Trees.{ReadsAs};
-ghost use Rattle.board_ranges.specs.declared.rows.Extent.{Extent};
-ghost use Rattle.board_ranges.specs.declared.registers.Found.{Found};
-ghost use Rattle.board_ranges.specs.Meaning.{Range, TreeSays, said_of};
-ghost use Rattle.board_ranges.specs.declared.fault.BoardReason.{BoardReason};
-ghost use Rattle.board_ranges.specs.Refusals.{HasNoRanges};
+ghost use Rattle.device_tree.specs.declared.rows.Extent.{Extent};
+ghost use Rattle.device_tree.specs.declared.registers.Found.{Found};
+ghost use Rattle.device_tree.specs.Meaning.{Range, TreeSays, said_of};
+ghost use Rattle.device_tree.specs.declared.board_fault.BoardReason.{BoardReason};
+ghost use Rattle.device_tree.specs.BoardRefusals.{HasNoRanges};
 ghost use Rattle.host_tree.specs.Boards.{extents_of, is_kind, one_extent};
 ghost use Rattle.host_tree.specs.Refusals.{IsBoardOfFault};
 
 use crate::fault::{HostTreeFault, MakeFault};
 use crate::write_fault::WriteFault;
-use board_ranges::{Extent, Found, Kind, ranges_of};
-use device_tree::{PlacedPiece, read_tree};
+use device_tree::{Extent, Found, Kind, PlacedPiece, ranges_of, read_tree};
 use std::alloc::Global;
 
 /// What a board has: the numbers of its harts, each as the base of a row with no size, and ranges of memory.

@@ -2,20 +2,19 @@
 
 ghost use Rattle.std.specs.Prelude.{◌≡◌, List, IfErr, IfOk, Option, None, Some, codes, drop, option_map};
 ghost use Rattle.device_tree.specs.Pieces.{parts_of};
-ghost use Rattle.board_ranges.specs.declared.rows.Extent.{Extent};
-ghost use Rattle.board_ranges.specs.Windows.{path_of};
-ghost use Rattle.board_ranges.specs.Properties.{value_in};
-ghost use Rattle.board_ranges.specs.Meaning.{is_there, live_kind};
-ghost use Rattle.board_ranges.specs.Refusals.{IsNodeFault, IsOwnFault};
-ghost use Rattle.board_ranges.specs.declared.fault.BoardReason.{BoardReason};
-ghost use Rattle.board_ranges.specs.declared.rows.RowFault.{RowFault};
+ghost use Rattle.device_tree.specs.declared.rows.Extent.{Extent};
+ghost use Rattle.device_tree.specs.Windows.{path_of};
+ghost use Rattle.device_tree.specs.Properties.{value_in};
+ghost use Rattle.device_tree.specs.Meaning.{is_there, live_kind};
+ghost use Rattle.device_tree.specs.BoardRefusals.{IsNodeFault, IsOwnFault};
+ghost use Rattle.device_tree.specs.declared.board_fault.BoardReason.{BoardReason};
+ghost use Rattle.device_tree.specs.declared.rows.RowFault.{RowFault};
 ghost use Rattle.host_tree.specs.Shares.{are_hosts, has_hart, is_closed, is_kept};
 ghost use Rattle.host_tree.specs.HostNodes.{AreRegisters};
 
 use crate::fault::{MakeFault, rows_fault};
 use crate::share::Share;
-use board_ranges::{Cells, Extent, Kind, Place, Way, kind_of, rows_of, value_of};
-use device_tree::PlacedPiece;
+use device_tree::{Cells, Extent, Kind, Place, PlacedPiece, Way, kind_of, rows_of, value_of};
 use std::alloc::Global;
 
 /// Whether the host has all rows of registers.

@@ -3,8 +3,7 @@
 ghost use Rattle.std.specs.Prelude.{◌≡◌};
 
 use crate::write_fault::WriteFault;
-use board_ranges::{BoardReason, RowFault};
-use device_tree::TreeFault;
+use device_tree::{BoardReason, RowFault, TreeFault};
 
 /// Why of a tree that was read nothing is made.
 #[derive(Clone, Copy, Debug, PartialEq, Eq)]

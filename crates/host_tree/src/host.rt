@@ -17,9 +17,8 @@ use crate::root::put_children;
 use crate::share::Share;
 use crate::whole::Ends;
 use crate::writer::TreeWriter;
-use board_ranges::{BoardReason, cells_of, head_of};
 use byteorder::{BigEndian, ByteOrder};
-use device_tree::{DeviceTree, PlacedPiece, read_tree};
+use device_tree::{BoardReason, DeviceTree, PlacedPiece, cells_of, head_of, read_tree};
 use std::alloc::Global;
 
 /// Writes the host's tree of a board's, whose pieces these are.

@@ -11,7 +11,7 @@ use crate::platform::PlatformWords;
 use crate::reserved::{Purpose, Reserved};
 use crate::share::Share;
 use crate::write_fault::WriteFault;
-use board_ranges::Extent;
+use device_tree::Extent;
 use std::alloc::Global;
 
 /// How many bytes are free after the tree for who adds to it, where there is room for them.

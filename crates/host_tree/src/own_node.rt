@@ -2,10 +2,10 @@
 
 ghost use Rattle.std.specs.Prelude.{◌≡◌, ◌∷◌, IfErr, OnOk, List, codes, map};
 ghost use Rattle.device_tree.specs.Pieces.{Setting, begins, has, parts_of};
-ghost use Rattle.board_ranges.specs.declared.rows.Extent.{Extent};
-ghost use Rattle.board_ranges.specs.Windows.{path_of};
-ghost use Rattle.board_ranges.specs.Properties.{value_in};
-ghost use Rattle.board_ranges.specs.Meaning.{live_kind};
+ghost use Rattle.device_tree.specs.declared.rows.Extent.{Extent};
+ghost use Rattle.device_tree.specs.Windows.{path_of};
+ghost use Rattle.device_tree.specs.Properties.{value_in};
+ghost use Rattle.device_tree.specs.Meaning.{live_kind};
 ghost use Rattle.host_tree.specs.Refusals.{IsHeadFault};
 ghost use Rattle.host_tree.specs.Written.{Adds};
 ghost use Rattle.host_tree.specs.HostNodes.{AreRegisters, node_settings};
@@ -17,7 +17,7 @@ use crate::properties::put_properties;
 use crate::put::put_begin;
 use crate::share::Share;
 use crate::writer::TreeWriter;
-use board_ranges::{Cells, Head, Place, Way, is_hart};
+use device_tree::{Cells, Head, Place, Way, is_hart};
 use std::alloc::Global;
 
 /// Writes the beginning of a node and its properties, by its place and its bus.

@@ -12,8 +12,8 @@ use crate::fault::MakeFault;
 use crate::put::{put_begin, put_end, put_property};
 use crate::reserved::{Reserved, put_ranges};
 use crate::writer::TreeWriter;
-use board_ranges::Cells;
 use byteorder::{BigEndian, ByteOrder};
+use device_tree::Cells;
 use std::alloc::Global;
 
 /// A number of cells, which are at most four.

@@ -1,7 +1,7 @@
 //! A platform as firmware has it, of which a board may have less.
 
 ghost use Rattle.std.specs.Prelude.{◌≡◌, ◌++◌, ◌∷◌, MatchOption, OnErr, OnOk, IfErr, IfOk, List, [], ℕ, suc, ◌*◌, ◌≤◌, drop, length};
-ghost use Rattle.board_ranges.specs.declared.rows.Extent.{Extent};
+ghost use Rattle.device_tree.specs.declared.rows.Extent.{Extent};
 ghost use Rattle.host_tree.specs.Platforms.{IsClipped, IsFound, clipped_one, flat_words, pairs_in, triples_in};
 ghost use Rattle.host_tree.specs.Refusals.{IsBoardOfFault};
 
@@ -9,7 +9,7 @@ use crate::board::{Board, board_of};
 use crate::fault::{HostTreeFault, MakeFault};
 use crate::there::{harts_there, memory_there};
 use crate::write_fault::WriteFault;
-use board_ranges::Extent;
+use device_tree::Extent;
 use std::alloc::Global;
 
 /// A platform as firmware has it: numbers of 64 bits, as `firmware/frames.h` lays them out.

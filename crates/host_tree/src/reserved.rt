@@ -12,8 +12,8 @@ use crate::fault::MakeFault;
 use crate::put::{put_begin, put_end, put_property};
 use crate::write_fault::WriteFault;
 use crate::writer::TreeWriter;
-use board_ranges::{Cells, Extent};
 use byteorder::{BigEndian, ByteOrder};
+use device_tree::{Cells, Extent};
 use std::alloc::Global;
 
 /// What a range is reserved for.

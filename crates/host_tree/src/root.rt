@@ -3,8 +3,8 @@
 ghost use Rattle.std.specs.Prelude.{◌≡◌, ◌≤◌, ◌++◌, ◌∷◌, IfErr, IfOk, OnOk, List, [], bytes_eq, codes, length, map};
 ghost use Rattle.device_tree.specs.Pieces.{Part, Setting, ends, has, parts_of};
 ghost use Rattle.device_tree.specs.Nodes.{BeginsNoNode, Nodes, node, parts_of_nodes};
-ghost use Rattle.board_ranges.specs.declared.kinds.Place.TheVariants.{BelowRoot};
-ghost use Rattle.board_ranges.specs.Windows.{same};
+ghost use Rattle.device_tree.specs.declared.kinds.Place.TheVariants.{BelowRoot};
+ghost use Rattle.device_tree.specs.Windows.{same};
 ghost use Rattle.host_tree.specs.Written.{Adds};
 ghost use Rattle.host_tree.specs.HostNodes.{HostNodes, IsChild};
 ghost use Rattle.host_tree.specs.HostTrees.{portion_of};
@@ -19,8 +19,7 @@ use crate::reserved::{Reserved, put_ranges};
 use crate::share::Share;
 use crate::walk::put_nodes;
 use crate::writer::TreeWriter;
-use board_ranges::{Cells, Head, Place, Way, after_end, head_of, inner_of};
-use device_tree::PlacedPiece;
+use device_tree::{Cells, Head, Place, PlacedPiece, Way, after_end, head_of, inner_of};
 use std::alloc::Global;
 
 /// Whether a node of that name has the ranges that are reserved.

@@ -1,10 +1,10 @@
 //! What a host has of the board.
 
 ghost use Rattle.std.specs.Prelude.{◌≡◌, drop};
-ghost use Rattle.board_ranges.specs.Windows.{path_of};
+ghost use Rattle.device_tree.specs.Windows.{path_of};
 ghost use Rattle.host_tree.specs.Shares.{is_around, is_hosts, is_within};
 
-use board_ranges::{Extent, Way};
+use device_tree::{Extent, Way};
 
 /// What a host has of the board: the harts below this number, and ranges of addresses, of devices and of memory.
 #[derive(Clone, Copy)]

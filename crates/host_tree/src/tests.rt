@@ -1,7 +1,7 @@
 //! A small board, and the tree of its host.
 
 use crate::{Purpose, Reserved, Share, board_of, host_tree};
-use board_ranges::Extent;
+use device_tree::Extent;
 use std::alloc::Global;
 use std::process::Abort;
 

@@ -3,7 +3,7 @@
 ghost use Rattle.std.specs.Prelude.{◌≡◌, ◌↔◌, ◌<◌, ◌≤◌, ◌+◌, ◌*◌, ◌^◌, ℕ, IsTrue, IfSome, IfNone, MatchOption, drop};
 ghost use Rattle.host_tree.specs.Boards.{AreThere, HartsThere, Has, IsHart};
 
-use board_ranges::Extent;
+use device_tree::Extent;
 
 /// How many bytes from an address on one of the ranges has, where it has the address.
 fn left_at(memory: &[Extent], address: u128) -> Option<u64>

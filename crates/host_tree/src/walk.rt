@@ -3,7 +3,7 @@
 ghost use Rattle.std.specs.Prelude.{◌≡◌, ◌≤◌, ◌++◌, IfErr, IfOk, List, [], length};
 ghost use Rattle.device_tree.specs.Pieces.{Part, parts_of};
 ghost use Rattle.device_tree.specs.Nodes.{BeginsNoNode, Nodes, parts_of_nodes};
-ghost use Rattle.board_ranges.specs.Windows.{path_of};
+ghost use Rattle.device_tree.specs.Windows.{path_of};
 ghost use Rattle.host_tree.specs.Refusals.{AreRefused};
 ghost use Rattle.host_tree.specs.Written.{Adds};
 ghost use Rattle.host_tree.specs.HostNodes.{HostNodes};
@@ -14,8 +14,7 @@ use crate::own_node::put_head;
 use crate::put::put_end;
 use crate::share::Share;
 use crate::writer::TreeWriter;
-use board_ranges::{Cells, Place, Way, after_end, head_of, inner_of};
-use device_tree::PlacedPiece;
+use device_tree::{Cells, Place, PlacedPiece, Way, after_end, head_of, inner_of};
 use std::alloc::Global;
 
 /// Writes the nodes in front as the host has them, and answers the pieces behind them.

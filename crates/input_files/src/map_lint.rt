@@ -1,7 +1,7 @@
 //! The lint of a map file.
 
 ghost use Rattle.std.specs.Prelude.{◌≡◌, ◌-◌, ◌^◌, ◌<◌, Bool, Err, IfOk, Ok, ℕ, List, length, true, false};
-ghost use Rattle.byte_streams.specs.Writings.{writing, Breaks, TakesAll};
+ghost use Rattle.text_lines.specs.Writings.{writing, Breaks, TakesAll};
 ghost use Rattle.permission_map.specs.declared.runs.Run.{Run};
 ghost use Rattle.map_text.specs.MapFile.{Makes};
 ghost use Rattle.input_files.specs.declared.lint_fault.LintFault as LintFault;
@@ -9,10 +9,10 @@ ghost use Rattle.input_files.specs.Maps.{IsAtFault, IsVerdictOfLines};
 
 use crate::LintFault;
 use crate::map_faults::{map_findings, push_map_findings};
-use byte_streams::{Sink, write_whole};
 use map_text::{MapFileFault, map_of};
 use permission_map::Memory;
 use std::alloc::{AllocError, Global};
+use text_lines::{Sink, write_whole};
 
 /// Whether the file is a map.
 fn is_map(alloc: Global, bytes: &[u8]) -> Result<bool, Memory>

@@ -1,7 +1,7 @@
 //! The lint of a platform file.
 
 ghost use Rattle.std.specs.Prelude.{◌≡◌, Bool, List, ℕ, Err, IfOk};
-ghost use Rattle.byte_streams.specs.Writings.{writing, Breaks, TakesAll};
+ghost use Rattle.text_lines.specs.Writings.{writing, Breaks, TakesAll};
 ghost use Rattle.toml.specs.Errors.{IsMemory, IsWithin, span_start};
 ghost use Rattle.input_files.specs.Platforms.{IsPlatformVerdict, IsTextVerdict};
 ghost use Rattle.input_files.specs.declared.lint_fault.LintFault as LintFault;
@@ -13,10 +13,9 @@ use crate::platform::{DocumentFault, read_document};
 use crate::platform_words::push_breach;
 use crate::positions::{push_found, push_position};
 use crate::warnings::warnings;
-use byte_streams::{Sink, write_whole};
 use std::alloc::{AllocError, Global};
 use std::str;
-use text_lines::push;
+use text_lines::{Sink, push, write_whole};
 use toml::de::Error;
 
 /// How many bytes of a text come before the place where the library stopped reading it.

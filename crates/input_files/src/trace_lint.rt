@@ -1,17 +1,16 @@
 //! The lint of a trace.
 
 ghost use Rattle.std.specs.Prelude.{◌≡◌, ◌==◌, ◌-◌, ◌^◌, ◌<◌, Err, IfOk, Ok, ℕ, List, false, length, map, true};
-ghost use Rattle.byte_streams.specs.Writings.{writing, Breaks, TakesAll};
+ghost use Rattle.text_lines.specs.Writings.{writing, Breaks, TakesAll};
 ghost use Rattle.input_files.specs.declared.lint_fault.LintFault as LintFault;
 ghost use Rattle.input_files.specs.Traces.{findings_in, is_trace, told_at};
 
 use crate::LintFault;
 use crate::taker::{Taker, fault_of};
 use crate::trace_words::push_line_fault;
-use byte_streams::{Sink, write_whole};
 use hart_trace::LineFault;
 use std::alloc::{AllocError, Global};
-use text_lines::split_line;
+use text_lines::{Sink, split_line, write_whole};
 
 /// A line that is not taken, and why.
 #[derive(Clone, Copy)]

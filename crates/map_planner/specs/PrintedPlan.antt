@@ -1,7 +1,7 @@
 -- The plan of the map that a source holds, printed.
 use Rattle.std.specs.Prelude.{ℕ, ◌<◌, ◌≤◌, ◌^◌, List, Option, length}
 use Rattle.std.specs.Io.KnownBytes.{Consumes, IsAtEnd}
-use Rattle.byte_streams.specs.Writings.{Breaks, TakesAll, Writing}
+use Rattle.text_lines.specs.Writings.{Breaks, TakesAll, Writing}
 use Rattle.pmp_encoding.specs.declared.limit.Limit.TheVariants.{Sixteen}
 use Rattle.pmp_encoding.specs.declared.region.Entry.{Entry}
 use Rattle.pmp_match.specs.Meaning.{IsFewest, Needs}
@@ -11,7 +11,7 @@ use Rattle.prefix_tree.specs.TreeOf.{tree_of}
 use Rattle.entry_planner.specs.Choice.{AreChosen}
 use Rattle.entry_planner.specs.Order.{AreInOrder}
 use Rattle.map_text.specs.MapFile.{FaultAt, Makes}
-use Rattle.printed_lines.specs.Plans.{IsPlanText}
+use Rattle.map_text.specs.Plans.{IsPlanText}
 use Rattle.pmp_encoding.specs.declared.xlen.Xlen.TheVariants.{Rv64}
 
 -- the plan of the map that the bytes of a map file make: of the lists of fewest entries the one

@@ -7,10 +7,10 @@
 mod printed_plan;
 
 use crate::printed_plan::{PlanFault, print_plan_in};
-use byte_streams::{Counted, HeldSink};
 use program_files::{FileToRead, RetryInterrupted};
 use std::env;
 use std::process::ExitCode;
+use text_lines::{Counted, HeldSink};
 
 /// The status where there is no plan to print.
 const NO_PLAN: u8 = 1;

@@ -1,18 +1,17 @@
 //! The plan of the map that a source holds, printed.
 
 ghost use Rattle.std.specs.Prelude.{◌≡◌, ◌≢◌, ℕ, ◌-◌, ◌^◌, ◌<◌, List, Err, IfErr, IfOk, OnOk, length};
-ghost use Rattle.byte_streams.specs.Streams.{GrowsByOne};
-ghost use Rattle.byte_streams.specs.Writings.{writing, IsUnwritten};
+ghost use Rattle.text_lines.specs.Streams.{GrowsByOne};
+ghost use Rattle.text_lines.specs.Writings.{writing, IsUnwritten};
 ghost use Rattle.map_text.specs.MapFile.{FaultAt, IsUnknown, MakesFirst, MakesTooMany};
 ghost use Rattle.map_planner.specs.PrintedPlan.{BreaksOff, HasFault, IsPlanOf, IsRead, IsTooLarge, NeedsMore, PrintsPlan};
 
-use byte_streams::{DeviceFault, Sink, Source, SourceFault};
 use entry_planner::{Plan, plan_map};
-use map_text::{MAP_BYTES, MapFileFault, map_of};
+use map_text::{MAP_BYTES, MapFileFault, map_of, print_plan};
 use pmp_encoding::{Limit, PackedEntry, Xlen};
-use printed_lines::print_plan;
 use program_files::read_whole;
 use std::alloc::Global;
+use text_lines::{DeviceFault, Sink, Source, SourceFault};
 
 /// Why a plan is not printed whole.
 #[derive(Clone, Copy, Debug)]

@@ -5,3 +5,6 @@ pub mod Joined
 pub mod Leaves
 pub mod Nested
 pub mod Pieces
+mod Rowed
+mod Three
+mod Four

@@ -4,3 +4,10 @@ pub mod Meetings
 pub mod Stretches
 pub mod JsonTables
 pub mod FormattedTables
+pub mod Names
+pub mod RegisterRows
+pub mod Heads
+pub mod SharedTexts
+pub mod CTexts
+pub mod AsmTexts
+pub mod JsonTexts

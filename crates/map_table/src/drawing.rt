@@ -5,8 +5,8 @@ ghost use Rattle.map_table.specs.Rows.{IsRow};
 
 use crate::fields::short_size;
 use crate::{ExtentTree, Stretch, number_line};
+use map_text::letters;
 use permission_map::Memory;
-use printed_lines::letters;
 use std::alloc::{AllocError, Global};
 use text_lines::Line;
 

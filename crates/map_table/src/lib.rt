@@ -22,21 +22,31 @@
 //! ```
 #![tactic(auto)]
 
+mod asm_rows;
+mod c_rows;
+mod c_writes;
 mod covering;
 mod drawing;
 mod extent_tree;
 mod fields;
+mod formats;
+mod heads;
 mod hull_tree;
 mod json;
+mod json_registers;
+mod names;
 mod overridden;
 mod overridden_entries;
+mod register_rows;
 mod rows;
+mod shared;
 mod standing;
 mod stretch;
 mod table;
 mod tables;
 
 pub use extent_tree::ExtentTree;
+pub use formats::{print_asm, print_c, print_json};
 pub use rows::{count_line, number_line};
 pub use stretch::{Stretch, extents_of, stretches, stretches_by_entries};
 pub use table::{extent_table, table_of};

@@ -1,3 +1,5 @@
 mod Followed
 mod Growing
 mod PlainSettings
+mod Printed
+mod EntryLines

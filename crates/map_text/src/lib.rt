@@ -9,8 +9,21 @@
 //! ```
 #![tactic(auto)]
 
+mod digests;
+mod entry_lines;
+mod fields;
+mod line_texts;
 mod map_file;
 mod map_lines;
+mod placed;
+mod plan;
 
+pub use digests::{digest_text, measure_line};
+pub use fields::{letters, push_size};
+pub use line_texts::{
+    accepted_line, accepted_of_line, count_line, push_register, refused_line, word_line,
+};
 pub use map_file::{MAP_BYTES, MapFileFault, map_of};
 pub use map_lines::raw_says;
+pub use placed::{entry_from, room_from, word_from};
+pub use plan::print_plan;

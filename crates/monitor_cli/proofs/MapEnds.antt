@@ -2,7 +2,7 @@
 use Rattle.std.proofs.Common.{◌≡◌, ◌^◌, ℕ, List, true, Result, Ok, Err, inl, inr}
 use Rattle.std.specs.Borrow.{Bor}
 use Rattle.board_texts.specs.Boards.{is_tree}
-use Rattle.byte_streams.specs.Writings.{Writing}
+use Rattle.text_lines.specs.Writings.{Writing}
 use Rattle.command_line.specs.declared.options.Options.{Options}
 use Rattle.program_files.specs.declared.trouble.Trouble.{Trouble}
 use Rattle.program_files.specs.Reading.{HasBytes, Reading}

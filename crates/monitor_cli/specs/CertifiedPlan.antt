@@ -4,8 +4,8 @@ use Rattle.std.specs.Prelude.{None}
 use Rattle.std.specs.Prelude.{length}
 use Rattle.std.specs.Borrow.{Bor}
 use Rattle.std.specs.Io.KnownBytes.{Appends}
-use Rattle.byte_streams.specs.Streams.{GrowsByOne}
-use Rattle.byte_streams.specs.Writings.{Breaks, IsUnwritten, TakesAll, Writing, writing}
+use Rattle.text_lines.specs.Streams.{GrowsByOne}
+use Rattle.text_lines.specs.Writings.{Breaks, IsUnwritten, TakesAll, Writing, writing}
 use Rattle.pmp_encoding.specs.declared.bank.Bank.{Bank}
 use Rattle.pmp_encoding.specs.declared.limit.Limit.{Limit}
 use Rattle.pmp_encoding.specs.declared.perm.Perm.TheVariants.{NoAccess}

@@ -4,7 +4,7 @@ use Rattle.byteorder.specs.Endian.{little_bytes}
 use Rattle.enclave_table.specs.Enclaves.{EnclaveTable, Live}
 use Rattle.enclave_table.specs.Digests.{AnswersWord}
 use Rattle.enclave_table.specs.declared.enclave.Enclave.{Enclave}
-use Rattle.printed_lines.specs.Texts.{measure_text}
+use Rattle.map_text.specs.Texts.{measure_text}
 
 -- the digest of the enclave of an id, by its four words
 pub record IsDigest (table : EnclaveTable) (id : ℕ) (digest : List ℕ) : Type 0 where

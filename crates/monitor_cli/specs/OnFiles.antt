@@ -1,11 +1,11 @@
 -- A task that is done on its files and on the standard streams.
 use Rattle.std.specs.Prelude.{◌≡◌, ℕ, ◌<◌, ◌≤◌, List, [], true, Option, None}
 use Rattle.std.specs.Io.KnownBytes.{append_known, Keeps}
-use Rattle.byte_streams.specs.declared.held_sink.HeldSink.{HeldSink}
-use Rattle.byte_streams.specs.HeldSink.{contents_of, failed_writes, held_in, stalled_writes}
-use Rattle.byte_streams.specs.HeldSink.{writer_of, TakesFront}
-use Rattle.byte_streams.specs.Streams.{failures_of}
-use Rattle.byte_streams.specs.Writings.{writing}
+use Rattle.text_lines.specs.declared.held_sink.HeldSink.{HeldSink}
+use Rattle.text_lines.specs.HeldSink.{contents_of, failed_writes, held_in, stalled_writes}
+use Rattle.text_lines.specs.HeldSink.{writer_of, TakesFront}
+use Rattle.text_lines.specs.Streams.{failures_of}
+use Rattle.text_lines.specs.Writings.{writing}
 use Rattle.program_files.specs.declared.certificate_file.CertificateFile.{CertificateFile}
 use Rattle.program_files.specs.declared.devices.RetryInterrupted.{RetryInterrupted}
 use Rattle.program_files.specs.declared.reason.Explained.{Explained}

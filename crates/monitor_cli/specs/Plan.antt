@@ -2,18 +2,18 @@
 use Rattle.std.specs.Prelude.{◌≡◌, ◌⊎◌, ℕ, ◌-◌, min, List, Option, Some, None, Result, Ok, Err}
 use Rattle.std.specs.Prelude.{option_map}
 use Rattle.std.specs.Borrow.{Bor}
-use Rattle.byte_streams.specs.Writings.{Breaks, IsUnwritten, TakesAll, Writing}
+use Rattle.text_lines.specs.Writings.{Breaks, IsUnwritten, TakesAll, Writing}
 use Rattle.pmp_encoding.specs.declared.limit.Limit.{Limit}
 use Rattle.pmp_encoding.specs.declared.region.Entry.{Entry}
 use Rattle.pmp_encoding.specs.Limits.{limit_number}
 use Rattle.permission_map.specs.declared.runs.Run.{Run}
 use Rattle.permission_map.specs.Runs.{view_of_runs}
-use Rattle.printed_lines.specs.Plans.{IsPlanText}
+use Rattle.map_text.specs.Plans.{IsPlanText}
 use Rattle.pmp_encoding.specs.declared.xlen.Xlen.{Xlen}
 use Rattle.pmp_encoding.specs.Widths.{AreReached}
-use Rattle.register_formats.specs.AsmTexts.{IsAsmText}
-use Rattle.register_formats.specs.CTexts.{IsCText}
-use Rattle.register_formats.specs.JsonTexts.{IsJsonText}
+use Rattle.map_table.specs.AsmTexts.{IsAsmText}
+use Rattle.map_table.specs.CTexts.{IsCText}
+use Rattle.map_table.specs.JsonTexts.{IsJsonText}
 use Rattle.command_line.specs.declared.options.Format.{Format}
 use Rattle.command_line.specs.declared.options.Format.TheVariants as formats
 use Rattle.program_files.specs.declared.trouble.Trouble.{Trouble}

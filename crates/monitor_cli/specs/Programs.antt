@@ -1,6 +1,6 @@
 -- What a task comes to, and the status of the program.
 use Rattle.std.specs.Prelude.{◌≡◌, ℕ, Bool, Result}
-use Rattle.byte_streams.specs.Writings.{Writing}
+use Rattle.text_lines.specs.Writings.{Writing}
 use Rattle.command_line.specs.declared.options.Options.{Options}
 use Rattle.command_line.specs.declared.request.Request.{Request}
 use Rattle.command_line.specs.declared.task.Task.{Task}

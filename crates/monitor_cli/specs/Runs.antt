@@ -3,8 +3,8 @@ use Rattle.std.specs.Prelude.{◌≡◌, ℕ, ◌≤◌, Bool, true, false, List
 use Rattle.std.specs.Prelude.{Err}
 use Rattle.std.specs.Borrow.{Bor}
 use Rattle.std.specs.Io.KnownBytes.{Appends}
-use Rattle.byte_streams.specs.Streams.{WriteFails}
-use Rattle.byte_streams.specs.Writings.{IsUnwritten, IsWell, TakesPart, Writing}
+use Rattle.text_lines.specs.Streams.{WriteFails}
+use Rattle.text_lines.specs.Writings.{IsUnwritten, IsWell, TakesPart, Writing}
 use Rattle.text_lines.specs.declared.fault.RunFault.{RunFault}
 use Rattle.text_lines.specs.LineLoop.{CountsReads, CountsWrites, DoesAll, Meaning}
 use Rattle.enclave_table.specs.Boot.{IsBootFault}

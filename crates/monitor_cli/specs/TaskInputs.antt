@@ -1,8 +1,8 @@
 -- What reads at the places of a task.
 use Rattle.std.specs.Prelude.{◌≡◌, ℕ, List, [], Option, Some, None}
 use Rattle.std.specs.Borrow.{Bor}
-use Rattle.byte_streams.specs.declared.streams.Counted.{Counted}
-use Rattle.byte_streams.specs.Streams.{failures_of, inner_of}
+use Rattle.text_lines.specs.declared.streams.Counted.{Counted}
+use Rattle.text_lines.specs.Streams.{failures_of, inner_of}
 use Rattle.program_files.specs.declared.devices.InputToRead.{InputToRead}
 use Rattle.program_files.specs.declared.reason.Explained.{Explained}
 use Rattle.command_line.specs.declared.task.Task.{Task}

@@ -7,7 +7,7 @@ use Rattle.certificate_check.specs.Certificates.{IsRight, RefusalStands}
 use Rattle.certificate_check.specs.Refusals.{refusal_name, refusal_number}
 use Rattle.certificate_format.specs.declared.header.Version.{Version}
 use Rattle.certificate_format.specs.declared.header.Version.TheVariants.{One, Two}
-use Rattle.printed_lines.specs.Texts.{accepted_text, accepted_of_text, refused_text}
+use Rattle.map_text.specs.Texts.{accepted_text, accepted_of_text, refused_text}
 
 -- a yes: of a certificate of version 2 it names the limit
 abbrev pub accepted_by : Version → ℕ → List ℕ

@@ -1,17 +1,17 @@
 //! `audit`: registers against a map.
 
 ghost use Rattle.std.specs.Prelude.{◌-◌, ◌^◌, ◌<◌};
-ghost use Rattle.byte_streams.specs.Writings.{writing};
+ghost use Rattle.text_lines.specs.Writings.{writing};
 ghost use Rattle.program_files.specs.Reading.{reading};
 ghost use Rattle.monitor_cli.specs.Commands.{Ends, IsAudited, IsUnaudited};
 
 use crate::certified_plan::plan_within;
 use crate::listings::listing_trouble;
-use byte_streams::{Sink, Source};
 use command_line::Options;
 use program_files::{REGISTER_BYTES, Trouble, bytes_in, map_in};
 use register_audit::audit;
 use std::alloc::Global;
+use text_lines::{Sink, Source};
 
 /// Audits registers against a map for a mode, and answers whether they mean it. With `all` there is a line for each stretch that
 /// differs, otherwise for the first alone.

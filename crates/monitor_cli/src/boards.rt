@@ -1,16 +1,15 @@
 //! Commands that print the text of a board: `platform`, and `map` of a device tree.
 
 ghost use Rattle.std.specs.Prelude.{◌≡◌, ◌⊎◌, ◌^◌, ◌<◌, ℕ, List};
-ghost use Rattle.byte_streams.specs.Writings.{writing};
+ghost use Rattle.text_lines.specs.Writings.{writing};
 ghost use Rattle.program_files.specs.Reading.{reading};
 ghost use Rattle.monitor_cli.specs.Commands.{Ends, IsPlatformTold, IsPlatformUntold};
 
-use board_ranges::{BoardFault, BoardReason, RowFault};
 use board_texts::{BoardTextFault, fault_line, platform_text_of};
-use byte_streams::{Sink, Source, write_whole};
-use device_tree::{TreeFault, TreeReason};
+use device_tree::{BoardFault, BoardReason, RowFault, TreeFault, TreeReason};
 use program_files::{Trouble, bytes_in};
 use std::alloc::Global;
+use text_lines::{Sink, Source, write_whole};
 
 /// How many bytes a device tree may have.
 pub const TREE_BYTES: usize = 1 << 20;

@@ -1,19 +1,19 @@
 //! What takes a plan's certificate.
 
 ghost use Rattle.std.specs.Prelude.{◌≡◌, ℕ, Bool, List, Option, IfErr, IfOk, length, false};
-ghost use Rattle.byte_streams.specs.Writings.{writing, TakesAll};
+ghost use Rattle.text_lines.specs.Writings.{writing, TakesAll};
 ghost use Rattle.permission_map.specs.Runs.{view_of_runs};
 ghost use Rattle.prefix_tree.specs.Counts.{splits};
 ghost use Rattle.prefix_tree.specs.TreeOf.{tree_of};
 ghost use Rattle.plan_certificate.specs.Written.{certificate_for};
 ghost use Rattle.monitor_cli.specs.CertifiedPlan.{placing, CertificateNotWritten};
 
-use byte_streams::{DeviceFault, Sink};
 use entry_planner::Plan;
 use permission_map::PermissionMap;
 use plan_certificate::send_map;
 use pmp_encoding::{Limit, PackedEntry};
 use program_files::WholeSink;
+use text_lines::{DeviceFault, Sink};
 
 /// A certificate is put in its place whole, or not at all.
 pub struct Whole;

@@ -2,7 +2,7 @@
 
 ghost use Rattle.std.specs.Prelude.{◌≡◌, ◌≢◌, ◌≤◌, ◌<◌, ◌^◌, IfErr, IfOk, Some, length};
 ghost use Rattle.std.specs.Borrow.{Bor};
-ghost use Rattle.byte_streams.specs.Writings.{writing, TakesAll};
+ghost use Rattle.text_lines.specs.Writings.{writing, TakesAll};
 ghost use Rattle.pmp_encoding.specs.declared.limit.Limit.{Limit};
 ghost use Rattle.pmp_encoding.specs.Widths.{AreReached};
 ghost use Rattle.permission_map.specs.Runs.{view_of_runs};
@@ -12,12 +12,12 @@ ghost use Rattle.plan_certificate.specs.Written.{certificate_for};
 ghost use Rattle.monitor_cli.specs.CertifiedPlan.{placing, IsBeyond, IsCertificateOf, IsNotPut, IsPlanned, IsPut, IsUnplanned, IsWithin};
 
 use crate::certificate_sink::CertificateSink;
-use byte_streams::DeviceFault;
 use entry_planner::{Plan, plan_map};
 use permission_map::PermissionMap;
 use pmp_encoding::{Limit, PackedEntry, Xlen};
 use program_files::Trouble;
 use std::alloc::Global;
+use text_lines::DeviceFault;
 
 /// Refuses a plan that is beyond the bound.
 fn within<'a>(plan: &Plan<PackedEntry>, most: Option<u64>) -> Result<(), Trouble<'a>>

@@ -1,25 +1,24 @@
 //! `check`: a certificate against a map.
 
 ghost use Rattle.std.specs.Prelude.{◌≡◌, ℕ, ◌-◌, ◌^◌, ◌<◌, List, IfErr, IfOk};
-ghost use Rattle.byte_streams.specs.Writings.{writing};
+ghost use Rattle.text_lines.specs.Writings.{writing};
 ghost use Rattle.pmp_match.specs.Meaning.{View};
 ghost use Rattle.certificate_check.specs.declared.refusal.CheckRefusal.{CheckRefusal};
 ghost use Rattle.certificate_check.specs.Certificates.{IsJudged, IsRight, RefusalStands};
 ghost use Rattle.certificate_check.specs.Refusals.{refusal_name, refusal_number};
 ghost use Rattle.permission_map.specs.Runs.{view_of_runs};
-ghost use Rattle.printed_lines.specs.Texts.{refused_text};
+ghost use Rattle.map_text.specs.Texts.{refused_text};
 ghost use Rattle.program_files.specs.Reading.{reading, HasBytes, HasNoBytes};
 ghost use Rattle.monitor_cli.specs.Commands.{Ends, IsChecked, IsUnchecked};
 ghost use Rattle.monitor_cli.specs.Verdicts.{accepted_by, IsVerdict};
 
-use byte_streams::{Sink, Source, write_whole};
 use certificate_check::{CheckRefusal, check_source};
 use certificate_format::{Header, Version};
+use map_text::{accepted_line, accepted_of_line, refused_line};
 use permission_map::PermissionMap;
-use printed_lines::{accepted_line, accepted_of_line, refused_line};
 use program_files::{CERTIFICATE_BYTES, Trouble, map_in};
 use std::alloc::Global;
-use text_lines::Line;
+use text_lines::{Line, Sink, Source, write_whole};
 
 /// The line for a yes: of a certificate of version 2 it names the limit.
 fn yes_line(header: &Header) -> Line

@@ -6,14 +6,13 @@ ghost use Rattle.std.specs.Prelude.{◌<◌, ◌^◌};
 use crate::boards::TREE_BYTES;
 use crate::lint::{TRACE_BYTES, lint_as_platform, lint_as_trace, lint_listing, lint_map};
 use crate::platform_inputs::PLATFORM_BYTES;
-use byte_streams::{Counted, Source};
 use input_files::Taker;
 use pmp_encoding::Xlen;
 use program_files::{
     CERTIFICATE_BYTES, MAP_BYTES, REGISTER_BYTES, Trouble, bytes_in, has_more, shown,
 };
 use std::alloc::{AllocError, Global};
-use text_lines::split_line;
+use text_lines::{Counted, Source, split_line};
 
 /// What is said of an input, where there is something to say.
 pub(crate) type Hint<'a> = Result<Option<Vec<u8>>, Trouble<'a>>;

@@ -8,15 +8,15 @@ use crate::lint::names_platform;
 use crate::plan::most_entries;
 use crate::platform_inputs::platform_in;
 use board_texts::is_tree;
-use byte_streams::{Sink, Source, write_whole};
 use command_line::{LintKind, Options, Request, Task};
 use hart_sim::Machine;
 use input_files::Taker;
+use map_text::room_from;
 use platforms::{BootFault, Platform};
 use pmp_encoding::{Limit, Xlen};
-use printed_lines::room_from;
 use program_files::{Trouble, map_by};
 use std::alloc::Global;
+use text_lines::{Sink, Source, write_whole};
 
 /// How many entries a map may need.
 #[derive(Clone, Copy)]

@@ -1,7 +1,7 @@
 //! `judge`: the accesses of a trace, by the entries of a map, or by registers as they are.
 
 ghost use Rattle.std.specs.Prelude.{◌-◌, ◌^◌, ◌<◌, IfErr, IfOk, List, Option, Some, ℕ, ◌≡◌, option_map};
-ghost use Rattle.byte_streams.specs.Writings.{writing, Breaks, IsWell};
+ghost use Rattle.text_lines.specs.Writings.{writing, Breaks, IsWell};
 ghost use Rattle.hart_trace.specs.Answers.{answered_by};
 ghost use Rattle.pmp_encoding.specs.Limits.{limit_number};
 ghost use Rattle.trace_answers.specs.Comparisons.{LineAnswer, found_in};
@@ -14,7 +14,6 @@ ghost use Rattle.monitor_cli.specs.Judge.{JudgesBy, JudgesByMap, JudgesByRegiste
 use crate::answered::{Answered, noted, with_notes};
 use crate::certified_plan::plan_within;
 use arrayvec::ArrayVec;
-use byte_streams::{DeviceFault, LineSink, Sink, Source, write_whole};
 use command_line::{Answers, Options};
 use hart_trace::{AccessJudge, judge_lines};
 use pmp_encoding::{Bank, Limit};
@@ -22,6 +21,7 @@ use pmp_match::{Deciders, Segments};
 use program_files::{REGISTER_BYTES, Trouble, bytes_in, map_in};
 use register_audit::{ListingNotes, ListingRules, Ruled, rules_in};
 use std::alloc::Global;
+use text_lines::{DeviceFault, LineSink, Sink, Source, write_whole};
 use trace_answers::{CommentNote, Compared, Difference, compare_judged, explain_judged};
 
 /// Reports the first difference, where there is one, and answers the status.

@@ -7,7 +7,6 @@ ghost use Rattle.program_files.specs.Reading.{reading, HasBytes, HasNoBytes};
 ghost use Rattle.monitor_cli.specs.Lints.{names_platform, Finds, HasHarts, HasNoHarts, IsFound, IsListingFound, IsOfDevices, Lints};
 
 use crate::platform_inputs::read_platform;
-use byte_streams::{Sink, Source};
 use command_line::{LintKind, Options};
 use input_files::{LintFault, Taker, lint_platform, lint_trace};
 use itoa::Buffer;
@@ -15,6 +14,7 @@ use pmp_encoding::Xlen;
 use program_files::{MAP_BYTES, REGISTER_BYTES, Trouble, bytes_in, shown, text_of, write_named};
 use register_audit::{is_listing, listing_of};
 use std::alloc::Global;
+use text_lines::{Sink, Source};
 
 /// How many bytes a trace may have that is linted.
 pub const TRACE_BYTES: usize = 1 << 30;

@@ -2,7 +2,7 @@
 
 ghost use Rattle.std.specs.Prelude.{◌≡◌, ◌↔◌, ◌-◌, ◌^◌, ◌<◌, length, true};
 ghost use Rattle.pmp_match.specs.declared.access.Mode as Mode;
-ghost use Rattle.byte_streams.specs.Writings.{writing};
+ghost use Rattle.text_lines.specs.Writings.{writing};
 ghost use Rattle.program_files.specs.Reading.{reading};
 ghost use Rattle.monitor_cli.specs.Answered.{status_in};
 ghost use Rattle.monitor_cli.specs.Commands.{Ends, IsMapped, IsTreeMapped, IsTreeUnmapped, IsUnmapped};
@@ -11,12 +11,12 @@ use crate::answered::{Answered, answer_status, noted, quiet};
 use crate::boards::board_trouble;
 use crate::listings::listing_trouble;
 use board_texts::{is_tree, map_text_of};
-use byte_streams::{Sink, Source, write_whole};
 use command_line::Options;
 use pmp_match::Mode;
 use program_files::{REGISTER_BYTES, Trouble, bytes_in};
 use register_audit::{MapOfFault, print_map_of};
 use std::alloc::Global;
+use text_lines::{Sink, Source, write_whole};
 use trace_answers::CommentNote;
 
 /// Whether a mode is machine mode.

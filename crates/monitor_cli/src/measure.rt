@@ -2,17 +2,16 @@
 
 ghost use Rattle.std.specs.Prelude.{◌≡◌, ◌+◌, ◌++◌, ◌<◌, ◌≤◌, IfOk, take, true, false};
 ghost use Rattle.measurement.specs.Digests.{blank_page};
-ghost use Rattle.byte_streams.specs.Writings.{writing};
+ghost use Rattle.text_lines.specs.Writings.{writing};
 ghost use Rattle.program_files.specs.Reading.{reading};
 ghost use Rattle.monitor_cli.specs.Commands.{Ends};
 ghost use Rattle.monitor_cli.specs.Measure.{digest_text, enclave_digest, page_of, word_text, IsDigested, IsUndigested};
 
-use byte_streams::{Sink, Source, write_whole};
+use map_text::digest_text;
 use measurement::{Layout, Measure, word};
-use printed_lines::digest_text;
 use program_files::{Trouble, bytes_in};
 use std::alloc::{AllocError, Global};
-use text_lines::{Line, push_decimal, push_hex, push_text};
+use text_lines::{Line, Sink, Source, push_decimal, push_hex, push_text, write_whole};
 
 /// How many pages of text and data an enclave may have.
 const MOST_PAGES: u64 = 1024;

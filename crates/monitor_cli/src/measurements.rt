@@ -2,7 +2,7 @@
 
 ghost use Rattle.std.specs.Prelude.{◌≡◌, ◌-◌, ◌^◌, ◌<◌, ◌≤◌, ◌++◌, ◌⊎◌, ℕ, List, Err, IfErr, IfOk, IfSome, None, true};
 ghost use Rattle.byteorder.specs.Endian.{little_bytes};
-ghost use Rattle.byte_streams.specs.Writings.{writing, Breaks, IsWell, PrintsOne, TakesAll};
+ghost use Rattle.text_lines.specs.Writings.{writing, Breaks, IsWell, PrintsOne, TakesAll};
 ghost use Rattle.enclave_table.specs.Boot.{IsBootFault};
 ghost use Rattle.platforms.specs.declared.boot_fault.BootFault.{BootFault};
 ghost use Rattle.enclave_table.specs.declared.enclave.Enclave.{Enclave};
@@ -14,14 +14,14 @@ ghost use Rattle.monitor_cli.specs.Platforms.{boot_trouble};
 ghost use Rattle.monitor_cli.specs.Runs.{IsMeasured};
 ghost use Rattle.monitor_cli.specs.Measurements.{AreMeasures, IsDigest, IsMeasureText};
 
-use byte_streams::{DeviceFault, Sink, write_whole};
 use byteorder::{ByteOrder, LittleEndian};
 use enclave_table::Table;
 use hart_sim::Machine;
+use map_text::measure_line;
 use platforms::{BootFault, Platform};
-use printed_lines::measure_line;
 use program_files::Trouble;
 use std::alloc::Global;
+use text_lines::{DeviceFault, Sink, write_whole};
 
 /// The most enclaves that are live, and their largest id.
 const ENCLAVES: u64 = 64;

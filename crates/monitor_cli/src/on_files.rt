@@ -2,18 +2,18 @@
 
 ghost use Rattle.std.specs.Prelude.{◌≡◌, IfOk};
 ghost use Rattle.std.specs.Borrow.{Bor};
-ghost use Rattle.byte_streams.specs.HeldSink.{held_in, writer_of};
+ghost use Rattle.text_lines.specs.HeldSink.{held_in, writer_of};
 ghost use Rattle.monitor_cli.specs.OnFiles.{input_over, EndsOnFiles, IsClosed};
 
 use crate::hints::tell_hints;
 use crate::program::perform_request;
 use crate::task_inputs::{inputs, inputs_again};
-use byte_streams::{Held, HeldSink, Sink};
 use command_line::{Request, Subcommand, name_or_none, outline_of};
 use program_files::{CertificateFile, Explained, Reason, RetryInterrupted, Trouble, write_named};
 use std::alloc::{AllocError, Global};
 use std::io::{Read, Write};
 use std::rt::Files;
+use text_lines::{Held, HeldSink, Sink};
 
 /// What is lent to a task beside what it writes to: memory, files and standard input.
 #[derive(Clone, Copy)]

@@ -4,18 +4,18 @@ ghost use Rattle.std.specs.Prelude.{◌≡◌, ◌-◌, ◌^◌, ◌<◌, ℕ, O
 ghost use Rattle.monitor_cli.specs.CertifiedPlan.{placing, IsWithin};
 ghost use Rattle.program_files.specs.Reading.{reading};
 ghost use Rattle.monitor_cli.specs.Plan.{most_entries, IsPrinted, Plans};
-ghost use Rattle.byte_streams.specs.Writings.{writing, PrintsOne};
+ghost use Rattle.text_lines.specs.Writings.{writing, PrintsOne};
 ghost use Rattle.pmp_encoding.specs.Widths.{AreReached};
 
 use crate::certificate_sink::CertificateSink;
 use crate::certified_plan::{plan_within, put_certificate};
-use byte_streams::{DeviceFault, Sink, Source};
 use command_line::{Format, Options};
+use map_table::{print_asm, print_c, print_json};
+use map_text::{print_plan, room_from};
 use pmp_encoding::{Limit, PackedEntry};
-use printed_lines::{print_plan, room_from};
 use program_files::{Trouble, map_in};
-use register_formats::{print_asm, print_c, print_json};
 use std::alloc::Global;
+use text_lines::{DeviceFault, Sink, Source};
 
 /// How many entries a plan may have, where there is a bound: C and assembly are printed of a whole bank alone.
 pub(crate) fn most_entries(

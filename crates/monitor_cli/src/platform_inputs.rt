@@ -6,12 +6,12 @@ ghost use Rattle.input_files.specs.Document.{IsPlatformFile};
 ghost use Rattle.program_files.specs.Reading.{reading};
 ghost use Rattle.monitor_cli.specs.Platforms.{text_trouble, HasNoPlatform, HasPlatform};
 
-use byte_streams::Source;
 use input_files::{TextFault, platform_of};
 use platforms::Platform;
 use program_files::{Trouble, bytes_in};
 use std::alloc::Global;
 use std::str;
+use text_lines::Source;
 
 /// What a fault of a platform's text is for the program.
 fn text_trouble<'a>(file: &'a str, fault: TextFault) -> Trouble<'a>

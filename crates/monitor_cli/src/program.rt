@@ -1,7 +1,7 @@
 //! A task, done on the files and streams that are lent for it.
 
 ghost use Rattle.std.specs.Prelude.{◌≡◌, false};
-ghost use Rattle.byte_streams.specs.Writings.{writing};
+ghost use Rattle.text_lines.specs.Writings.{writing};
 ghost use Rattle.command_line.specs.Requests.{alone};
 ghost use Rattle.program_files.specs.Reading.{reading};
 ghost use Rattle.program_files.specs.Troubles.{status_of};
@@ -21,10 +21,10 @@ use crate::measure::do_measure;
 use crate::plan::do_plan;
 use crate::run::do_run;
 use crate::show::do_show;
-use byte_streams::{Direct, LineSink, Sink, Source, write_whole};
 use command_line::{Request, Task};
 use program_files::{Trouble, WholeSink};
 use std::alloc::Global;
+use text_lines::{Direct, LineSink, Sink, Source, write_whole};
 
 /// Reports the trouble of a task on standard error, or what it says beside its status, and answers that.
 fn report<E: Sink>(done: Result<Answered, Trouble<'_>>, err: &mut E) -> u8

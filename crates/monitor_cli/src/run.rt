@@ -1,7 +1,7 @@
 //! `run`: a trace on a machine that boots on a platform.
 
 ghost use Rattle.std.specs.Prelude.{◌-◌, ◌^◌, ◌<◌};
-ghost use Rattle.byte_streams.specs.Writings.{writing};
+ghost use Rattle.text_lines.specs.Writings.{writing};
 ghost use Rattle.hart_sim.specs.Machines.{KeepsBanksRight};
 ghost use Rattle.hart_sim.specs.Reports.{DoesLine};
 ghost use Rattle.program_files.specs.Reading.{reading};
@@ -14,11 +14,11 @@ use crate::judge::tell_first;
 use crate::measurements::{boot_machine, measure_where};
 use crate::platform_inputs::read_platform;
 use arrayvec::ArrayVec;
-use byte_streams::{LineSink, Source};
 use command_line::Answers;
 use hart_sim::{Machine, run_lines};
 use program_files::Trouble;
 use std::alloc::Global;
+use text_lines::{LineSink, Source};
 use trace_answers::{Compared, Ran, compare_lines, explain_run, print_summary};
 
 /// Runs a trace on a machine, and prints the measurements where they are asked for.

@@ -1,14 +1,13 @@
 //! `show`: a map, or what registers mean, as a table.
 
 ghost use Rattle.std.specs.Prelude.{◌-◌, ◌^◌, ◌<◌, IfOk, length};
-ghost use Rattle.byte_streams.specs.Writings.{writing};
+ghost use Rattle.text_lines.specs.Writings.{writing};
 ghost use Rattle.permission_map.specs.Runs.{view_of_runs};
 ghost use Rattle.program_files.specs.Reading.{reading};
 ghost use Rattle.monitor_cli.specs.Commands.{AreRegistersShown, Ends, HasNoListing, IsMapShown, IsMapUnshown, IsShown, ShowsAs};
 
 use crate::certified_plan::plan_within;
 use crate::listings::listing_trouble;
-use byte_streams::{Sink, Source, write_whole};
 use command_line::{Options, TableFormat};
 use input_files::push_line_costs;
 use map_table::{json_table, picture, table_of};
@@ -17,6 +16,7 @@ use pmp_encoding::{Entry, Limit};
 use program_files::{MAP_BYTES, REGISTER_BYTES, Trouble, bytes_in, map_by};
 use register_audit::print_registers;
 use std::alloc::Global;
+use text_lines::{Sink, Source, write_whole};
 
 /// The table of a map as text, and after it what each of its lines costs, where that is asked for.
 fn text_of(

@@ -3,12 +3,12 @@
 ghost use Rattle.std.specs.Prelude.{◌≡◌};
 ghost use Rattle.monitor_cli.specs.TaskInputs.{reader_in, AreInputs, IsAt, IsFresh};
 
-use byte_streams::Counted;
 use command_line::{InputName, NO_FILE, Task, first_of, second_of};
 use program_files::{Explained, InputToRead};
 use std::fs;
 use std::io::Read;
 use std::rt::Files;
+use text_lines::Counted;
 
 /// What a task reads: its failures are counted, and why the last one came is kept.
 pub type Input<'a, R, S> = Counted<Explained<InputToRead<'a, R, S>>>;

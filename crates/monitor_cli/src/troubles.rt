@@ -2,14 +2,14 @@
 
 ghost use Rattle.std.specs.Prelude.{◌≡◌, MatchResult};
 ghost use Rattle.std.specs.Process.{exit_status};
-ghost use Rattle.byte_streams.specs.Streams.{failures_of};
+ghost use Rattle.text_lines.specs.Streams.{failures_of};
 ghost use Rattle.program_files.specs.Troubles.{trouble_status};
 
-use byte_streams::Counted;
 use program_files::{RetryInterrupted, Trouble};
 use std::alloc::AllocError;
 use std::io::Stderr;
 use std::process::ExitCode;
+use text_lines::Counted;
 
 /// Standard error, where a write that a signal interrupted is tried again.
 pub fn standard_error(rt: &HostRuntime) -> Counted<RetryInterrupted<Stderr>>

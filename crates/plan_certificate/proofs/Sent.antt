@@ -7,7 +7,7 @@ use Rattle.std.proofs.lemmas.Grind.{flat_map-append}
 use Rattle.std.proofs.lemmas.List.{take-append-drop, take_more, flat_map_more, length-drop, append-nil}
 use Rattle.std.specs.List.{flat_map}
 use Rattle.std.specs.Io.KnownBytes.{Appends}
-use Rattle.byte_streams.specs.Streams.{WriteFails}
+use Rattle.text_lines.specs.Streams.{WriteFails}
 use Rattle.pmp_encoding.specs.declared.region.Entry.{Entry}
 use Rattle.prefix_tree.specs.Trees.{PermTree, Split}
 use Rattle.prefix_tree.specs.Counts.{splits}
@@ -16,7 +16,7 @@ use Rattle.entry_planner.specs.Plans.{cost_in, costed}
 use Rattle.certificate_format.specs.declared.costs.SixCosts.{SixCosts}
 use Rattle.certificate_format.specs.Costs.{cost_of, six_of}
 use Rattle.certificate_format.specs.Spelling.{costs_bytes, node_bytes}
-use Rattle.byte_streams.specs.Writings.{Breaks, writing}
+use Rattle.text_lines.specs.Writings.{Breaks, writing}
 use Rattle.plan_certificate.specs.Pieces.{Taken, IsPut, IsCut, taken}
 use Rattle.plan_certificate.specs.Written.{entry_bytes}
 

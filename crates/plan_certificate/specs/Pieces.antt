@@ -1,7 +1,7 @@
 -- How bytes go to a sink a piece at a time.
 use Rattle.std.specs.Prelude.{◌≡◌, ℕ, ◌<◌, List, ◌++◌, length, Option}
 use Rattle.std.specs.Io.KnownBytes.{Appends}
-use Rattle.byte_streams.specs.Streams.{WriteFails}
+use Rattle.text_lines.specs.Streams.{WriteFails}
 
 -- what a sink has taken, where that is known, how often it failed, and how often it took none of
 -- some bytes

@@ -1,7 +1,7 @@
 //! The certificate as bytes in memory.
 
 ghost use Rattle.std.specs.Prelude.{◌≡◌, ◌-◌, ◌*◌, ◌≤◌, ◌<◌, ◌^◌, IfOk, length};
-ghost use Rattle.byte_streams.specs.Writings.{writing, Prints};
+ghost use Rattle.text_lines.specs.Writings.{writing, Prints};
 ghost use Rattle.prefix_tree.specs.Trees.{Fits};
 ghost use Rattle.prefix_tree.specs.Counts.{splits};
 ghost use Rattle.prefix_tree.specs.TreeOf.{tree_of};
@@ -12,12 +12,12 @@ ghost use Rattle.plan_certificate.specs.Written.{version_for, certificate_bytes,
 
 use crate::pieces::send;
 use crate::written_plan::WrittenPlan;
-use byte_streams::{Counted, DeviceFault, Sink};
 use entry_planner::Plan;
 use permission_map::{Memory, PermissionMap};
 use pmp_encoding::{Limit, PackedEntry};
 use prefix_tree::{Halving, MapBlock, Tree};
 use std::alloc::{AllocError, Global};
+use text_lines::{Counted, DeviceFault, Sink};
 
 /// The certificate of the space, whose plan has a given number of split blocks.
 fn write_of<H: Halving, P: WrittenPlan>(

@@ -2,7 +2,7 @@
 
 ghost use Rattle.std.specs.Prelude.{◌≡◌, ◌+◌, ◌-◌, ◌*◌, ◌≤◌, ◌<◌, ◌^◌, ◌∷◌, ◌++◌, ℕ, List, [], IfOk, IfErr, OnOk, length};
 ghost use Rattle.std.specs.List.{flat_map};
-ghost use Rattle.byte_streams.specs.Writings.{writing, Prints};
+ghost use Rattle.text_lines.specs.Writings.{writing, Prints};
 ghost use Rattle.pmp_encoding.specs.declared.perm.Perm.{Perm};
 ghost use Rattle.prefix_tree.specs.Chains.{IsChain};
 ghost use Rattle.prefix_tree.specs.Counts.{splits};
@@ -16,12 +16,12 @@ ghost use Rattle.plan_certificate.specs.Written.{version_for, entry_bytes, certi
 
 use crate::written_plan::WrittenPlan;
 use arrayvec::ArrayVec;
-use byte_streams::{DeviceFault, Sink, write_whole};
 use byteorder::{ByteOrder, LittleEndian};
 use certificate_format::{Header, SixCosts, Version};
 use entry_planner::SplitCosts;
 use pmp_encoding::{Limit, Perm};
 use prefix_tree::{Chain, Halving};
+use text_lines::{DeviceFault, Sink, write_whole};
 
 /// How many bytes go to a sink at a time.
 const PIECE: usize = 16384;

@@ -1,8 +1,8 @@
 -- The numbers of what may come of a device tree.
 use Rattle.std.specs.Prelude.{◌≡◌, ◌⊎◌, ℕ, ℤ, pos}
-use Rattle.board_ranges.specs.declared.rows.Extent.{Extent}
-use Rattle.board_ranges.specs.declared.fault.BoardReason.TheVariants.{BadRows}
-use Rattle.board_ranges.specs.declared.rows.RowFault.TheVariants as rows
+use Rattle.device_tree.specs.declared.rows.Extent.{Extent}
+use Rattle.device_tree.specs.declared.board_fault.BoardReason.TheVariants.{BadRows}
+use Rattle.device_tree.specs.declared.rows.RowFault.TheVariants as rows
 use Rattle.device_tree.specs.declared.fault.TreeReason.TheVariants as trees
 use Rattle.host_tree.specs.declared.fault.HostTreeFault.{HostTreeFault}
 use Rattle.host_tree.specs.declared.fault.HostTreeFault.TheVariants.{NotRead, NotMade}

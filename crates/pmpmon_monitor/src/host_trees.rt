@@ -7,8 +7,7 @@ ghost use Rattle.host_tree.specs.Refusals.{IsBoardOfFault, IsHostTreeFault, IsPl
 ghost use Rattle.host_tree.specs.declared.fault.HostTreeFault.{HostTreeFault};
 ghost use Rattle.pmpmon_monitor.specs.Codes.{IsCode, IsMemory, IsTreeCode, range};
 
-use board_ranges::{BoardReason, Extent, RowFault};
-use device_tree::TreeReason;
+use device_tree::{BoardReason, Extent, RowFault, TreeReason};
 use host_tree::{
     HostTreeFault, MakeFault, PlaceFault, PlatformWords, WriteFault, find_platform, put_host_tree,
 };

@@ -2,14 +2,14 @@
 use Rattle.std.proofs.Common.{ℕ, ◌≡◌, ◌≢◌, ◌<◌, ◌^◌, List, Result, Ok, Err, IfOk, IfErr, length, refl}
 use Rattle.std.specs.Borrow.{Bor}
 use Rattle.std.specs.Io.KnownBytes.{Consumes}
-use Rattle.byte_streams.specs.Streams.{GrowsByOne}
+use Rattle.text_lines.specs.Streams.{GrowsByOne}
 use Rattle.map_text.specs.declared.map_file.MapFileFault.{MapFileFault}
 use Rattle.map_text.specs.declared.map_file.MapFileFault.TheVariants as maps
 use Rattle.map_text.specs.MapFile.{FaultAt, IsUnknown, Makes, MakesFirst, MakesTooMany}
 use Rattle.permission_map.specs.declared.runs.Run.{Run}
 use Rattle.program_files.specs.declared.trouble.Trouble.{Trouble}
-use Rattle.byte_streams.specs.declared.fault.SourceFault.{SourceFault}
-use Rattle.byte_streams.specs.declared.fault.SourceFault.TheVariants as whole
+use Rattle.text_lines.specs.declared.stream_fault.SourceFault.{SourceFault}
+use Rattle.text_lines.specs.declared.stream_fault.SourceFault.TheVariants as whole
 use Rattle.program_files.specs.Reading.{HasBytes, HasMap, HasNoBytes, HasNoMap, IsMapFault, Reading, too_large, cannot_read}
 use Rattle.program_files.specs.Reading as inputs
 use Rattle.program_files.specs.Troubles.{map_trouble, source_trouble}

@@ -5,8 +5,8 @@ use Rattle.text_lines.specs.declared.fault.RunFault.{RunFault}
 use Rattle.text_lines.specs.declared.fault.RunFault.TheVariants as runs
 use Rattle.map_text.specs.declared.map_file.MapFileFault.{MapFileFault}
 use Rattle.map_text.specs.declared.map_file.MapFileFault.TheVariants as maps
-use Rattle.byte_streams.specs.declared.fault.SourceFault.{SourceFault}
-use Rattle.byte_streams.specs.declared.fault.SourceFault.TheVariants as whole
+use Rattle.text_lines.specs.declared.stream_fault.SourceFault.{SourceFault}
+use Rattle.text_lines.specs.declared.stream_fault.SourceFault.TheVariants as whole
 use Rattle.program_files.specs.declared.trouble.Trouble.{Trouble}
 use Rattle.program_files.specs.declared.trouble.Trouble.TheVariants.{NotUnderstood, TooManyRanges}
 use Rattle.program_files.specs.declared.trouble.Trouble.TheVariants.{TooLarge, NotAPlatform}

@@ -6,9 +6,9 @@ ghost use Rattle.program_files.specs.Beside.{part_name, short_part_name};
 use crate::part_file::PartFile;
 use crate::reason::Reason;
 use crate::whole_sink::WholeSink;
-use byte_streams::{DeviceFault, Sink};
 use std::alloc::{AllocError, Global};
 use std::rt::Files;
+use text_lines::{DeviceFault, Sink};
 
 /// A file that appears whole or not at all: its bytes are written beside it and moved into its place at the end; where
 /// that fails they are removed.

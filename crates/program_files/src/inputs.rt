@@ -8,10 +8,10 @@ ghost use Rattle.program_files.specs.Troubles.{map_trouble};
 
 use crate::trouble::Trouble;
 use crate::whole::read_whole;
-use byte_streams::Source;
 use map_text::{MAP_BYTES, map_of};
 use permission_map::PermissionMap;
 use std::alloc::Global;
+use text_lines::Source;
 
 /// How many bytes a listing of registers may have.
 pub const REGISTER_BYTES: usize = 1 << 20;

@@ -2,10 +2,9 @@
 
 ghost use Rattle.std.specs.Prelude.{◌<◌, length};
 
-use byte_streams::{Counted, DeviceFault, Sink, write_whole};
 use std::alloc::{AllocError, Global};
 use std::str::from_utf8;
-use text_lines::{Line, push_hex, push_text};
+use text_lines::{Counted, DeviceFault, Line, Sink, push_hex, push_text, write_whole};
 
 /// Whether two bytes are a control character beyond ASCII.
 fn is_control_pair(byte: u8, next: u8) -> bool {

@@ -3,7 +3,7 @@
 ghost use Rattle.std.specs.Io.{WritesAtMost};
 ghost use Rattle.std.specs.Io.KnownBytes.{WriteAppends};
 ghost use Rattle.std.specs.Prelude.{◌≡◌, ◌≢◌, ◌≤◌, ◌⊎◌, None, length, true, false, IfErr, IfOk, option_and_then, string_bytes};
-ghost use Rattle.byte_streams.specs.Streams.{CountsFailure, CountsStall, GrowsByOne};
+ghost use Rattle.text_lines.specs.Streams.{CountsFailure, CountsStall, GrowsByOne};
 ghost use Rattle.program_files.specs.Beside.{part_name, short_part_name, IsNumbered};
 
 use crate::beside::{
@@ -11,12 +11,12 @@ use crate::beside::{
 };
 use crate::devices::write_again;
 use crate::reason::Reason;
-use byte_streams::{DeviceFault, Sink};
 use std::alloc::{AllocError, Global};
 use std::fs::{Metadata, OpenFile};
 use std::io::ErrorKind;
 use std::rt::Files;
 use std::{fs, io, mem};
+use text_lines::{DeviceFault, Sink};
 
 /// A file that is written beside its place, under its name and `.part` with a digit, or under a short name where that is too
 /// long. What is no plain file, as a device or a pipe, is written straight through; so is a file in a folder that takes no new
@@ -205,7 +205,7 @@ fn why(written: io::Result<usize>) -> Reason {
 
 impl<R: Files> PartFile<R> {
     /// Keeps why a write failed, and removes what was written beside the place.
-    #[tactic(auto, unfolding(byte_streams::specs::Streams::GrowsByOne))]
+    #[tactic(auto, unfolding(text_lines::specs::Streams::GrowsByOne))]
     fn fail(&mut self, reason: Reason) -> DeviceFault
         ensures removed { self.new.is_beside ≡ false }
         ensures failures { GrowsByOne self.old.failures self.new.failures }

@@ -4,11 +4,10 @@ ghost use Rattle.std.specs.Prelude.{◌≡◌};
 ghost use Rattle.program_files.specs.Troubles.{map_trouble, run_trouble, trouble_status, source_trouble};
 
 use crate::names::write_named;
-use byte_streams::{DeviceFault, Sink, SourceFault, write_whole};
 use itoa::Buffer;
 use map_text::MapFileFault;
 use std::alloc::AllocError;
-use text_lines::{Line, RunFault};
+use text_lines::{DeviceFault, Line, RunFault, Sink, SourceFault, write_whole};
 
 /// Why a task did not end well. Files have the names that were given; they are shown without control characters.
 #[derive(Drop)]

@@ -2,10 +2,10 @@
 
 ghost use Rattle.std.specs.Prelude.{◌≡◌, ◌≢◌, ℕ, ◌+◌, ◌-◌, ◌^◌, ◌<◌, ◌≤◌, ◌++◌, List, IfOk, OnOk, Ok, Err, true, false, length};
 ghost use Rattle.std.specs.Io.KnownBytes.{Consumes, IsAtEnd};
-ghost use Rattle.byte_streams.specs.Streams.{GrowsByOne, CountsFailure};
+ghost use Rattle.text_lines.specs.Streams.{GrowsByOne, CountsFailure};
 
-use byte_streams::{DeviceFault, Source, SourceFault};
 use std::alloc::{AllocError, Global};
+use text_lines::{DeviceFault, Source, SourceFault};
 
 /// How many bytes are asked of a source at a time.
 const PIECE: usize = 16384;

@@ -2,9 +2,9 @@
 
 ghost use Rattle.std.specs.Prelude.{◌≡◌, ℕ, Bool, List, Option, true, IfErr, IfOk};
 ghost use Rattle.std.specs.Borrow.{Lends, sem};
-ghost use Rattle.byte_streams.specs.Streams.{CountsFailure};
+ghost use Rattle.text_lines.specs.Streams.{CountsFailure};
 
-use byte_streams::{DeviceFault, Sink};
+use text_lines::{DeviceFault, Sink};
 
 /// A sink whose bytes appear in their place all at once, or not at all.
 pub trait WholeSink: Sink {

@@ -49,7 +49,7 @@ impl Source for Dripping<'_> {
 
     ghost failures = { λ source. source.failures };
 
-    #[tactic(auto, unfolding(byte_streams::specs::Streams::GrowsByOne))]
+    #[tactic(auto, unfolding(text_lines::specs::Streams::GrowsByOne))]
     fn read(&mut self, buf: &mut [u8]) -> Result<usize, DeviceFault> {
         let Some((first, rest)) = self.bytes.split_first() else {
             self.failures = self.failures.saturating_add(1);
@@ -78,7 +78,7 @@ impl Sink for Counting {
 
     ghost stalls = { λ sink. 0 };
 
-    #[tactic(auto, unfolding(byte_streams::specs::Streams::GrowsByOne))]
+    #[tactic(auto, unfolding(text_lines::specs::Streams::GrowsByOne))]
     fn write(&mut self, buf: &[u8]) -> Result<usize, DeviceFault> {
         let taken = buf.len().min(self.room);
         if taken == 0 && !buf.is_empty() {

@@ -1,7 +1,7 @@
 //! The audit of a listing.
 
 ghost use Rattle.std.specs.Prelude.{◌≡◌, ◌≢◌, ◌⊎◌, ◌-◌, ◌^◌, ◌<◌, ◌++◌, ◌&&◌, ℕ, Bool, Err, Ok, Some, List, IfOk, length, true, false, None};
-ghost use Rattle.byte_streams.specs.Writings.{writing, Breaks, TakesAll};
+ghost use Rattle.text_lines.specs.Writings.{writing, Breaks, TakesAll};
 ghost use Rattle.permission_map.specs.Runs.{view_of_runs};
 ghost use Rattle.register_audit.specs.declared.listing.Listing.{Listing};
 ghost use Rattle.register_audit.specs.RegisterListings.{IsFirstUnknown, listed};
@@ -16,11 +16,11 @@ use crate::fault::ListingFault;
 use crate::texts::{stretch_line, verdict_line};
 use crate::verdict::{Verdict, verdict_of};
 use crate::{Listing, listing_of, push_notes, text_of_line, unknown_bit, unknown_bit_line};
-use byte_streams::{Sink, write_whole};
 use permission_map::{Memory, PermissionMap};
 use pmp_encoding::Xlen;
 use pmp_match::{Mode, Registers};
 use std::alloc::Global;
+use text_lines::{Sink, write_whole};
 
 /// What is said of a listing, and whether it is a yes.
 #[derive(Drop)]

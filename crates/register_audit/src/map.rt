@@ -1,7 +1,7 @@
 //! The map of a listing.
 
 ghost use Rattle.std.specs.Prelude.{◌≡◌, ◌≢◌, ◌⊎◌, ◌-◌, ◌^◌, ◌<◌, ◌++◌, ℕ, All, Bool, Err, IfOk, List, Ok, Some, false, length, true, None};
-ghost use Rattle.byte_streams.specs.Writings.{writing, Breaks, TakesAll};
+ghost use Rattle.text_lines.specs.Writings.{writing, Breaks, TakesAll};
 ghost use Rattle.pmp_encoding.specs.Views.{View};
 ghost use Rattle.permission_map.specs.declared.runs.Run.{Run};
 ghost use Rattle.permission_map.specs.Runs.{AreRuns, view_of_runs};
@@ -24,11 +24,11 @@ use crate::pages::first_bytes;
 use crate::{
     Finding, Listing, ListingNotes, compare, extents_in, listing_of, notes_of, text_of_line,
 };
-use byte_streams::{Sink, write_whole};
 use permission_map::Memory;
 use pmp_encoding::Xlen;
 use pmp_match::{Extent, Mode};
 use std::alloc::Global;
+use text_lines::{Sink, write_whole};
 
 /// What is said of registers, and whether it is a map.
 #[derive(Drop)]

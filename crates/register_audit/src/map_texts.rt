@@ -6,9 +6,9 @@ ghost use Rattle.register_audit.specs.MapTexts.{map_text, run_text};
 
 use crate::listing_texts::{Words, line_of};
 use map_table::Stretch;
+use map_text::letters;
 use permission_map::{Memory, PermissionMap, Run};
 use pmp_encoding::PAGE_SIZE;
-use printed_lines::letters;
 use std::alloc::Global;
 use std::fmt::Write;
 use text_lines::{Line, push_hex, push_text};

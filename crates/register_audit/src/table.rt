@@ -1,7 +1,7 @@
 //! The table of a listing.
 
 ghost use Rattle.std.specs.Prelude.{Bool, ◌≡◌, ◌-◌, ◌^◌, ◌<◌, ℕ, Err, IfOk, List, length};
-ghost use Rattle.byte_streams.specs.Writings.{writing, Breaks, TakesAll};
+ghost use Rattle.text_lines.specs.Writings.{writing, Breaks, TakesAll};
 ghost use Rattle.register_audit.specs.RegisterListings.{IsFirstUnknown};
 ghost use Rattle.register_audit.specs.declared.fault.ListingFault as ListingFault;
 ghost use Rattle.register_audit.specs.Tables.{IsRegisterTable, IsShown};
@@ -13,12 +13,12 @@ use crate::listing::{Listing, listing_of};
 use crate::listing_extents::extents_in;
 use crate::listing_texts::{push_notes, text_of_line};
 use crate::modes::entries_given;
-use byte_streams::{Sink, write_whole};
 use map_table::extent_table;
 use permission_map::Memory;
 use pmp_encoding::Xlen;
 use pmp_match::Mode;
 use std::alloc::Global;
+use text_lines::{Sink, write_whole};
 
 /// What is said of registers, and whether they mean something.
 #[derive(Drop)]

@@ -3,8 +3,8 @@
 use crate::listing_texts::{Words, line_of, reserved_line};
 use crate::verdict::Verdict;
 use map_table::Stretch;
+use map_text::letters;
 use pmp_match::{Mode, Registers};
-use printed_lines::letters;
 use std::fmt::Write;
 use text_lines::Line;
 

@@ -19,3 +19,5 @@ mod Digits
 mod DecimalPairs
 pub mod PlacedWords
 pub mod RawLines
+pub mod Writings
+pub mod Buffered

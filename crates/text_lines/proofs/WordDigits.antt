@@ -8,7 +8,7 @@ use borrow.Rule.Slice.PartMut.{mid_of, put_mid}
 use lib.Lanes.{Each1, digits_l, number_l, put_chunk, pick_l, sel_l, top, zip2}
 use Rattle.text_lines.specs.Written.{hex, hex_digit}
 use Rattle.text_lines.proofs.Hexadecimals.{selected}
-use Rattle.byte_streams.proofs.Buffered.{length-part, take-read}
+use Rattle.text_lines.proofs.Buffered.{length-part, take-read}
 
 -- two digits for each byte, those of the last byte first
 abbrev pairs : List ℕ → List ℕ

@@ -11,3 +11,8 @@ pub mod Bytes
 pub mod Written
 pub mod Columns
 pub mod Pieces
+pub mod Fakes
+pub mod HeldSink
+pub mod Numbered
+pub mod Streams
+pub mod Writings

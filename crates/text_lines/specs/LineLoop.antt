@@ -4,7 +4,7 @@ use Rattle.std.specs.Prelude.{◌++◌, length, take, Option, Some, None, Result
 use Rattle.std.specs.Prelude.{decimal}
 use Rattle.std.specs.List.{concat}
 use Rattle.std.specs.Io.KnownBytes.{Appends, Consumes, IsAtEnd}
-use Rattle.byte_streams.specs.Streams.{GrowsByOne, WriteFails}
+use Rattle.text_lines.specs.Streams.{GrowsByOne, WriteFails}
 use Rattle.text_lines.specs.declared.fault.ReadFault.{ReadFault}
 use Rattle.text_lines.specs.declared.fault.RunFault.{RunFault}
 use Rattle.text_lines.specs.declared.fault.RunFault.TheVariants as faults

@@ -4,7 +4,7 @@ use Rattle.std.specs.Prelude.{◌++◌, length, take, slice_index, if◌then◌e
 use Rattle.std.specs.Prelude.{Err}
 use Rattle.std.specs.List.{before_first, list_all}
 use Rattle.std.specs.Io.KnownBytes.{Consumes, IsAtEnd}
-use Rattle.byte_streams.specs.Streams.{GrowsByOne}
+use Rattle.text_lines.specs.Streams.{GrowsByOne}
 use Rattle.text_lines.specs.declared.fault.ReadFault.{ReadFault}
 use Rattle.text_lines.specs.declared.fault.ReadFault.TheVariants.{LongLine, TooManyBytes, Device}
 

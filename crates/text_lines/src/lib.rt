@@ -24,20 +24,28 @@
 //! ```
 #![tactic(auto)]
 
+mod buffer;
 mod bytes;
 mod columns;
 mod counter;
+pub mod fakes;
 mod fault;
 mod file_lines;
+mod held_bytes;
+mod held_sink;
 mod hexadecimal;
 mod laws;
 mod lexical;
 mod line_loop;
+mod line_sink;
 mod lines;
+mod stream_fault;
+mod streams;
 mod texts;
 mod whole_text;
 mod written;
 
+pub use buffer::Buffer;
 pub use bytes::{
     after_name, after_text, begins_with, has_mark, is_allowed, is_blank, is_name, is_text,
 };
@@ -45,6 +53,7 @@ pub use columns::{Placed, len_before, next_word, word_from};
 pub use counter::Counter;
 pub use fault::{ReadFault, RunFault};
 pub use file_lines::{allowed_len, content_of, split_line, unended};
+pub use held_sink::HeldSink;
 pub use hexadecimal::{hex_digits, word_digits};
 pub use laws::{lines_law, words_law};
 pub use lexical::{
@@ -52,7 +61,10 @@ pub use lexical::{
     leading_numeral, number, numeral, word_len,
 };
 pub use line_loop::{Interpreter, LineRefusal, interpret_lines};
+pub use line_sink::{DIGITS_ROOM, Direct, Held, LineSink, Numbered, TEXT_ROOM};
 pub use lines::{LONGEST, LineReader, without_return};
+pub use stream_fault::SourceFault;
+pub use streams::{Counted, DeviceFault, Sink, Source, write_whole};
 pub use texts::{append, push, push_address, push_number, without_zeros};
 pub use whole_text::{AT_ONCE, next_line};
 pub use written::{Line, hex_digit, push_decimal, push_hex, push_text, push_word_line};

@@ -3,7 +3,7 @@
 
 ghost use Rattle.std.specs.Prelude.{◌≡◌, ℕ, ◌+◌, ◌-◌, ◌^◌, ◌<◌, ◌≤◌, List, [], Option, None, Some, Err, IfOk, IfSome, length, take, decimal};
 ghost use Rattle.std.specs.Io.KnownBytes.{Keeps};
-ghost use Rattle.byte_streams.specs.Writings.{writing, Prints};
+ghost use Rattle.text_lines.specs.Writings.{writing, Prints};
 ghost use Rattle.text_lines.specs.Lines.{BeginsLine};
 ghost use Rattle.text_lines.specs.LineReaders.{came_of, line_of, most_of, FailsOnRead, NextLine};
 ghost use Rattle.text_lines.specs.Counters.{digits_of};
@@ -13,7 +13,7 @@ use crate::counter::Counter;
 use crate::fault::{ReadFault, RunFault};
 use crate::lines::LineReader;
 use crate::written::Line;
-use byte_streams::{DeviceFault, LineSink, Source};
+use crate::{DeviceFault, LineSink, Source};
 use thiserror::Error;
 
 /// How many bytes are read at once where they are there. The answers are handed on before each read, so fewer bytes would

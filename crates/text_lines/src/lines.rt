@@ -6,7 +6,7 @@ ghost use Rattle.text_lines.specs.Lines.{without_return, EndsInput};
 
 use crate::columns::len_before;
 use crate::fault::ReadFault;
-use byte_streams::{Buffer, Source};
+use crate::{Buffer, Source};
 
 /// How many bytes may come in all to a reader for which nothing else is said.
 const LIMIT: u64 = 1 << 40;

@@ -11,7 +11,7 @@ use crate::lines::LineReader;
 pub const AT_ONCE: usize = 4096;
 
 /// Hands out the next line of a text that is all there, or says that there is none; or which line is too long.
-#[tactic(auto, unfolding(byte_streams::specs::Streams::GrowsByOne))]
+#[tactic(auto, unfolding(crate::specs::Streams::GrowsByOne))]
 pub fn next_line<const SIZE: usize>(
     lines: &mut LineReader<SIZE>,
     rest: &mut &[u8],

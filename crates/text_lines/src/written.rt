@@ -1,13 +1,13 @@
 //! A line that is written, piece by piece, in a buffer of a fixed length.
 
 ghost use Rattle.std.specs.Prelude.{◌≡◌, [], ◌∷◌, ◌++◌, ◌+◌, ◌/◌, ◌%◌, ◌<◌, ◌≤◌, decimal, length, take};
-ghost use Rattle.byte_streams.specs.Writings.{writing, Prints};
+ghost use Rattle.text_lines.specs.Writings.{writing, Prints};
 ghost use Rattle.text_lines.specs.Counters.{digits_of};
 ghost use Rattle.text_lines.specs.Written.{hex, hex_digit};
 
 use crate::counter::Counter;
 use crate::hexadecimal::{word_digits, word_line};
-use byte_streams::{DeviceFault, LineSink, Numbered, TEXT_ROOM};
+use crate::{DeviceFault, LineSink, Numbered, TEXT_ROOM};
 use itoa::Buffer;
 use std::marker::Model;
 use std::simd::prelude::*;

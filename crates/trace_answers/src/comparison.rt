@@ -7,8 +7,7 @@ ghost use Rattle.trace_answers.specs.Comparisons.{ComparesAll, first_with, found
 use crate::comments::agrees;
 use crate::difference::{Difference, numbered};
 use crate::mistaken::{CommentNote, Mistaken};
-use byte_streams::{LineSink, Source};
-use text_lines::{Interpreter, Line, LineRefusal, RunFault, interpret_lines};
+use text_lines::{Interpreter, Line, LineRefusal, LineSink, RunFault, Source, interpret_lines};
 
 /// What interprets the lines, how many they were, the first difference, and the lines whose comments look like an answer and are
 /// none.

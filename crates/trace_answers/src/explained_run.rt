@@ -10,9 +10,8 @@ use crate::asked::asked_of;
 use crate::event_comment::comment_on;
 use crate::explained::explain;
 use crate::tally::Tally;
-use byte_streams::{LineSink, Source};
 use hart_sim::{Machine, push_reply};
-use text_lines::{Interpreter, Line, LineRefusal, RunFault, interpret_lines};
+use text_lines::{Interpreter, Line, LineRefusal, LineSink, RunFault, Source, interpret_lines};
 
 /// A machine whose answers are explained, and the tally of what happened to it.
 #[derive(Drop)]

@@ -8,11 +8,10 @@ ghost use Rattle.trace_answers.specs.Explained.{explaining};
 
 use crate::explained::{Comment, explain};
 use crate::reasons::reason_of;
-use byte_streams::{LineSink, Source};
 use hart_trace::{AccessJudge, Event, LineJudge, parse_line};
 use pmp_match::{Access, Deciders};
 use std::fmt::Write;
-use text_lines::{Interpreter, Line, LineRefusal, RunFault, interpret_lines};
+use text_lines::{Interpreter, Line, LineRefusal, LineSink, RunFault, Source, interpret_lines};
 
 /// What answers the access of each line, and says what decided it.
 #[derive(Drop)]

@@ -6,9 +6,8 @@ ghost use Rattle.hart_trace.specs.Answers.{answered_by, is_no_access};
 ghost use Rattle.trace_answers.specs.Comparisons.{ComparesAll, found_in};
 
 use crate::comparison::{Compared, compare_lines};
-use byte_streams::{LineSink, Source};
 use hart_trace::{AccessJudge, LineJudge};
-use text_lines::RunFault;
+use text_lines::{LineSink, RunFault, Source};
 
 /// Judges the accesses of a trace as `judge_lines` does, and compares each answer with the one that the comment of its line says.
 pub fn compare_judged<J: AccessJudge, R: Source, M, W: LineSink<M>>(

@@ -3,9 +3,9 @@
 ghost use Rattle.std.specs.Prelude.{◌≡◌, ◌^◌, ◌<◌};
 ghost use Rattle.trace_answers.specs.Reasons.{IsReason, has_all};
 
+use map_text::letters;
 use pmp_encoding::{Extent, SPACE_SIZE};
 use pmp_match::{Access, Deciders, is_aligned};
-use printed_lines::letters;
 use std::fmt;
 
 /// What decides an access.

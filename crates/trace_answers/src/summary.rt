@@ -1,15 +1,15 @@
 //! The summary of a run, for people: lines that begin with `# `.
 
 ghost use Rattle.std.specs.Prelude.{ℕ, List};
-ghost use Rattle.byte_streams.specs.Writings.{Prints, writing};
+ghost use Rattle.text_lines.specs.Writings.{Prints, writing};
 
 use crate::tally::{Count, Group, Subject, Tally};
 use arrayvec::ArrayString;
-use byte_streams::{DeviceFault, Sink, write_whole};
 use enclave_table::Table;
 use hart_sim::Machine;
 use std::fmt;
 use std::fmt::Write;
+use text_lines::{DeviceFault, Sink, write_whole};
 
 /// The text of a summary.
 type Text = ArrayString<4096>;

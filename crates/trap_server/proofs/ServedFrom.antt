@@ -1,8 +1,8 @@
 -- The traps of a reader and a writer that are counted.
 use Rattle.std.proofs.Common.{◌≡◌, ℕ, List, [], Option, Result, IfErr, IfOk, subst}
 use Rattle.std.specs.Io.KnownBytes.{IsAtEnd}
-use Rattle.byte_streams.specs.Streams.{failures_of, inner_of, stalls_of}
-use Rattle.byte_streams.specs.declared.streams.Counted.{Counted}
+use Rattle.text_lines.specs.Streams.{failures_of, inner_of, stalls_of}
+use Rattle.text_lines.specs.declared.streams.Counted.{Counted}
 use Rattle.trap_server.specs.Ends.{CountsReads, CountsWrites}
 use Rattle.trap_server.specs.Runs.{EndsEarly, Ran}
 use Rattle.trap_server.specs.Served.{ServedFrom}

@@ -2,8 +2,8 @@
 use Rattle.std.specs.Prelude.{◌≡◌, ◌⊎◌, ◌<◌, ℕ, List, [], ◌++◌, length, take, Option, Result}
 use Rattle.std.specs.Prelude.{MatchResult}
 use Rattle.std.specs.Io.KnownBytes.{Appends}
-use Rattle.byte_streams.specs.Streams.{WriteFails, GrowsByOne}
-use Rattle.byte_streams.specs.Writings.{TakesPart}
+use Rattle.text_lines.specs.Streams.{WriteFails, GrowsByOne}
+use Rattle.text_lines.specs.Writings.{TakesPart}
 use Rattle.trap_server.specs.EndFrames.{end_bytes}
 use Rattle.trap_server.specs.declared.end.EndReason.{EndReason}
 use Rattle.trap_server.specs.declared.end.EndReason.TheVariants as refusals

@@ -1,7 +1,7 @@
 -- What a read of a whole frame consumes.
 use Rattle.std.specs.Prelude.{◌≡◌, ℕ, ◌<◌, ◌≤◌, List, length, take, Option, Result, MatchResult}
 use Rattle.std.specs.Io.KnownBytes.{Consumes, IsAtEnd}
-use Rattle.byte_streams.specs.declared.streams.DeviceFault.{DeviceFault}
+use Rattle.text_lines.specs.declared.streams.DeviceFault.{DeviceFault}
 
 -- n bytes are at the front of a buffer, and left the source; fewer than there is room for only at
 -- its end

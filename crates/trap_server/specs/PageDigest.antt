@@ -2,7 +2,7 @@
 use Rattle.std.specs.Prelude.{◌≡◌, ◌⊎◌, ℕ, ◌+◌, ◌/◌, ◌<◌, ◌≤◌, ◌^◌, List, [], ◌∷◌, ◌++◌, length}
 use Rattle.std.specs.Prelude.{drop, Option, Result, Ok, Err}
 use Rattle.std.specs.Io.KnownBytes.{Appends, Consumes, IsAtEnd}
-use Rattle.byte_streams.specs.Writings.{TakesPart}
+use Rattle.text_lines.specs.Writings.{TakesPart}
 use Rattle.measurement.specs.Measured.{digest_of}
 use Rattle.measurement.specs.declared.request.Create.{Create}
 use Rattle.measurement.specs.Digests.{layout_of}

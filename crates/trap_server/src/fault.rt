@@ -4,7 +4,7 @@ ghost use Rattle.std.specs.Prelude.{ℕ};
 ghost use Rattle.trap_server.specs.Ends.{CountsRead, CountsWrite, EndsAs, FrameRead, FrameWrite, Refuses};
 
 use crate::{EndReason, FrameFault, end_frame};
-use byte_streams::{Sink, write_whole};
+use text_lines::{Sink, write_whole};
 
 /// Why the loop ended before its input did.
 #[derive(Clone, Copy, Debug, PartialEq, Eq)]

@@ -1,9 +1,9 @@
 //! A frame is read whole.
 
 ghost use Rattle.trap_server.specs.FrameBytes.{Fills};
-ghost use Rattle.byte_streams.specs.Streams.{CountsFailure};
+ghost use Rattle.text_lines.specs.Streams.{CountsFailure};
 
-use byte_streams::{DeviceFault, Source};
+use text_lines::{DeviceFault, Source};
 
 /// Fills a buffer from the source, and says how many bytes came: fewer than there is room for at the end of the input alone.
 pub(crate) fn read_whole<R: Source>(source: &mut R, buffer: &mut [u8]) -> Result<usize, DeviceFault>

@@ -1,7 +1,7 @@
 //! The measurement of the pages of a creation, as they come.
 
 ghost use Rattle.std.specs.Prelude.{◌≡◌, ◌+◌, ◌≤◌, ◌<◌, ◌^◌, MatchResult};
-ghost use Rattle.byte_streams.specs.Writings.{writing, Prints};
+ghost use Rattle.text_lines.specs.Writings.{writing, Prints};
 ghost use Rattle.trap_server.specs.Words.{word_at};
 ghost use Rattle.trap_server.specs.Traps.{CountsRead, CountsWrite};
 ghost use Rattle.trap_server.specs.PageDigest.{Asks, HasParts, Measures, ReadsPage, question_bytes};
@@ -9,8 +9,8 @@ ghost use Rattle.trap_server.specs.PageDigest.{Asks, HasParts, Measures, ReadsPa
 use crate::frame::{ShortBytes, TAG_MEASURE, TAG_PAGE, three_words, word};
 use crate::frame_bytes::read_whole;
 use crate::frame_fault::FrameFault;
-use byte_streams::{Sink, Source, write_whole};
 use measurement::{Create, Measure};
+use text_lines::{Sink, Source, write_whole};
 
 /// The bytes of the frame of a page: its tag, its number, and its own bytes.
 const PAGE_BYTES: usize = 4112;

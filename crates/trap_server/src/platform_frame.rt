@@ -5,7 +5,7 @@ ghost use Rattle.pmp_encoding.specs.Perms.{bits_of};
 ghost use Rattle.pmp_encoding.specs.declared.perm.Perm.{Perm as PermOf};
 ghost use Rattle.platforms.specs.Platform.{PlatformLayout, IsLayout, platform_rules};
 ghost use Rattle.platforms.specs.CheckLists.{AllPass};
-ghost use Rattle.byte_streams.specs.Streams.{CountsFailure};
+ghost use Rattle.text_lines.specs.Streams.{CountsFailure};
 ghost use Rattle.trap_server.specs.Words.{word_at};
 ghost use Rattle.trap_server.specs.Traps.{CountsRead};
 ghost use Rattle.trap_server.specs.Platforms.{AreFew, AreNoRanges, IsNoPlatform, IsPlatformFrame, device_words, ram_in, words_of, ReadsPlatform};
@@ -15,9 +15,9 @@ use crate::frame::{TAG_PLATFORM, word};
 use crate::frame_bytes::read_whole;
 use crate::frame_fault::FrameFault;
 use arrayvec::ArrayVec;
-use byte_streams::Source;
 use platforms::{Platform, PlatformFault};
 use pmp_encoding::Perm;
+use text_lines::Source;
 
 /// The bytes of its frame: its tag, six numbers, and room for 32 ranges of memory and 32 devices.
 const PLATFORM_BYTES: usize = 1336;

@@ -22,10 +22,10 @@ use crate::{
     AnswerBytes, ControlWords, Head, NewLists, Trap, TrapEvent, digest_of, put_front, put_given,
     put_list,
 };
-use byte_streams::{Sink, Source, write_whole};
 use monitor_core::{Answer, Core, Create, Served, SetChanges, TakenDigest};
 use pmp_encoding::PageRange;
 use sbi_decode::{Call, Registers, decode};
+use text_lines::{Sink, Source, write_whole};
 
 /// What serves as the answer where there was no call.
 pub(crate) const NOTHING: Answer = Answer {

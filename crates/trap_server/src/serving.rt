@@ -7,9 +7,9 @@ ghost use Rattle.trap_server.specs.Served.{EndsWith, ServedFrom};
 use crate::fault::ServeFault;
 use crate::numbers::{served_number, served_status};
 use crate::trap_loop::serve_traps;
-use byte_streams::Counted;
 use std::alloc::Global;
 use std::io::{Read, Write};
+use text_lines::Counted;
 
 /// Serves the traps that a reader gives, and says how that ended.
 fn served_from<R: Read + Drop, W: Write + Drop>(

@@ -10,8 +10,8 @@ use crate::HostWords;
 use crate::frame::{TAG_CALL, TAG_STOP, TrapBytes, word};
 use crate::frame_bytes::read_whole;
 use crate::frame_fault::FrameFault;
-use byte_streams::Source;
 use sbi_decode::Registers;
+use text_lines::Source;
 
 /// The bytes of its frame.
 const TRAP_BYTES: usize = 96;

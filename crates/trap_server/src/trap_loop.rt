@@ -13,10 +13,10 @@ ghost use Rattle.trap_server.specs.Sets.{bare};
 use crate::fault::{ServeFault, end, refuse};
 use crate::service::{NOTHING, Onward, serve_trap, write_answer};
 use crate::{EndReason, NewLists, Trap, read_platform, read_trap};
-use byte_streams::{Sink, Source};
 use monitor_core::{Core, SetChanges, TakenDigest};
 use platforms::{BootFault, Platform};
 use std::alloc::Global;
+use text_lines::{Sink, Source};
 
 /// Boots the monitor on a platform.
 #[inline(never)]

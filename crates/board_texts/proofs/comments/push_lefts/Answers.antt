@@ -1,5 +1,5 @@
 use Rattle.std.proofs.Common.{refl}
-use Rattle.board_ranges.specs.Meaning.{said_of}
+use Rattle.device_tree.specs.Meaning.{said_of}
 use Rattle.board_texts.specs.Comments.{left_text, lefts_text}
 use Rattle.board_texts.specs.Pages.{range_of}
 use Rattle.board_texts.proofs.Parts.{next_part}

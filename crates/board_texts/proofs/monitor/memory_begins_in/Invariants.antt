@@ -1,6 +1,6 @@
 use Rattle.std.proofs.Common.{◌≡◌, drop}
 use Rattle.std.specs.List.{list_any}
-use Rattle.board_ranges.specs.Meaning.{said_of}
+use Rattle.device_tree.specs.Meaning.{said_of}
 use Rattle.board_texts.specs.Monitors.{begins_in}
 use Rattle.board_texts.proofs.monitor.memory_begins_in.Given as goal
 

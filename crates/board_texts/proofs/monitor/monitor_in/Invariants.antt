@@ -1,5 +1,5 @@
 use Rattle.std.proofs.Common.{◌≡◌, drop}
-use Rattle.board_ranges.specs.Meaning.{said_of}
+use Rattle.device_tree.specs.Meaning.{said_of}
 use Rattle.board_texts.specs.Monitors.{monitor_in}
 use Rattle.board_texts.proofs.monitor.monitor_in.Given as goal
 

@@ -1,5 +1,5 @@
 use Rattle.std.proofs.Common.{sym}
-use Rattle.board_ranges.specs.Meaning.{said_of}
+use Rattle.device_tree.specs.Meaning.{said_of}
 use Rattle.board_texts.proofs.Refusals.{board_refusal}
 use Rattle.board_texts.proofs.platform.platform_of_board.Goals as goal
 

@@ -1,6 +1,6 @@
 use Rattle.std.proofs.Common.{◌∙◌, ap, Bool}
 use Rattle.std.specs.Prelude.{Ok}
-use Rattle.board_ranges.specs.Meaning.{said_of}
+use Rattle.device_tree.specs.Meaning.{said_of}
 use Rattle.board_texts.proofs.Files.{file_is, rule_is}
 use Rattle.board_texts.proofs.platform.platform_of_map.Goals as goal
 

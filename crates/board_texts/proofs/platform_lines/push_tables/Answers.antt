@@ -1,5 +1,5 @@
 use Rattle.std.proofs.Common.{refl}
-use Rattle.board_ranges.specs.Meaning.{said_of}
+use Rattle.device_tree.specs.Meaning.{said_of}
 use Rattle.permission_map.specs.Runs.{AreRuns}
 use Rattle.permission_map.proofs.Parted.{ends_small}
 use Rattle.board_texts.specs.Platforms.{tables_text, part_text}

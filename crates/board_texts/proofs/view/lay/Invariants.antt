@@ -2,7 +2,7 @@
 use Rattle.std.proofs.Common.{drop}
 use Rattle.permission_map.specs.Runs.{view_of_runs}
 use Rattle.pmp_encoding.specs.Views.{SameView}
-use Rattle.board_ranges.specs.Meaning.{said_of}
+use Rattle.device_tree.specs.Meaning.{said_of}
 use Rattle.board_texts.specs.Views.{laid}
 use Rattle.board_texts.proofs.view.lay.Given as goal
 

@@ -1,7 +1,7 @@
 use Rattle.std.proofs.Common.{◌≡◌, arith, sym, ap, ◌∙◌, Err, Some, None}
 use Rattle.std.specs.Prelude.{MatchResult}
 use Rattle.permission_map.specs.Runs.{view_of_runs}
-use Rattle.byte_streams.specs.declared.fault.SourceFault.TheVariants as faults
+use Rattle.text_lines.specs.declared.stream_fault.SourceFault.TheVariants as faults
 use Rattle.certificate_check.specs.Certificates.{IsRightWith, RefusalStands}
 use Rattle.certificate_check.specs.Windows.{fault_of, stopped_by, StandsIn}
 use Rattle.certificate_check.proofs.Windows.{reads_then}

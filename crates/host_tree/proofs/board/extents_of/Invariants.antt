@@ -1,5 +1,5 @@
 use Rattle.std.proofs.Common.{◌≡◌, ◌++◌, drop}
-use Rattle.board_ranges.specs.Meaning.{said_of}
+use Rattle.device_tree.specs.Meaning.{said_of}
 use Rattle.host_tree.specs.Boards.{extents_of}
 use Rattle.host_tree.proofs.board.extents_of.Given as goal
 

@@ -1,5 +1,5 @@
 use Rattle.std.proofs.Common.{◌≡◌, drop}
-use Rattle.board_ranges.specs.Windows.{path_of}
+use Rattle.device_tree.specs.Windows.{path_of}
 use Rattle.host_tree.specs.Shares.{are_hosts}
 use Rattle.host_tree.proofs.close.are_hosts.Given as goal
 

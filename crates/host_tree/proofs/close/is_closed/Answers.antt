@@ -1,14 +1,14 @@
 use Rattle.std.proofs.Common.{◌≡◌, ◌∙◌, ap, subst, ℕ, List, Option, codes}
 use Rattle.std.proofs.lemmas.Result.{err_from_is_err_and}
 use Rattle.device_tree.specs.Pieces.{Part, parts_of}
-use Rattle.board_ranges.specs.declared.fault.BoardReason.TheVariants.{BadRows}
-use Rattle.board_ranges.specs.Properties.{value_in}
-use Rattle.board_ranges.specs.Meaning.{live_kind}
-use Rattle.board_ranges.specs.Refusals.{IsNodeFault, IsOwnFault, of_registers}
-use Rattle.board_ranges.specs.declared.cells.Cells.{Cells}
-use Rattle.board_ranges.specs.declared.kinds.Kind.{Kind}
-use Rattle.board_ranges.specs.declared.kinds.Place.{Place}
-use Rattle.board_ranges.specs.declared.rows.RowFault.{RowFault}
+use Rattle.device_tree.specs.declared.board_fault.BoardReason.TheVariants.{BadRows}
+use Rattle.device_tree.specs.Properties.{value_in}
+use Rattle.device_tree.specs.Meaning.{live_kind}
+use Rattle.device_tree.specs.BoardRefusals.{IsNodeFault, IsOwnFault, of_registers}
+use Rattle.device_tree.specs.declared.cells.Cells.{Cells}
+use Rattle.device_tree.specs.declared.kinds.Kind.{Kind}
+use Rattle.device_tree.specs.declared.kinds.Place.{Place}
+use Rattle.device_tree.specs.declared.rows.RowFault.{RowFault}
 use Rattle.host_tree.proofs.close.is_closed.Goals as goal
 
 -- what is wrong with the registers of a node

@@ -2,9 +2,9 @@ use Rattle.std.proofs.Common.{◌≡◌, ◌++◌, ◌∷◌, [], ◌∙◌, fal
 use Rattle.device_tree.specs.Pieces.{Part, Setting, begins, ends, has, parts_of}
 use Rattle.device_tree.specs.Nodes.{parts_of_nodes, parts_of_tree}
 use Rattle.device_tree.proofs.OneTree.{ends_begins_none}
-use Rattle.board_ranges.specs.Meaning.{AreCells}
-use Rattle.board_ranges.proofs.OneNode.{root_front}
-use Rattle.board_ranges.specs.Refusals.{HasNoCells, at_root}
+use Rattle.device_tree.specs.Meaning.{AreCells}
+use Rattle.device_tree.proofs.OneNode.{root_front}
+use Rattle.device_tree.specs.BoardRefusals.{HasNoCells, at_root}
 use Rattle.std.proofs.lemmas.Result.{err_from_is_err_and}
 use Rattle.host_tree.specs.Refusals.{HasZeroName}
 use Rattle.host_tree.specs.Settings.{left_settings}

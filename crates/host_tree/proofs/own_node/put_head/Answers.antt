@@ -1,7 +1,7 @@
 use Rattle.std.proofs.Common.{◌≡◌, ◌++◌, ◌∷◌, ◌∙◌, [], Bool, List, codes, map, ap, subst, sym, inr}
 use Rattle.device_tree.specs.Pieces.{Part, begins, has, parts_of}
-use Rattle.board_ranges.specs.Windows.{path_of}
-use Rattle.board_ranges.specs.Meaning.{has_type, live_kind}
+use Rattle.device_tree.specs.Windows.{path_of}
+use Rattle.device_tree.specs.Meaning.{has_type, live_kind}
 use Rattle.host_tree.specs.HostNodes.{node_settings}
 use Rattle.host_tree.specs.HostTrees.{portion_of}
 use Rattle.host_tree.specs.Settings.{host_settings}

@@ -1,5 +1,5 @@
 use Rattle.std.proofs.Common.{◌∙◌, ◌*◌, List, drop, length, refl, subst, sym, false}
-use Rattle.board_ranges.specs.declared.rows.Extent.{Extent}
+use Rattle.device_tree.specs.declared.rows.Extent.{Extent}
 use Rattle.host_tree.specs.Boards.{HartsThere, extents_of}
 use Rattle.host_tree.specs.Platforms.{IsClipped, pairs_in}
 use Rattle.host_tree.proofs.Pairs.{pairs_are, words_behind}

@@ -1,7 +1,7 @@
 use Rattle.std.proofs.lemmas.Result.{err_from_is_err_and}
 use Rattle.device_tree.specs.Pieces.{parts_of}
-use Rattle.board_ranges.specs.declared.kinds.Place.TheVariants.{BelowRoot}
-use Rattle.board_ranges.specs.Windows.{path_of, same}
+use Rattle.device_tree.specs.declared.kinds.Place.TheVariants.{BelowRoot}
+use Rattle.device_tree.specs.Windows.{path_of, same}
 use Rattle.host_tree.specs.declared.fault.MakeFault.TheVariants.{NotUnderstood}
 use Rattle.host_tree.specs.HostTrees.{portion_of}
 use Rattle.host_tree.proofs.OneHost.{child}

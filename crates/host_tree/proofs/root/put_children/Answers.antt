@@ -4,8 +4,8 @@ use Rattle.std.specs.Prelude.{bytes_eq, codes}
 use Rattle.device_tree.specs.Pieces.{ends, parts_of}
 use Rattle.device_tree.specs.Nodes.{node, parts_of_nodes}
 use Rattle.device_tree.proofs.OneTree.{ends_begins_none}
-use Rattle.board_ranges.specs.declared.kinds.Place.TheVariants.{BelowRoot}
-use Rattle.board_ranges.specs.Windows.{same}
+use Rattle.device_tree.specs.declared.kinds.Place.TheVariants.{BelowRoot}
+use Rattle.device_tree.specs.Windows.{same}
 use Rattle.host_tree.specs.HostTrees.{portion_of}
 use Rattle.host_tree.specs.Ranges.{range_nodes, with_ranges}
 use Rattle.host_tree.proofs.OneHost.{at_end, at_node, next, start}

@@ -1,7 +1,7 @@
 use Rattle.std.proofs.Common.{length}
 use Rattle.device_tree.specs.Pieces.{parts_of}
-use Rattle.board_ranges.specs.declared.kinds.Place.TheVariants.{BelowRoot}
-use Rattle.board_ranges.specs.Windows.{same}
+use Rattle.device_tree.specs.declared.kinds.Place.TheVariants.{BelowRoot}
+use Rattle.device_tree.specs.Windows.{same}
 use Rattle.host_tree.specs.HostTrees.{portion_of}
 use Rattle.host_tree.specs.Ranges.{with_ranges}
 use Rattle.host_tree.proofs.OneHost.{Reached}

@@ -3,8 +3,8 @@ use Rattle.device_tree.specs.Pieces.{ends}
 use Rattle.device_tree.specs.Nodes.{parts_of_nodes}
 use Rattle.host_tree.specs.Ranges.{range_nodes}
 use Rattle.std.proofs.lemmas.Result.{err_from_is_err_and}
-use Rattle.board_ranges.specs.declared.kinds.Place.TheVariants.{BelowRoot}
-use Rattle.board_ranges.specs.Windows.{same}
+use Rattle.device_tree.specs.declared.kinds.Place.TheVariants.{BelowRoot}
+use Rattle.device_tree.specs.Windows.{same}
 use Rattle.host_tree.proofs.Refused.{put_refused, range_refused, ranged}
 use Rattle.host_tree.proofs.Adding.{adds_both}
 use Rattle.host_tree.proofs.root.put_last.Goals as goal

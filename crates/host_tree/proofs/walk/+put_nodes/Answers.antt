@@ -2,7 +2,7 @@ use Rattle.std.proofs.Common.{◌∷◌, ◌++◌, [], refl, arith}
 use Rattle.device_tree.specs.Pieces.{ends, parts_of}
 use Rattle.device_tree.specs.Nodes.{Nodes, node, parts_of_nodes}
 use Rattle.device_tree.proofs.OneTree.{ends_begins_none}
-use Rattle.board_ranges.specs.Windows.{path_of}
+use Rattle.device_tree.specs.Windows.{path_of}
 use Rattle.host_tree.specs.declared.fault.MakeFault.TheVariants.{NotUnderstood}
 use Rattle.host_tree.specs.HostTrees.{portion_of}
 use Rattle.host_tree.proofs.OneHost.{child, finish, next, start}

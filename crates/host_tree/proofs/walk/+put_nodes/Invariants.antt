@@ -1,7 +1,7 @@
 use Rattle.std.proofs.Common.{◌≤◌, [], length}
 use Rattle.device_tree.specs.Pieces.{parts_of}
 use Rattle.device_tree.specs.Nodes.{Nodes}
-use Rattle.board_ranges.specs.Windows.{path_of}
+use Rattle.device_tree.specs.Windows.{path_of}
 use Rattle.host_tree.specs.HostTrees.{portion_of}
 use Rattle.host_tree.proofs.OneHost.{Reached}
 use Rattle.host_tree.proofs.Refused.{Passed}

@@ -1,5 +1,5 @@
 use Rattle.std.proofs.Common.{◌≡◌, Err, ap}
-use Rattle.byte_streams.specs.declared.fault.SourceFault.TheVariants.{Read}
+use Rattle.text_lines.specs.declared.stream_fault.SourceFault.TheVariants.{Read}
 use Rattle.program_files.proofs.Refusals.{no_bytes}
 use Rattle.monitor_cli.proofs.check.found_in.Goals as goal
 

@@ -1,7 +1,7 @@
 use Rattle.std.proofs.Common.{[], ◌∙◌, refl}
 use Rattle.std.proofs.lemmas.Result.{err_from_is_err_and}
-use Rattle.byte_streams.proofs.Writings.{takes_none}
-use Rattle.printed_lines.specs.Texts.{measure_text}
+use Rattle.text_lines.proofs.Writings.{takes_none}
+use Rattle.map_text.specs.Texts.{measure_text}
 use Rattle.monitor_cli.specs.Measurements.{absent, live}
 use Rattle.monitor_cli.proofs.measurements.print_measure.Goals as goal
 

@@ -1,6 +1,6 @@
 use Rattle.std.proofs.Common.{[], ◌++◌, ◌+◌, arith}
 use Rattle.std.proofs.lemmas.Result.{err_from_is_err_and}
-use Rattle.byte_streams.proofs.Writings.{breaks_after, takes_none, takes_then}
+use Rattle.text_lines.proofs.Writings.{breaks_after, takes_none, takes_then}
 use Rattle.monitor_cli.specs.Measurements.{none, more}
 use Rattle.monitor_cli.proofs.measurements.print_measures.Goals as goal
 

@@ -1,5 +1,5 @@
 use Rattle.std.proofs.Common.{ℕ, List}
-use Rattle.byte_streams.specs.Writings.{TakesAll, writing}
+use Rattle.text_lines.specs.Writings.{TakesAll, writing}
 use Rattle.monitor_cli.specs.Measurements.{AreMeasures}
 use Rattle.monitor_cli.proofs.measurements.print_measures.Given as goal
 

@@ -1,6 +1,6 @@
 use Rattle.std.proofs.Common.{List, subst}
 use Rattle.std.proofs.lemmas.List.{map-id}
-use Rattle.byte_streams.specs.Writings.{Breaks, TakesAll, writing}
+use Rattle.text_lines.specs.Writings.{Breaks, TakesAll, writing}
 use Rattle.pmp_encoding.specs.declared.region.Entry.{Entry}
 use Rattle.prefix_tree.specs.Trees.{PermTree}
 use Rattle.plan_certificate.specs.Written.{certificate_for}

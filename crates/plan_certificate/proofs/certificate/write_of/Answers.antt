@@ -1,6 +1,6 @@
 -- The bytes are those of the certificate, which spell it.
 use Rattle.std.proofs.Common.{◌≡◌, ◌∙◌, ◌^◌, ◌<◌, ◌++◌, List, [], ℕ, Vec, Global, length, ap, sym, subst, arith}
-use Rattle.byte_streams.specs.Streams.{inner_of}
+use Rattle.text_lines.specs.Streams.{inner_of}
 use Rattle.entry_planner.specs.Plans.{costed}
 use Rattle.certificate_format.specs.Spelling.{Spells, FitsNode}
 use Rattle.plan_certificate.specs.Written.{version_for, certificate_bytes}

@@ -1,5 +1,5 @@
 use Rattle.std.proofs.Common.{◌∙◌, ◌++◌, ◌≤◌, length, take, ap, ap₂, arith}
-use Rattle.byte_streams.proofs.Buffered.{take-read}
+use Rattle.text_lines.proofs.Buffered.{take-read}
 use Rattle.text_lines.proofs.written.Line.push_front.Goals as goal
 
 pub returns-clause-items : goal.returns-clause-items

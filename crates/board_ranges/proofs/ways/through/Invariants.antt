@@ -1,6 +1,0 @@
-use Rattle.std.proofs.Common.{◌≡◌, drop}
-use Rattle.board_ranges.specs.Windows.{through}
-use Rattle.board_ranges.proofs.ways.through.Given as goal
-
-abbrev pub invariant-loop-window : goal.invariant-loop-window
-invariant-loop-window l = through (drop l.window-index l.windows) l.extent ≡ through l.windows l.extent

@@ -1,2 +1,0 @@
-pub mod Writings
-pub mod Buffered

@@ -1,0 +1,118 @@
+//! What one node says: its own ranges, and how the addresses of its children come to the root.
+
+ghost use Rattle.std.specs.Prelude.{◌≡◌, ◌≤◌, ◌++◌, ℕ, List, Some, IfErr, IfOk, OnOk, option_map};
+ghost use Rattle.device_tree.specs.Windows.{path_of};
+ghost use Rattle.device_tree.specs.Meaning.{AreOwn, IsInnerWay, Range, place_by, said_of};
+ghost use Rattle.device_tree.specs.BoardRefusals.{IsOwnFault, IsRowFault, IsWayFault};
+
+use crate::cells::Cells;
+use crate::kinds::{Kind, Place};
+use crate::registers::{Found, note_rows};
+use crate::rows::{RowFault, rows_of};
+use crate::ways::{Way, windows_of};
+use std::alloc::Global;
+
+/// Notes the registers of a node of a kind.
+fn note_registers<'a>(
+    alloc: Global,
+    reg: &[u8],
+    bus: (&Cells, &Way),
+    node: (Kind, &'a [u8], usize),
+    found: &mut Vec<Found<'a>>,
+) -> Result<(), RowFault>
+    ensures noted { OnOk result ((ranges : List Range)
+        × AreOwn (Some node.entry.0) (Some reg.now) bus.entry.0.now
+        (path_of bus.entry.1.now) node.entry.1.now ranges
+        × (said_of found.new.items ≡ said_of found.old.items ++ ranges)) }
+    ensures refused { IfErr result (IsRowFault bus.entry.0.now reg.now) }
+{
+    let (cells, way) = bus;
+    let rows = match rows_of(alloc, reg, cells) {
+        Ok(rows) => rows,
+        Err(fault) => return Err(fault),
+    };
+    note_rows(rows.as_slice(), way, node, found)
+}
+
+/// Notes the registers of a node, if they are of a kind.
+pub(crate) fn note_own<'a>(
+    alloc: Global,
+    reg: Option<&[u8]>,
+    bus: (&Cells, &Way),
+    node: (Option<Kind>, &'a [u8], usize),
+    found: &mut Vec<Found<'a>>,
+) -> Result<(), RowFault>
+    ensures noted { OnOk result ((ranges : List Range)
+        × AreOwn node.entry.0 (option_map (λ bytes. bytes.now) reg.entry) bus.entry.0.now
+        (path_of bus.entry.1.now) node.entry.1.now ranges
+        × (said_of found.new.items ≡ said_of found.old.items ++ ranges)) }
+    ensures refused { IfErr result (IsOwnFault node.entry.0
+        (option_map (λ bytes. bytes.now) reg.entry) bus.entry.0.now) }
+{
+    let (kind, name, offset) = node;
+    let Some(kind) = kind else {
+        return Ok(());
+    };
+    let Some(reg) = reg else {
+        return Ok(());
+    };
+    note_registers(alloc, reg, bus, (kind, name, offset), found)
+}
+
+/// How the addresses of a node's children come to the root, by its `ranges`; none where they do not.
+pub(crate) fn inner_way(
+    alloc: Global,
+    ranges: Option<&[u8]>,
+    inner: &Cells,
+    outer: usize,
+    way: &Way,
+) -> Result<Option<Way>, RowFault>
+    requires { outer ≤ 4 }
+    ensures found { IfOk result (λ found.
+        IsInnerWay (option_map (λ bytes. bytes.now) ranges.entry) inner.now outer
+        (path_of way.now) (option_map path_of found)) }
+    ensures refused { IfErr result (IsWayFault (option_map (λ bytes. bytes.now) ranges.entry)
+        inner.now outer) }
+{
+    let Some(ranges) = ranges else {
+        return Ok(None);
+    };
+    if ranges.is_empty() {
+        return match way.copied(alloc) {
+            Ok(same) => Ok(Some(same)),
+            Err(fault) => Err(fault),
+        };
+    }
+    if inner.address > 2 {
+        return Ok(None);
+    }
+    match windows_of(alloc, ranges, inner, outer, way) {
+        Ok(windows) => Ok(Some(Way::By(windows))),
+        Err(fault) => Err(fault),
+    }
+}
+
+/// Where the children of a node are.
+pub(crate) fn place_by(place: Place, is_reserved: bool, is_live: bool, has_way: bool) -> Place
+    ensures { result ≡ place_by place is_reserved is_live has_way }
+{
+    match place {
+        Place::BelowRoot => {
+            if is_reserved {
+                return Place::InReserved;
+            }
+            if is_live && has_way {
+                return Place::OnBus;
+            }
+            Place::Elsewhere
+        }
+        Place::OnBus => {
+            if is_live && has_way {
+                return Place::OnBus;
+            }
+            Place::Elsewhere
+        }
+        Place::InReserved => Place::Elsewhere,
+        Place::Elsewhere => Place::Elsewhere,
+    }
+}

@@ -1,0 +1,184 @@
+//! The ranges that a node's own registers are.
+
+ghost use Rattle.std.specs.Prelude.{◌≡◌, ◌<◌, ◌≤◌, ◌++◌, ℕ, List, Option, IfErr, MatchOption, OnOk, option_map, codes, map};
+ghost use Rattle.std.specs.List.{filter_map};
+ghost use Rattle.device_tree.specs.Pieces.{parts_of};
+ghost use Rattle.device_tree.specs.Cells.{AreRows};
+ghost use Rattle.device_tree.specs.Windows.{path_of};
+ghost use Rattle.device_tree.specs.Properties.{value_in};
+ghost use Rattle.device_tree.specs.BoardRefusals.{HasNoCells};
+ghost use Rattle.device_tree.specs.Meaning.{AreCells, AreOwn, IsInnerWay, as_ranges, Range, device_by, has_type, is_there, is_value, kind_by, kind_of, live_kind, range_of, said_of};
+
+use crate::PlacedPiece;
+use crate::cells::Cells;
+use crate::kinds::{Kind, Place};
+use crate::machine_devices::is_machine;
+use crate::properties::{cells_in, is_okay, value_of};
+use crate::rows::{Extent, RowFault, rows_of};
+use crate::ways::{Way, windows_of};
+use std::alloc::Global;
+
+/// A range of addresses, and the node that says so: its name, and the offset at which it begins.
+#[derive(Clone, Copy)]
+pub struct Found<'a> {
+    pub kind: Kind,
+    pub extent: Extent,
+    pub name: &'a [u8],
+    pub offset: usize,
+}
+
+/// Whether there is a value, and it is these bytes.
+fn is_value(value: Option<&[u8]>, wanted: &[u8]) -> bool
+    ensures { result ≡ is_value wanted.now (option_map (λ bytes. bytes.now) value.entry) }
+{
+    match value {
+        Some(bytes) => bytes == wanted,
+        None => false,
+    }
+}
+
+/// Whether there is a value.
+fn is_there(value: Option<&[u8]>) -> bool
+    ensures { result ≡ is_there (option_map (λ bytes. bytes.now) value.entry) }
+{
+    match value {
+        Some(_) => true,
+        None => false,
+    }
+}
+
+/// What the registers of a device are.
+fn device_by(is_machine: bool) -> Kind
+    ensures { result ≡ device_by is_machine }
+{
+    if is_machine {
+        return Kind::Machine;
+    }
+    Kind::Device
+}
+
+/// What the registers of a node are, by its place and by what it is.
+fn kind_by(
+    place: Place,
+    is_hart: bool,
+    is_memory: bool,
+    is_unmapped: bool,
+    is_machine: bool,
+) -> Option<Kind>
+    ensures { result ≡ kind_by place is_hart is_memory is_unmapped is_machine }
+{
+    match place {
+        Place::Elsewhere => {
+            if is_hart {
+                return Some(Kind::Hart);
+            }
+            None
+        }
+        Place::InReserved => {
+            if is_unmapped {
+                return Some(Kind::Reserved);
+            }
+            None
+        }
+        Place::BelowRoot => {
+            if is_hart {
+                return Some(Kind::Hart);
+            }
+            if is_memory {
+                return Some(Kind::Memory);
+            }
+            Some(device_by(is_machine))
+        }
+        Place::OnBus => {
+            if is_hart {
+                return Some(Kind::Hart);
+            }
+            if is_memory {
+                return None;
+            }
+            Some(device_by(is_machine))
+        }
+    }
+}
+
+/// What the registers of a node are, by its place and properties; nothing where its `status` says that it is not in use.
+pub fn kind_of<'a>(place: Place, properties: &'a [PlacedPiece<'a>]) -> Option<Kind>
+    ensures { result ≡ live_kind place (parts_of properties.now) }
+{
+    if !is_okay(properties) {
+        return None;
+    }
+    let device_type = value_of(properties, b"device_type".as_slice());
+    let is_hart = is_value(device_type, b"cpu\0".as_slice());
+    let is_memory = is_value(device_type, b"memory\0".as_slice());
+    let is_unmapped = is_there(value_of(properties, b"no-map".as_slice()));
+    let is_machine = is_machine(value_of(properties, b"compatible".as_slice()));
+    kind_by(place, is_hart, is_memory, is_unmapped, is_machine)
+}
+
+/// Whether the node is a hart: its `device_type` is `cpu`.
+pub fn is_hart<'a>(properties: &'a [PlacedPiece<'a>]) -> bool
+    ensures { result ≡ has_type (codes "cpu") (parts_of properties.now) }
+{
+    is_value(
+        value_of(properties, b"device_type".as_slice()),
+        b"cpu\0".as_slice(),
+    )
+}
+
+/// The cells that a node gives its children, where they are numbers up to four.
+pub fn cells_of<'a>(properties: &'a [PlacedPiece<'a>]) -> Option<Cells>
+    ensures { MatchOption result (HasNoCells (parts_of properties.now))
+        (AreCells (parts_of properties.now)) }
+{
+    let address = cells_in(value_of(properties, b"#address-cells".as_slice()), 2)?;
+    let size = cells_in(value_of(properties, b"#size-cells".as_slice()), 1)?;
+    Some(Cells { address, size })
+}
+
+/// Notes a row of registers, where the root has it.
+fn note_row<'a>(
+    row: Extent,
+    way: &Way,
+    node: (Kind, &'a [u8], usize),
+    found: &mut Vec<Found<'a>>,
+) -> Result<(), RowFault>
+    ensures noted { OnOk result (said_of found.new.items ≡ said_of found.old.items
+        ++ as_ranges (range_of (path_of way.now) node.entry.0 node.entry.1.now row)) }
+    ensures refused { IfErr result (λ fault. fault ≡ RowFault.Memory) }
+{
+    let Some(extent) = way.at_root(row) else {
+        return Ok(());
+    };
+    let (kind, name, offset) = node;
+    let one = Found {
+        kind,
+        extent,
+        name,
+        offset,
+    };
+    let Ok(()) = found.push(one) else {
+        return Err(RowFault::Memory);
+    };
+    Ok(())
+}
+
+/// Notes the rows of registers that the root has.
+pub(crate) fn note_rows<'a>(
+    rows: &[Extent],
+    way: &Way,
+    node: (Kind, &'a [u8], usize),
+    found: &mut Vec<Found<'a>>,
+) -> Result<(), RowFault>
+    ensures noted { OnOk result (said_of found.new.items ≡ said_of found.old.items
+        ++ filter_map (range_of (path_of way.now) node.entry.0 node.entry.1.now) rows.now) }
+    ensures refused { IfErr result (λ fault. fault ≡ RowFault.Memory) }
+{
+    for row in rows {
+        match note_row(*row, way, node, found) {
+            Ok(()) => {}
+            Err(fault) => return Err(fault),
+        }
+    }
+    Ok(())
+}

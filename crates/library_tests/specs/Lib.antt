@@ -1,0 +1,4 @@
+pub mod Life
+pub mod Served
+pub mod BootList
+pub mod WorkedTrees

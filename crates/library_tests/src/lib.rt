@@ -1,0 +1,70 @@
+//! Worked rows of the machine and of what it is made of, as tests alone: calls, the table of enclaves, changes of world,
+//! measured bytes, calls of the Supervisor Binary Interface, and traces on booted machines with the report of each. Two
+//! functions show how the headline of the machine is used.
+//!
+//! The rows of the table are platforms, the life of an enclave, and sequences of calls with the entries that each view then
+//! needs. The table knows nothing of certificates; the rows compare its tree with a new one by them.
+//!
+//! The rows have a crate of their own so that the gate proves each crate that they test once, and tries its edits beside
+//! the rows.
+#![tactic(auto)]
+
+#[cfg(test)]
+mod accesses;
+#[cfg(test)]
+mod calls;
+#[cfg(test)]
+mod certificate_parts;
+#[cfg(test)]
+mod certificates;
+#[cfg(test)]
+mod checks;
+#[cfg(test)]
+mod cuts;
+#[cfg(test)]
+mod digests;
+#[cfg(test)]
+mod failing_runs;
+mod firmware;
+mod headline;
+mod laws;
+#[cfg(test)]
+mod machines;
+#[cfg(test)]
+mod maps;
+#[cfg(test)]
+mod observed;
+#[cfg(test)]
+mod outgrown;
+#[cfg(test)]
+mod pages;
+#[cfg(test)]
+mod plans;
+#[cfg(test)]
+mod refused_frames;
+#[cfg(test)]
+mod registers;
+#[cfg(test)]
+mod runs;
+#[cfg(test)]
+mod sbi_calls_made;
+#[cfg(test)]
+mod served;
+#[cfg(test)]
+mod served_life;
+#[cfg(test)]
+mod spread_banks;
+#[cfg(test)]
+mod switches;
+#[cfg(test)]
+mod table;
+#[cfg(test)]
+mod tallies;
+#[cfg(test)]
+mod trees;
+#[cfg(test)]
+mod two_harts;
+
+pub use firmware::{destroyed_on_board, serve_life};
+pub use headline::{life, runs_on};
+pub use laws::{boot_row, checked_plan, worked_rows};

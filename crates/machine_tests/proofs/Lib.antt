@@ -1,3 +1,0 @@
-mod Entered
-mod InTurn
-mod Known

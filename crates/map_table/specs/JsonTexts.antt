@@ -1,0 +1,100 @@
+-- A plan as JSON.
+use Rattle.std.specs.Prelude.{◌≡◌, ℕ, ◌+◌, ◌-◌, ◌^◌, ◌<◌, ◌≤◌, ◌==◌, nat_lt, if◌then◌else◌, List}
+use Rattle.std.specs.Prelude.{[], ◌∷◌, ◌++◌, Option, Some, None, codes, decimal, length, slice_get}
+use Rattle.std.specs.Prelude.{slice_index}
+use Rattle.pmp_encoding.specs.declared.limit.Limit.{Limit}
+use Rattle.pmp_encoding.specs.declared.limit.Limit.TheVariants.{Sixteen, SixtyFour}
+use Rattle.pmp_encoding.specs.declared.region.Entry.{Entry}
+use Rattle.pmp_encoding.specs.Encoding.{address_of, cfg_of}
+use Rattle.pmp_encoding.specs.Limits.{limit_number}
+use Rattle.pmp_encoding.specs.declared.xlen.Xlen.{Xlen}
+use Rattle.pmp_encoding.specs.declared.xlen.Xlen.TheVariants.{Rv32, Rv64}
+use Rattle.pmp_encoding.specs.Widths.{word_count}
+use Rattle.map_text.specs.Placed.{word_from}
+use Rattle.map_text.specs.Texts.{register_text}
+use Rattle.text_lines.specs.Written.{hex}
+use Rattle.pmp_encoding.specs.Perms.{perm_word}
+use Rattle.map_table.specs.RegisterRows.{rows_text}
+
+-- a byte of a name in a string: a quote and a backslash after a backslash, a control character by
+-- its number
+abbrev pub json_byte : ℕ → List ℕ
+json_byte b = if b == 34 then codes "\\\"" else if b == 92 then codes "\\\\" else if nat_lt b 32
+    then codes "\\u" ++ hex 4 b else b ∷ []
+
+-- what comes before an item of a list: a comma where it is not the first, and a line's end
+abbrev pub json_before : ℕ → List ℕ
+json_before i = if i == 0 then codes "\n" else codes ",\n"
+
+-- the name of the map, and what comes before it
+abbrev pub json_map_begin : List ℕ
+json_map_begin = codes "{\n  \"map\": \""
+
+-- a byte of the name
+abbrev pub json_name_row : List ℕ → ℕ → List ℕ
+json_name_row name i = json_byte (slice_index name i)
+
+-- the limit
+abbrev pub json_limit : Limit → List ℕ
+json_limit Sixteen = codes "\",\n  \"limit\": 16,\n"
+json_limit SixtyFour = codes "\",\n  \"limit\": 64,\n"
+
+-- the entry of the hart at which the list begins, where that is not entry 0
+abbrev pub json_first : ℕ → List ℕ
+json_first first = if first == 0 then [] else codes "  \"first\": " ++ decimal first ++ codes ",\n"
+
+-- the width, where it is not that of RV64
+abbrev pub json_width : Xlen → List ℕ
+json_width Rv32 = codes "  \"xlen\": 32,\n"
+json_width Rv64 = []
+
+-- all three, and what comes before the entries
+abbrev pub json_entries_begin : Xlen → Limit → ℕ → List ℕ
+json_entries_begin xlen limit first = json_limit limit ++ json_width xlen ++ json_first first
+    ++ codes "  \"entries\": ["
+
+-- the number and the pair of the list's entry i
+abbrev pub json_registers : Xlen → ℕ → ℕ → Entry → List ℕ
+json_registers xlen first i e =
+    json_before i ++ codes "    {\"index\": " ++ decimal (first + i) ++ codes ", \"cfg\": "
+    ++ decimal (cfg_of e) ++ codes ", \"addr\": \"0x" ++ register_text xlen (address_of e)
+
+-- its region in bytes, and what may be done there
+abbrev pub json_region : Entry → List ℕ
+json_region e = codes "\", \"base\": \"0x" ++ hex 16 e.region.base ++ codes "\", \"size\": "
+    ++ decimal (2 ^ e.region.log2) ++ codes ", \"perm\": \"" ++ perm_word e.perm ++ codes "\"}"
+
+-- an entry: both of these
+abbrev pub json_entry : Xlen → ℕ → ℕ → Option Entry → List ℕ
+json_entry xlen first i (Some e) = json_registers xlen first i e ++ json_region e
+json_entry xlen first i None = []
+
+-- the list's entry i
+abbrev pub json_entry_row : Xlen → ℕ → List Entry → ℕ → List ℕ
+json_entry_row xlen first entries i = json_entry xlen first i (slice_get entries i)
+
+-- what comes before the configuration words
+abbrev pub json_words_begin : List ℕ
+json_words_begin = codes "\n  ],\n  \"pmpcfg\": ["
+
+-- a configuration word, in which the bytes of entries below the first are zero
+abbrev pub json_word_row : Xlen → ℕ → List Entry → ℕ → List ℕ
+json_word_row xlen first entries i = json_before i ++ codes "    \"0x"
+    ++ register_text xlen (word_from xlen first entries i) ++ codes "\""
+
+-- the object, with that many words
+abbrev pub json_text : List ℕ → Xlen → Limit → ℕ → List Entry → ℕ → List ℕ
+json_text name xlen limit first entries words =
+    (json_map_begin ++ rows_text (json_name_row name) 0 (length name))
+    ++ ((json_entries_begin xlen limit first
+    ++ rows_text (json_entry_row xlen first entries) 0 (length entries))
+    ++ ((json_words_begin ++ rows_text (json_word_row xlen first entries) 0 words)
+    ++ codes "\n  ]\n}\n"))
+
+-- the object, with all words of the hart, and with none where it has no room for the entries
+pub record IsJsonText (name : List ℕ) (xlen : Xlen) (limit : Limit) (first : ℕ)
+    (entries : List Entry) (text : List ℕ) : Type 0 where
+  pub words : ℕ
+  pub fits : length entries ≤ limit_number limit - first → words ≡ word_count xlen limit
+  pub too_many : limit_number limit - first < length entries → words ≡ 0
+  pub lines : text ≡ json_text name xlen limit first entries words

@@ -1,0 +1,320 @@
+//! The registers of a list, written to a sink.
+
+ghost use Rattle.std.specs.Prelude.{◌≡◌, ◌+◌, ◌-◌, ◌^◌, ◌/◌, ◌<◌, ◌≤◌, Some, length, option_map};
+ghost use Rattle.text_lines.specs.Writings.{writing, Prints, PrintsOne};
+ghost use Rattle.pmp_encoding.specs.Limits.{limit_number};
+ghost use Rattle.pmp_encoding.specs.Widths.{whole_word, word_count, AreReached};
+ghost use Rattle.map_table.specs.AsmTexts.{IsAsmText, asm_head, asm_words};
+ghost use Rattle.map_table.specs.CTexts.{IsCText, c_arrays, c_loader, c_loader_begin, c_word_writes};
+ghost use Rattle.map_table.specs.Heads.{head_begin, head_below, head_end, head_rules, head_width};
+ghost use Rattle.map_table.specs.JsonTexts.{IsJsonText, json_text};
+ghost use Rattle.map_table.specs.SharedTexts.{shared_word_count};
+
+use crate::heads::{head_begin, head_below, head_end, head_rules, head_width};
+use crate::names::{array_link, prefix_of};
+use crate::register_rows::{print_both, print_section, print_texts, print_titled};
+use crate::shared::shared_word_count;
+use crate::{asm_rows, c_rows, c_writes, json_registers};
+use map_text::room_from;
+use pmp_encoding::{Limit, PackedEntry, Xlen};
+use text_lines::{DeviceFault, Sink, write_whole};
+
+/// Writes the arrays of a hart's registers in C.
+fn print_arrays<W: Sink>(
+    prefix: &[u8],
+    link: &[u8],
+    xlen: Xlen,
+    entries: &[PackedEntry],
+    first: u8,
+    limit: Limit,
+    out: &mut W,
+) -> Result<(), DeviceFault>
+    ensures { Prints (c_arrays prefix.now link.now xlen limit first entries.now)
+        (writing W.contents W.failures W.stalls out.old out.new) result }
+{
+    let addresses = c_rows::Addresses {
+        xlen,
+        entries,
+        first,
+    };
+    let words = c_rows::Words {
+        xlen,
+        entries,
+        first,
+    };
+    print_titled(
+        &[
+            head_begin(),
+            head_width(xlen),
+            head_rules(),
+            head_below(first),
+            head_end(),
+            c_rows::begin(xlen),
+            prefix,
+            link,
+            c_rows::addresses_size(limit),
+        ],
+        &addresses,
+        limit.number() as usize,
+        out,
+    )?;
+    print_titled(
+        &[
+            c_rows::between(xlen),
+            prefix,
+            link,
+            c_rows::words_size(xlen, limit),
+        ],
+        &words,
+        xlen.words(limit),
+        out,
+    )?;
+    Ok(())
+}
+
+/// Writes the instructions for the configuration words.
+fn print_word_writes<W: Sink>(
+    xlen: Xlen,
+    first: u8,
+    limit: Limit,
+    out: &mut W,
+) -> Result<(), DeviceFault>
+    ensures { Prints (c_word_writes xlen limit first)
+        (writing W.contents W.failures W.stalls out.old out.new) result }
+{
+    let shared = c_writes::SharedWrites { xlen, first };
+    let words = c_writes::WordWrites { xlen, first };
+    let shared_count = shared_word_count(xlen, limit, first);
+    let count = xlen.words(limit).saturating_sub(xlen.whole_word(first));
+    print_both(&shared, shared_count, &words, count, out)
+}
+
+/// Writes how many entries there are, and the function that writes the registers.
+fn print_loader<W: Sink>(
+    prefix: &[u8],
+    link: &[u8],
+    xlen: Xlen,
+    first: u8,
+    limit: Limit,
+    count: &[u8],
+    out: &mut W,
+) -> Result<(), DeviceFault>
+    ensures { Prints (c_loader prefix.now link.now xlen limit first count.now)
+        (writing W.contents W.failures W.stalls out.old out.new) result }
+{
+    let address_count = room_from(first, limit);
+    print_titled(
+        &[
+            c_rows::count_begin(),
+            prefix,
+            c_rows::count_is(),
+            count,
+            c_rows::loader_note(),
+            c_rows::loader_writes(first),
+            c_rows::loader_reason(),
+            prefix,
+            c_rows::load_addresses(xlen),
+            prefix,
+            link,
+            c_rows::load_words(xlen),
+            prefix,
+            link,
+            c_rows::load_begin(),
+        ],
+        &c_writes::AddressWrites { first },
+        address_count,
+        out,
+    )?;
+    print_word_writes(xlen, first, limit, out)?;
+    write_whole(
+        out,
+        b"    __asm__ volatile(\"sfence.vma\" : : : \"memory\");\n}\n#endif\n",
+    )?;
+    Ok(())
+}
+
+/// Writes the registers of a list as C: two arrays of all address registers and configuration words, each entry's region,
+/// size and permission beside it, below a comment that says what must hold where they are written; then how many entries
+/// there are, and a function that writes those from the first entry on. With a
+/// name they are called by it: `uart_pmpaddr`, `uart_pmpcfg`, `uart_count`, `uart_load`; otherwise `pmpaddr`, `pmpcfg`,
+/// `pmp_count`, `pmp_load`. The entries below the first, and their bytes of a word that they share with it, stay as they are.
+///
+/// On an `Err` a beginning of this text was written, not all of it, and the device failed, or took none of some bytes, in
+/// this call.
+pub fn print_c<W: Sink>(
+    name: Option<&str>,
+    xlen: Xlen,
+    entries: &[PackedEntry],
+    first: u8,
+    limit: Limit,
+    out: &mut W,
+) -> Result<(), DeviceFault>
+    requires reached { AreReached xlen entries.now }
+    requires fits { length entries.now ≤ limit_number limit - first }
+    ensures { PrintsOne (IsCText (option_map (λ s. s.now) name.entry) xlen limit first entries.now)
+        (writing W.contents W.failures W.stalls out.old out.new) result }
+{
+    let prefix = prefix_of(name);
+    let link = array_link(name);
+    print_arrays(prefix, link, xlen, entries, first, limit, out)?;
+    let count = c_rows::number_text(entries.len());
+    print_loader(prefix, link, xlen, first, limit, count.as_slice(), out)?;
+    Ok(())
+}
+
+/// Writes the head of assembly, with the label of a routine.
+fn print_asm_head<W: Sink>(
+    label: &[u8],
+    end: &[u8],
+    xlen: Xlen,
+    first: u8,
+    out: &mut W,
+) -> Result<(), DeviceFault>
+    ensures { Prints (asm_head xlen first label.now end.now)
+        (writing W.contents W.failures W.stalls out.old out.new) result }
+{
+    print_texts(
+        &[
+            head_begin(),
+            head_width(xlen),
+            head_rules(),
+            head_below(first),
+            head_end(),
+            label,
+            end,
+        ],
+        out,
+    )
+}
+
+/// Writes the instructions for the configuration words.
+fn print_asm_words<W: Sink>(
+    xlen: Xlen,
+    entries: &[PackedEntry],
+    first: u8,
+    limit: Limit,
+    out: &mut W,
+) -> Result<(), DeviceFault>
+    ensures { Prints (asm_words xlen limit first entries.now)
+        (writing W.contents W.failures W.stalls out.old out.new) result }
+{
+    let shared = asm_rows::SharedWords {
+        xlen,
+        entries,
+        first,
+    };
+    let words = asm_rows::Words {
+        xlen,
+        entries,
+        first,
+    };
+    let shared_count = shared_word_count(xlen, limit, first);
+    let count = xlen.words(limit).saturating_sub(xlen.whole_word(first));
+    print_both(&shared, shared_count, &words, count, out)
+}
+
+/// Writes the registers of a list as assembly: the instructions that write the address registers of its entries, then those
+/// that write the configuration words, in which the entries after it are off, then `sfence.vma`, below the same comment.
+/// With a name they are a routine that is called so, with `_load` after it. The entries below the first, and their bytes of a
+/// word that they share with it, stay as they are.
+///
+/// On an `Err` a beginning of this text was written, not all of it, and the device failed, or took none of some bytes, in
+/// this call.
+pub fn print_asm<W: Sink>(
+    name: Option<&str>,
+    xlen: Xlen,
+    entries: &[PackedEntry],
+    first: u8,
+    limit: Limit,
+    out: &mut W,
+) -> Result<(), DeviceFault>
+    requires reached { AreReached xlen entries.now }
+    requires fits { length entries.now ≤ limit_number limit - first }
+    ensures { PrintsOne (IsAsmText (option_map (λ s. s.now) name.entry) xlen limit first
+        entries.now)
+        (writing W.contents W.failures W.stalls out.old out.new) result }
+{
+    let addresses = asm_rows::Addresses {
+        xlen,
+        entries,
+        first,
+    };
+    let label = asm_rows::label_of(name);
+    let label_end = asm_rows::label_end(name);
+    print_asm_head(label, label_end, xlen, first, out)?;
+    let begin = asm_rows::begin(xlen, limit, first);
+    print_section(begin.as_slice(), &addresses, entries.len(), out)?;
+    print_asm_words(xlen, entries, first, limit, out)?;
+    write_whole(out, asm_rows::end(name))?;
+    Ok(())
+}
+
+/// Writes the object, with the first words of the hart.
+fn print_object<W: Sink>(
+    name: &[u8],
+    xlen: Xlen,
+    entries: &[PackedEntry],
+    first: u8,
+    limit: Limit,
+    count: usize,
+    out: &mut W,
+) -> Result<(), DeviceFault>
+    requires numbers { first + length entries.now < 2 ^ 64 }
+    requires count { count ≤ 16 }
+    ensures { Prints (json_text name.now xlen limit first entries.now count)
+        (writing W.contents W.failures W.stalls out.old out.new) result }
+{
+    let letters = json_registers::Name { bytes: name };
+    let listed = json_registers::Entries {
+        xlen,
+        entries,
+        first,
+    };
+    let words = json_registers::Words {
+        xlen,
+        entries,
+        first,
+    };
+    print_section(b"{\n  \"map\": \"", &letters, name.len(), out)?;
+    let begin = json_registers::entries_begin(xlen, limit, first);
+    print_section(begin.as_slice(), &listed, entries.len(), out)?;
+    print_section(b"\n  ],\n  \"pmpcfg\": [", &words, count, out)?;
+    write_whole(out, b"\n  ]\n}\n")?;
+    Ok(())
+}
+
+/// How many words are printed: none where the hart has no room for that many entries.
+fn printed_word_count(xlen: Xlen, entries: usize, first: u8, limit: Limit) -> usize
+    ensures fits { entries ≤ limit_number limit - first → result ≡ word_count xlen limit }
+    ensures too_many { limit_number limit - first < entries → result ≡ 0 }
+    ensures most { result ≤ 16 }
+{
+    if entries > room_from(first, limit) {
+        return 0;
+    }
+    xlen.words(limit)
+}
+
+/// Writes a list as one JSON object: the map's name, the limit, the first entry where it is not 0, each entry with its pair, its
+/// region and its permission, and the configuration words, none where the hart has no room for the list. The bytes of entries
+/// below the first are zero there.
+///
+/// On an `Err` a beginning of this text was written, not all of it, and the device failed, or took none of some bytes, in
+/// this call.
+pub fn print_json<W: Sink>(
+    map: &str,
+    xlen: Xlen,
+    entries: &[PackedEntry],
+    first: u8,
+    limit: Limit,
+    out: &mut W,
+) -> Result<(), DeviceFault>
+    requires reached { AreReached xlen entries.now }
+    requires numbers { first + length entries.now < 2 ^ 64 }
+    ensures { PrintsOne (IsJsonText map.now xlen limit first entries.now)
+        (writing W.contents W.failures W.stalls out.old out.new) result }
+{
+    let count = printed_word_count(xlen, entries.len(), first, limit);
+    print_object(map.as_bytes(), xlen, entries, first, limit, count, out)?;
+    Ok(())
+}

@@ -1,0 +1,204 @@
+//! The rows of JSON.
+
+ghost use Rattle.std.specs.Prelude.{◌≡◌, ◌+◌, ◌++◌, ◌≤◌, ◌<◌, ◌^◌, length};
+ghost use Rattle.map_table.specs.JsonTexts.{json_before, json_byte, json_entries_begin, json_first, json_limit, json_region, json_registers, json_width};
+
+use crate::names::{entry_at, power_of_two};
+use crate::register_rows::{Row, Rows};
+use map_text::{push_register, word_from};
+use pmp_encoding::{Entry, Limit, PackedEntry, Xlen};
+use text_lines::{Line, push_decimal, push_hex, push_text};
+
+/// The limit.
+fn limit_text<'a>(limit: Limit) -> &'a [u8]
+    ensures text { result.now ≡ json_limit limit }
+    ensures most { length result.now ≤ 20 }
+{
+    match limit {
+        Limit::Sixteen => b"\",\n  \"limit\": 16,\n",
+        Limit::SixtyFour => b"\",\n  \"limit\": 64,\n",
+    }
+}
+
+/// Appends the entry of the hart at which the list begins, where that is not entry 0.
+fn push_first(line: &mut Line, first: u8)
+    requires { length line.old + 33 ≤ 128 }
+    ensures items { line.new ≡ line.old ++ json_first first }
+    ensures len { length line.new ≤ length line.old + 33 }
+{
+    if first > 0 {
+        push_text(line, b"  \"first\": ");
+        push_decimal(line, u64::from(first));
+        push_text(line, b",\n");
+    }
+}
+
+/// The width, where it is not that of RV64.
+fn width_text<'a>(xlen: Xlen) -> &'a [u8]
+    ensures text { result.now ≡ json_width xlen }
+    ensures most { length result.now ≤ 16 }
+{
+    match xlen {
+        Xlen::Rv32 => b"  \"xlen\": 32,\n",
+        Xlen::Rv64 => b"",
+    }
+}
+
+/// All three, and what comes before the entries.
+pub(crate) fn entries_begin(xlen: Xlen, limit: Limit, first: u8) -> Line
+    ensures { result ≡ json_entries_begin xlen limit first }
+{
+    let mut line = Line::new();
+    push_text(&mut line, limit_text(limit));
+    push_text(&mut line, width_text(xlen));
+    push_first(&mut line, first);
+    push_text(&mut line, b"  \"entries\": [");
+    line
+}
+
+/// A byte of a name in a string.
+fn json_byte(byte: u8) -> Line
+    ensures { result ≡ json_byte byte }
+{
+    let mut line = Line::new();
+    if byte == b'"' {
+        push_text(&mut line, b"\\\"");
+        return line;
+    }
+    if byte == b'\\' {
+        push_text(&mut line, b"\\\\");
+        return line;
+    }
+    if byte < 32 {
+        push_text(&mut line, b"\\u");
+        push_hex(&mut line, u64::from(byte), 4);
+        return line;
+    }
+    line.push(byte);
+    line
+}
+
+/// What comes before an item of a list.
+fn json_before(i: usize) -> &'static [u8]
+    ensures text { result.now ≡ json_before i }
+    ensures most { length result.now ≤ 2 }
+{
+    if i == 0 { b"\n" } else { b",\n" }
+}
+
+/// A row for each byte of a name.
+#[derive(Drop)]
+pub(crate) struct Name<'a> {
+    pub(crate) bytes: &'a [u8],
+}
+
+impl Rows for Name<'_> {
+    ghost use Rattle.std.specs.Prelude.{◌≡◌, length};
+    ghost use Rattle.map_table.specs.JsonTexts.{json_name_row};
+
+    ghost row_text = { λ rows. json_name_row rows.bytes.now };
+
+    ghost most = { λ rows. length rows.bytes.now };
+
+    fn row(&self, i: usize) -> Row {
+        Row {
+            front: json_byte(self.bytes[i]),
+            back: Line::new(),
+        }
+    }
+}
+
+/// A row for each entry.
+#[derive(Drop)]
+pub(crate) struct Entries<'a> {
+    pub(crate) xlen: Xlen,
+    pub(crate) entries: &'a [PackedEntry],
+    pub(crate) first: u8,
+}
+
+/// What is said of the registers of the list's entry i.
+fn registers_of(xlen: Xlen, first: u8, i: usize, entry: &Entry) -> Line
+    requires { first + i < 2 ^ 64 }
+    ensures { result ≡ json_registers xlen first i entry.now }
+{
+    let (cfg, address) = entry.encode();
+    let mut line = Line::new();
+    push_text(&mut line, json_before(i));
+    push_text(&mut line, b"    {\"index\": ");
+    push_decimal(&mut line, u64::from(first) + i as u64);
+    push_text(&mut line, b", \"cfg\": ");
+    push_decimal(&mut line, u64::from(cfg));
+    push_text(&mut line, b", \"addr\": \"0x");
+    push_register(&mut line, xlen, address);
+    line
+}
+
+/// What is said of the region of an entry, and of its permission.
+fn region_of(entry: &Entry) -> Line
+    ensures { result ≡ json_region entry.now }
+{
+    let mut line = Line::new();
+    push_text(&mut line, b"\", \"base\": \"0x");
+    push_hex(&mut line, entry.region.base(), 16);
+    push_text(&mut line, b"\", \"size\": ");
+    push_decimal(&mut line, power_of_two(entry.region.log2()));
+    push_text(&mut line, b", \"perm\": \"");
+    push_text(&mut line, entry.perm.word().as_bytes());
+    push_text(&mut line, b"\"}");
+    line
+}
+
+impl Rows for Entries<'_> {
+    ghost use Rattle.std.specs.Prelude.{◌≡◌, ◌^◌, ◌-◌};
+    ghost use Rattle.map_table.specs.JsonTexts.{json_entry_row};
+
+    ghost row_text = { λ rows. json_entry_row rows.xlen rows.first rows.entries.now };
+
+    ghost most = { λ rows. 2 ^ 64 - rows.first };
+
+    fn row(&self, i: usize) -> Row {
+        match entry_at(self.entries, i) {
+            Some(entry) => Row {
+                front: registers_of(self.xlen, self.first, i, &entry),
+                back: region_of(&entry),
+            },
+            None => Row {
+                front: Line::new(),
+                back: Line::new(),
+            },
+        }
+    }
+}
+
+/// A row for each configuration word.
+#[derive(Drop)]
+pub(crate) struct Words<'a> {
+    pub(crate) xlen: Xlen,
+    pub(crate) entries: &'a [PackedEntry],
+    pub(crate) first: u8,
+}
+
+impl Rows for Words<'_> {
+    ghost use Rattle.std.specs.Prelude.{◌≡◌};
+    ghost use Rattle.map_table.specs.JsonTexts.{json_word_row};
+
+    ghost row_text = { λ rows. json_word_row rows.xlen rows.first rows.entries.now };
+
+    ghost most = { λ rows. 64 };
+
+    fn row(&self, i: usize) -> Row {
+        let mut front = Line::new();
+        push_text(&mut front, json_before(i));
+        push_text(&mut front, b"    \"0x");
+        push_register(
+            &mut front,
+            self.xlen,
+            word_from(self.xlen, self.entries, self.first, i),
+        );
+        push_text(&mut front, b"\"");
+        Row {
+            front,
+            back: Line::new(),
+        }
+    }
+}

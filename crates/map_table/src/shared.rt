@@ -1,0 +1,25 @@
+//! A configuration word that the list shares with entries below it.
+
+ghost use Rattle.std.specs.Prelude.{◌≡◌, ◌≤◌};
+ghost use Rattle.map_table.specs.SharedTexts.{kept_bits, shared_word_count};
+
+use pmp_encoding::{Limit, Xlen};
+
+/// How many words are shared.
+pub(crate) fn shared_word_count(xlen: Xlen, limit: Limit, first: u8) -> usize
+    ensures value { result ≡ shared_word_count xlen limit first }
+    ensures most { result ≤ 1 }
+{
+    if first % xlen.word_entries() != 0 && u32::from(first) < limit.number() {
+        1
+    } else {
+        0
+    }
+}
+
+/// The bits of the entries below the first in the word that it is in.
+pub(crate) fn kept_bits(xlen: Xlen, first: u8) -> u64
+    ensures { result ≡ kept_bits xlen first }
+{
+    (1 << (8 * (first % xlen.word_entries()))) - 1
+}

@@ -1,3 +1,0 @@
-pub mod Booted
-pub mod BootNeeds
-pub mod Accepted

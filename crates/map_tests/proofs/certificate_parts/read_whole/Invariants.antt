@@ -1,5 +1,0 @@
-use Rattle.std.proofs.Common.{length}
-use Rattle.map_tests.proofs.certificate_parts.read_whole.Given as goal
-
-abbrev pub decreases-loop-open : goal.decreases-loop-open
-decreases-loop-open l = length l.reader

@@ -1,4 +1,0 @@
-use Rattle.map_tests.proofs.trees.+same.Given as goal
-
-abbrev pub decreases-same : goal.decreases-same
-decreases-same l = l.height

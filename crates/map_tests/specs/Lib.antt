@@ -1,2 +1,0 @@
-pub mod BootList
-pub mod WorkedTrees

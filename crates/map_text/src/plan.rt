@@ -1,0 +1,109 @@
+//! What `plan` prints.
+
+ghost use Rattle.std.specs.Prelude.{◌+◌, ◌-◌, ◌<◌, ◌≤◌, ◌^◌, length};
+ghost use Rattle.text_lines.specs.Writings.{writing, Prints, PrintsOne};
+ghost use Rattle.pmp_encoding.specs.Widths.{whole_word, AreReached};
+ghost use Rattle.map_text.specs.Plans.{IsPlanText, entries_text, list_text, words_text};
+
+use crate::entry_lines::{MOST, put_entries};
+use crate::line_texts::{count_line, word_line};
+use crate::placed::{room_from, word_from};
+use pmp_encoding::{Limit, PackedEntry, Xlen};
+use text_lines::{DeviceFault, Sink, write_whole};
+
+/// How many entries' lines are put together before they go to the sink: more bytes than a `HeldSink` holds, which then
+/// hands them on without a copy.
+const LINES: usize = 320;
+
+/// Writes a line for each entry.
+fn print_entries<W: Sink>(
+    xlen: Xlen,
+    entries: &[PackedEntry],
+    first: u8,
+    out: &mut W,
+) -> Result<(), DeviceFault>
+    requires { first + length entries.now < 2 ^ 64 }
+    ensures { Prints (entries_text xlen first entries.now)
+        (writing W.contents W.failures W.stalls out.old out.new) result }
+{
+    let mut buffer = [0; LINES * MOST];
+    let mut left = entries;
+    let mut number = u64::from(first);
+    while !left.is_empty() {
+        let (these, others) = left.split_at(left.len().min(LINES));
+        let end = put_entries(buffer.as_mut_slice(), xlen, these, number);
+        write_whole(out, &buffer[..end])?;
+        number += these.len() as u64;
+        left = others;
+    }
+    Ok(())
+}
+
+/// Writes the number of entries, and a line for each.
+fn print_list<W: Sink>(
+    xlen: Xlen,
+    entries: &[PackedEntry],
+    first: u8,
+    out: &mut W,
+) -> Result<(), DeviceFault>
+    requires { first + length entries.now < 2 ^ 64 }
+    ensures { Prints (list_text xlen first entries.now)
+        (writing W.contents W.failures W.stalls out.old out.new) result }
+{
+    let count = count_line(entries.len() as u64);
+    write_whole(out, count.as_slice())?;
+    print_entries(xlen, entries, first, out)?;
+    Ok(())
+}
+
+/// Writes the words below `end` that have no entry below the first, a line for each.
+fn print_words<W: Sink>(
+    xlen: Xlen,
+    entries: &[PackedEntry],
+    first: u8,
+    end: usize,
+    out: &mut W,
+) -> Result<(), DeviceFault>
+    requires end { end ≤ 16 }
+    ensures { Prints (words_text xlen first entries.now (whole_word xlen first)
+        (end - whole_word xlen first))
+        (writing W.contents W.failures W.stalls out.old out.new) result }
+{
+    let begin = xlen.whole_word(first);
+    for i in begin..end {
+        let line = word_line(
+            xlen,
+            xlen.word_number(i),
+            word_from(xlen, entries, first, i),
+        );
+        write_whole(out, line.as_slice())?;
+    }
+    Ok(())
+}
+
+/// Writes the number of entries, a line for each, numbered from the first on, and the configuration words that have no entry
+/// below it, where the hart has room for the entries. Its address registers have to reach their regions.
+///
+/// On an `Err` a beginning of this text was written, not all of it, and the device failed, or took none of some bytes, in
+/// this call.
+pub fn print_plan<W: Sink>(
+    xlen: Xlen,
+    entries: &[PackedEntry],
+    first: u8,
+    limit: Limit,
+    out: &mut W,
+) -> Result<(), DeviceFault>
+    requires reached { AreReached xlen entries.now }
+    requires numbers { first + length entries.now < 2 ^ 64 }
+    ensures { PrintsOne (IsPlanText xlen limit first entries.now)
+        (writing W.contents W.failures W.stalls out.old out.new) result }
+{
+    let room = room_from(first, limit);
+    let count = xlen.words(limit);
+    print_list(xlen, entries, first, out)?;
+    if entries.len() > room {
+        return Ok(());
+    }
+    print_words(xlen, entries, first, count, out)?;
+    Ok(())
+}

@@ -1,2 +1,0 @@
-mod Printed
-mod EntryLines

@@ -1,9 +1,0 @@
-use Rattle.std.proofs.Common.{◌≡◌, List, ℕ, ◌++◌, ◌-◌}
-use Rattle.byte_streams.specs.Writings.{TakesAll, writing}
-use Rattle.printed_lines.specs.Plans.{words_text}
-use Rattle.printed_lines.proofs.plan.print_words.Given as goal
-
-abbrev pub invariant-loop-i : goal.invariant-loop-i
-invariant-loop-i g l =
-    (done : List ℕ) × (done ++ words_text l.xlen l.first l.entries l.i (l.end - l.i) ≡ words_text l.xlen l.first l.entries l.begin (l.end - l.begin))
-    × TakesAll done (writing g.W.Sink.contents g.W.Sink.failures g.W.Sink.stalls l.initial.out l.out)

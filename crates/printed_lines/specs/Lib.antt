@@ -1,4 +1,0 @@
-pub mod Fields
-pub mod Texts
-pub mod Placed
-pub mod Plans

@@ -1,3 +1,0 @@
-mod Rowed
-mod Three
-mod Four

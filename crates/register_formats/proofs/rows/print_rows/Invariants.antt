@@ -1,9 +1,0 @@
-use Rattle.std.proofs.Common.{◌≡◌, ℕ, List, ◌++◌, ◌-◌}
-use Rattle.byte_streams.specs.Writings.{TakesAll, writing}
-use Rattle.register_formats.specs.Rows.{rows_text}
-use Rattle.register_formats.proofs.rows.print_rows.Given as goal
-
-abbrev pub invariant-loop-i : goal.invariant-loop-i
-invariant-loop-i g l =
-    (done : List ℕ) × (done ++ rows_text (g.R.Rows.row_text l.rows) l.i (l.count - l.i) ≡ rows_text (g.R.Rows.row_text l.rows) 0 l.count)
-    × TakesAll done (writing g.W.Sink.contents g.W.Sink.failures g.W.Sink.stalls l.initial.out l.out)
