@@ -32,7 +32,7 @@ from firmware_lines import table as firmware_lines  # noqa: E402
 TOP = Path(__file__).resolve().parents[2]
 PAGE = TOP / "docs" / "ARCHITECTURE.md"
 FIRMWARE = TOP / "firmware" / "README.md"
-EXAMPLE = TOP / "crates" / "library_example" / "src" / "main.rt"
+EXAMPLE = TOP / "crates" / "public_surface" / "src" / "example.rt"
 DOCUMENTS = ["README.md", "CHANGELOG.md", "CONTRIBUTING.md", "SECURITY.md", "examples/README.md", "bench/README.md", "firmware/README.md", *sorted(f"docs/{it.name}" for it in TOP.glob("docs/*.md"))]
 # The documents whose English is checked. Each document joins them when it is rewritten.
 SCREENED = ["README.md", "CHANGELOG.md", "docs/DECISIONS.md", "docs/GLOSSARY.md", "docs/PROVED.md", "bench/README.md"]

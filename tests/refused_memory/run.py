@@ -20,12 +20,13 @@ Each command below is run once with all it needs, and then for K = 1, 2, .. unti
   read or write interrupted by a signal: the same;
 and once with writes that take one byte each: the same. A run never ends by a signal.
 
-The traps of crates/trap_replay are served with each allocation at boot refused in turn: the one frame that is written says so.
+The firmware's loop serves the traps in the file `traps` with each allocation at boot refused in turn; the one frame that is written says so.
 Commands are tried side by side, each in a folder of its own. The last line is 'N passed, M failed'; any failure makes the
 status 1.
 """
 import os
 import re
+import shutil
 import subprocess
 import sys
 import tempfile
@@ -33,7 +34,7 @@ from concurrent.futures import ThreadPoolExecutor
 from pathlib import Path
 
 HERE = Path(__file__).resolve().parent
-REPLAY = HERE.parents[1] / "crates/trap_replay"
+MONITOR = HERE.parents[1] / "crates/pmpmon_monitor"
 # The frame `end` of refused memory (docs/FORMATS.md), and how many bytes an `answer` has.
 END = b"end\0\0\0\0\0" + bytes([4, 0, 0, 0, 0, 0, 0, 0]) + bytes(8)
 ANSWER = 96 * 8
@@ -409,39 +410,52 @@ class Tried:
 
 
 class Booted:
-    """The traps that stand beside `trap_replay`, with each allocation at boot refused in turn."""
+    """The proved loop of the firmware as a program (serve.c), which serves the traps in the file `traps`: once as it is, and with
+    each allocation at boot refused in turn."""
 
     def __init__(self, files):
         self.files = files
         self.lines, self.failed = [], 0
 
-    def run(self, k):
-        """Its status and what it writes where the K-th allocation is refused."""
-        environment = {**os.environ, "LD_PRELOAD": f"{self.files}/refuse.so", "REFUSE": "memory", "REFUSE_AT": str(k)}
-        with open(REPLAY / "stdin", "rb") as traps:
-            ended = subprocess.run([REPLAY / "out/trap_replay"], env=environment, stdin=traps, capture_output=True)
+    def built(self):
+        """Links the program. Returns what failed, or nothing."""
+        archive = MONITOR / "out/libpmpmon_monitor.a"
+        if not archive.is_file():
+            proved = subprocess.run(["rt", "lib"], cwd=MONITOR, capture_output=True)
+            if not archive.is_file():
+                return proved.stderr[-200:]
+        kit = Path(os.path.realpath(shutil.which("rt"))).parents[1]
+        linked = subprocess.run(["gcc", "-o", self.files / "serve", HERE / "serve.c", archive, kit / "c/libos_c.a", kit / "c/liblibc_c.a"], capture_output=True)
+        return linked.stderr[-200:]
+
+    def run(self, k=None):
+        """Its status and its output if the K-th allocation is refused."""
+        environment = dict(os.environ)
+        if k:
+            environment.update(LD_PRELOAD=f"{self.files}/refuse.so", REFUSE="memory", REFUSE_AT=str(k))
+        with open(HERE / "traps", "rb") as traps:
+            ended = subprocess.run([self.files / "serve"], env=environment, stdin=traps, capture_output=True)
         return ended.returncode, ended.stdout
 
     def note(self, well, what):
         self.failed += not well
-        self.lines.append(f"{'ok' if well else 'FAILED'}: trap_replay: memory at boot: {what}")
+        self.lines.append(f"{'ok' if well else 'FAILED'}: the firmware's loop: {what}")
         return self
 
     def all(self):
-        """Behind the last of them the first answer comes."""
-        if not (REPLAY / "out/trap_replay").is_file():
-            with open(REPLAY / "stdin", "rb") as traps:
-                built = subprocess.run(["rt", "run"], cwd=REPLAY, stdin=traps, capture_output=True)
-            if not (REPLAY / "out/trap_replay").is_file():
-                return self.note(False, f"it is not built: {built.stderr[-200:]}")
-        answer = (REPLAY / "stdout").read_bytes()[:ANSWER]
+        """Refuses one allocation after the other until the first answer comes."""
+        failed = self.built()
+        if failed:
+            return self.note(False, f"it is not built: {failed}")
+        answers = (HERE / "traps.answers").read_bytes()
+        self.note(self.run() == (0, answers), "its answers")
         for k in range(1, MOST):
             status, out = self.run(k)
-            if out.startswith(answer):
-                return self.note(k > 1, f"each of {k - 1} calls")
-            if (status, out) != (2, END):
-                return self.note(False, f"call {k}: status {status}, {out[:16]}")
-        return self.note(False, "no end")
+            if out.startswith(answers[:ANSWER]):
+                return self.note(k > 1, f"memory at boot: each of {k - 1} calls")
+            if (status, out) != (1, END):
+                return self.note(False, f"memory at boot: call {k}: status {status}, {out[:16]}")
+        return self.note(False, "memory at boot: no end")
 
 
 def made(program, folder):

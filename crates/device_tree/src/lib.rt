@@ -1,4 +1,7 @@
-//! Flattened device trees: what their bytes spell.
+//! Flattened device trees: what their bytes spell, and the ranges of memory and devices that a board's tree describes.
+//!
+//! [`read_tree`] checks a tree and returns its pieces, or the reason for refusing it with its offset. [`ranges_of`] returns the memory,
+//! the reserved ranges and the devices of a board, each translated to the addresses of the root, with the node that it is from.
 #![tactic(auto)]
 
 mod board_fault;

@@ -10,7 +10,7 @@ use std::alloc::Global;
 use text_lines::{Sink, Source};
 use trap_server::{ServeFault, firmware_law, serve_traps};
 
-/// Serves the traps of a source, as `trap_replay` does. Where its input ends they are a run, of which the firmware's theorem
+/// Serves the traps of a source, as the firmware does. Where its input ends they are a run, of which the firmware's theorem
 /// holds: each hart that is in the host's world then has loaded the fewest entries of the host's view.
 pub fn serve_life<R: Source, W: Sink>(
     alloc: Global,

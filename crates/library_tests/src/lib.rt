@@ -1,12 +1,8 @@
-//! Worked rows of the machine and of what it is made of, as tests alone: calls, the table of enclaves, changes of world,
-//! measured bytes, calls of the Supervisor Binary Interface, and traces on booted machines with the report of each. Two
-//! functions show how the headline of the machine is used.
+//! Tests of the libraries: maps, plans, certificates and their check; calls, the table of enclaves, changes of world, measurements,
+//! SBI calls, and traces on booted machines with their reports.
 //!
-//! The rows of the table are platforms, the life of an enclave, and sequences of calls with the entries that each view then
-//! needs. The table knows nothing of certificates; the rows compare its tree with a new one by them.
-//!
-//! The rows have a crate of their own so that the gate proves each crate that they test once, and tries its edits beside
-//! the rows.
+//! They are in a crate of their own so that the gate proves each tested crate once. [`life`] and [`runs_on`] show how the headline is
+//! used, [`boot_row`] and [`checked_plan`] the theorems on plans, and [`serve_life`] that on the firmware.
 #![tactic(auto)]
 
 #[cfg(test)]

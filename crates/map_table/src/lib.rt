@@ -1,16 +1,11 @@
-//! The table of a map, as text, as JSON and as a picture: its stretches, and which entry decides each.
+//! A map and its entries in other forms: a table as text, JSON or SVG, and registers as C, assembly or JSON.
 //!
-//! A [`Stretch`] is a maximal piece of the space of bytes on which the map has one permission and one entry, or none, is the
-//! first that has each byte.
+//! A [`Stretch`] is a maximal range of bytes on which the map has one permission and one entry, or none, is the first that matches.
+//! [`stretches`] returns all of them in order for any list of extents. [`table_of`] prints the table of a map and its fewest entries,
+//! [`extent_table`] that of given extents, [`json_table`] the same as a JSON object, and [`picture`] as an SVG.
 //!
-//! - `stretch`: [`stretches`] answers all of them in order, for any list of extents; they leave no byte out and have none twice.
-//!   [`stretches_by_entries`] does so for a list of NA4 and NAPOT entries, and [`extents_of`] answers what each entry matches.
-//! - `extent_tree`: an [`ExtentTree`] finds the next extent of a list that has a byte of a stretch, without a look at each.
-//! - `table`: [`table_of`] answers the table of a map and its fewest entries, and [`extent_table`] that of what extents give by
-//!   themselves. `rows` has the pieces of it that other forms of it share, [`number_line`] and [`count_line`].
-//! - `tables`: [`json_table`] answers the same as one JSON object for programs, and [`picture`] as an SVG for people: a band for
-//!   each stretch that an entry decides, coloured by its permission, and a gap of one height for each other stretch. Both say
-//!   which entries the deciding one overrides.
+//! [`print_c`], [`print_asm`] and [`print_json`] write the registers of a list to a sink, each with its region and permission. A list
+//! may begin at a later entry than the first: C and assembly then leave the entries below it as they are.
 //!
 //! ```text
 //! from               to                 size    perm by

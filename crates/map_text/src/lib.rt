@@ -1,11 +1,13 @@
-//! The text of a map: what its lines say, and the map that they make.
+//! The text of a map and of its plan: parses the lines of a map file, and prints the lines of a plan.
 //!
-//! Each line sets a permission on whole pages, and a later line overrides an earlier one. For the layer above: [`map_of`]
-//! answers the map that the lines of a file make, or the first line at fault; [`raw_says`] answers what one line says.
-//! [`MAP_BYTES`] is how many bytes a map file may have.
+//! Each line of a map sets a permission on whole pages, and a later line overrides an earlier one. [`map_of`] returns the map of a file,
+//! or the first line at fault; [`raw_says`] parses one line. A map file has at most [`MAP_BYTES`]. [`print_plan`] writes the lines of a
+//! list of entries to a sink. The functions that end in `_line` return one line in a buffer of fixed length.
 //!
 //! ```rust
 //! let map = map_of(rt.alloc(), b"0x80000000 0x1000 rwx\n")?;
+//! let plan = plan_map(rt.alloc(), &map)?;
+//! print_plan(Xlen::Rv64, plan.entries(), 0, Limit::Sixteen, &mut out)?;
 //! ```
 #![tactic(auto)]
 

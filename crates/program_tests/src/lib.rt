@@ -1,9 +1,8 @@
-//! Worked rows of the program, as tests alone: of the command line, words that are a task and words that are none and how they
-//! fail; of the commands, what each prints and writes on files in memory, and on devices that fail; hints of inputs in memory, and
-//! names as messages show them.
+//! Tests of the program: the command line and its faults, the commands on files in memory and on failing devices, hints, and the texts
+//! that they read and print.
 //!
-//! They are separate from the commands so that these are proved once, and their tests beside other crates. The proofs of the
-//! command line over `clap` take the longest of all. More of what a command prints and answers is in transcripts.
+//! They are in a crate of their own so that the gate proves each tested crate once. What a command prints in full is in
+//! `tests/transcripts`.
 #![tactic(auto)]
 
 #[cfg(test)]

@@ -1,10 +1,11 @@
-//! Every public call that libraries and programs are written against, at its exact types and by the path of the crate that has it.
+//! Uses every public call that libraries and programs are written against, at its exact types and by the path of its crate.
 //!
-//! Nothing here is run, and nothing is promised: a call that goes, moves or changes its type no longer compiles, and the gate says
-//! so. [`maps`] has the way from a map to its entries and their certificate, [`machines`] that from a platform to a run, and
-//! [`programs`] the program's own calls.
+//! A call that is removed, moved or given another type no longer compiles here, so the gate notices. [`maps`] goes from a map to its
+//! entries and their certificate, [`machines`] from a platform to a run, and [`programs`] has the program's own calls. None of these
+//! is run, and they promise nothing. [`example`] is the example in the guide.
 #![tactic(auto)]
 
+pub mod example;
 pub mod machines;
 pub mod maps;
 pub mod programs;

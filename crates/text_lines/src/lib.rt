@@ -1,14 +1,16 @@
-//! The lines of an input: their words and numbers, and the one loop that interprets them and writes their answers.
+//! Input and output: the devices that bytes come from and go to, the lines of an input with their words and numbers, and the one loop
+//! that interprets lines and writes their answers.
 //!
-//! A [`LineReader`] hands out the lines of a source through one buffer, and [`next_line`] those of a text that is all there.
-//! [`Words`] are those of a line without its comment; [`number`] is what one of them spells, and [`is_text`] and its neighbours
-//! compare it with a text. [`interpret_lines`] reads line by line, lets an [`Interpreter`] do what each says, and writes its
-//! answer before it reads the next. An answer is its number, which a [`Counter`] counts up, and a [`Line`] after that. Nothing
-//! here takes memory.
+//! A [`Source`] supplies bytes and a [`Sink`] takes them. Both count their failures; if their bytes are known, a contract says which
+//! were read and written. [`Counted`] makes one of any reader or writer of std. [`write_whole`] writes all of its bytes, or a beginning
+//! of them if the sink failed or took none. A [`LineSink`] writes a number and a short text after it: a [`HeldSink`], which buffers
+//! 32 KiB, does so without a call, and any other [`Sink`] by its `write`.
 //!
-//! For the layer above: the lines of a reader are those of the input, line by line; the words of a line are the runs of
-//! bytes between its blanks; a number is read exactly where it is below 2^64. However the loop ends, its clauses tie what was
-//! read to the lines that were interpreted, in their order, and to the answers that were written.
+//! A [`LineReader`] returns the lines of a source through one buffer, and [`next_line`] those of a text in memory. [`Words`] are the
+//! words of a line without its comment, and [`number`] parses one of them. [`interpret_lines`] reads line by line, lets an
+//! [`Interpreter`] act on each, and writes its answer before it reads the next. An answer is its number, counted by a [`Counter`], and
+//! the [`Line`] after it. However the loop ends, its clauses tie what was read to the lines that were interpreted, in their order, and
+//! to the answers that were written. Only [`HeldSink`] allocates.
 //!
 //! ```text
 //! let mut lines = LineReader::<4096>::new();

@@ -1,12 +1,12 @@
-//! The numbers that say how the loop ended.
+//! The number that says how the loop ended.
 
 ghost use Rattle.std.specs.Prelude.{◌≡◌};
-ghost use Rattle.trap_server.specs.Numbers.{served_number, served_status};
+ghost use Rattle.trap_server.specs.Numbers.{served_number};
 
 use crate::fault::ServeFault;
 
-/// The number that firmware gets: 0 where the input ended, 1 where a frame was refused, 2 where a read failed, 3 where a write
-/// did.
+/// Returns the number that the firmware gets: 0 if the input ended, 1 if a frame was refused, 2 if a read failed, 3 if a write
+/// failed.
 pub fn served_number(served: Result<(), ServeFault>) -> i64
     ensures { result ≡ served_number served }
 {
@@ -15,16 +15,5 @@ pub fn served_number(served: Result<(), ServeFault>) -> i64
         Err(ServeFault::Refused(_)) => 1,
         Err(ServeFault::Read) => 2,
         Err(ServeFault::Write) => 3,
-    }
-}
-
-/// The status of a program: 0 where the input ended, 2 where a frame was refused, and 3 where a device failed.
-pub fn served_status(served: Result<(), ServeFault>) -> u8
-    ensures { result ≡ served_status served }
-{
-    match served {
-        Ok(()) => 0,
-        Err(ServeFault::Refused(_)) => 2,
-        Err(ServeFault::Read | ServeFault::Write) => 3,
     }
 }
