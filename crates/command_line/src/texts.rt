@@ -2,7 +2,7 @@
 
 /// The version, the kit that proves it, and what is proved.
 pub const VERSION: &str =
-    "0.3.0 (rattle-kit-13b logic dac8208d650f15bf)\nProved: a plan's entries mean the map and are the fewest that do; check accepts right certificates alone; judge and run answer as the registers decide";
+    "0.3.0 (rattle-kit-13f logic dac8208d650f15bf)\nProved: a plan's entries mean the map and are the fewest that do; check accepts right certificates alone; judge and run answer as the registers decide";
 
 /// What the program does.
 pub const ABOUT: &str =
