@@ -32,6 +32,7 @@ impl Contexts {
     }
 
     /// Lends the registers of the host on this hart, a number at most 3, or of the enclave with an id from 1 to 64.
+    #[inline(always)]
     pub fn saved(&self, hart: u8, world: World) -> &Registers
         requires hart { hart ≤ 3 }
         requires world { IsWorld world }
@@ -44,6 +45,7 @@ impl Contexts {
     }
 
     /// Copies the registers of the host on this hart, a number at most 3, or of the enclave with an id from 1 to 64.
+    #[inline(always)]
     pub fn get(&self, hart: u8, world: World) -> Registers
         requires hart { hart ≤ 3 }
         requires world { IsWorld world }
@@ -53,6 +55,7 @@ impl Contexts {
     }
 
     /// Sets the registers of the host on this hart, a number at most 3, or of the enclave with an id from 1 to 64.
+    #[inline(always)]
     pub fn set(&mut self, hart: u8, world: World, registers: Registers)
         requires hart { hart ≤ 3 }
         requires world { IsWorld world }

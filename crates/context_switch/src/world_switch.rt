@@ -23,7 +23,7 @@ pub fn switch(hart: &mut Hart, contexts: &mut Contexts, to: World, entries: &[En
     ensures bank { IsBankOf (bank_of hart.new) (bank_of hart.old).limit entries.now }
 {
     contexts.set(hart.number(), hart.world, hart.registers);
-    hart.registers = contexts.get(hart.number(), to);
+    hart.registers = *contexts.saved(hart.number(), to);
     hart.world = to;
     hart.bank.load(entries);
 }
