@@ -35,7 +35,7 @@ FIRMWARE = TOP / "firmware" / "README.md"
 EXAMPLE = TOP / "crates" / "public_surface" / "src" / "example.rt"
 DOCUMENTS = ["README.md", "CHANGELOG.md", "CONTRIBUTING.md", "SECURITY.md", "examples/README.md", "bench/README.md", "firmware/README.md", *sorted(f"docs/{it.name}" for it in TOP.glob("docs/*.md"))]
 # The documents whose English is checked. Each document joins them when it is rewritten.
-SCREENED = ["README.md", "CHANGELOG.md", "docs/DECISIONS.md", "docs/GLOSSARY.md", "docs/PROVED.md", "bench/README.md"]
+SCREENED = ["README.md", "CHANGELOG.md", "docs/DECISIONS.md", "docs/FAQ.md", "docs/GLOSSARY.md", "docs/HOW-IT-WORKS.md", "docs/PROVED.md", "bench/README.md"]
 # The share of flagged sentences in a document, in per cent.
 FLAGGED = 7
 # The words of all documents together.
