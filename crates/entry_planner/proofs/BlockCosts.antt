@@ -15,9 +15,9 @@ use Rattle.prefix_tree.specs.Chains.{chained}
 use Rattle.prefix_tree.proofs.Nested.{splits-chained}
 use Rattle.entry_planner.specs.Best.{any_of, is_best, least_cost}
 use Rattle.entry_planner.specs.PermSets.{set_of}
-use Rattle.entry_planner.specs.PackedCosts.{as_block, split_cost, splits_in}
+use Rattle.entry_planner.specs.SplitCosts.{as_block, split_cost, splits_in}
 use Rattle.entry_planner.specs.Plans.{block_cost}
-use Rattle.entry_planner.proofs.Sets.{bit_and-sets, bit_or-sets, set_of-empty, set_of-most}
+use Rattle.entry_planner.proofs.Sets.{bit_and-sets, bit_or-sets, set_of-empty}
 
 -- a split block's cost, from those of its halves, where it is known whether their sets meet
 pub split_cost_is :
@@ -57,13 +57,6 @@ split_as_block low high =
 
 pub is_split_block : (low high : PermTree) (c : SplitCost) (b : BlockCost) → c ≡ split_cost low high → b ≡ as_block c → b ≡ block_cost (Split low high)
 is_split_block low high c b is own = own ∙ ap as_block is ∙ split_as_block low high
-
--- its sets have six bits
-pub sets_small : (low high : PermTree) (c : SplitCost) → c ≡ split_cost low high → (c.both.bits < 64) × (c.either.bits < 64)
-sets_small low high c is = (
-  omega (arith, ap (λ x. x.both.bits) is, set_of-most (λ p. is_best low p && is_best high p)),
-  omega (arith, ap (λ x. x.either.bits) is, set_of-most (λ p. is_best low p || is_best high p)),
-)
 
 pub least_le_branches : (tree : PermTree) → least_cost tree ≤ splits tree
 least_le_branches (Uniform q) = omega arith

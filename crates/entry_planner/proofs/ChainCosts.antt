@@ -6,7 +6,7 @@ use Rattle.prefix_tree.specs.Chains.{nested, chained}
 use Rattle.prefix_tree.proofs.Nested.{nested_lower, nested_upper}
 use Rattle.entry_planner.specs.declared.costs.BlockCost.{BlockCost}
 use Rattle.entry_planner.specs.declared.costs.SplitCost.{SplitCost}
-use Rattle.entry_planner.specs.PackedCosts.{split_cost, splits_in}
+use Rattle.entry_planner.specs.SplitCosts.{split_cost, splits_in}
 use Rattle.entry_planner.specs.Plans.{block_cost}
 use Rattle.entry_planner.proofs.BlockCosts.{added_first, added_low}
 

@@ -15,7 +15,7 @@ use Rattle.entry_planner.specs.declared.costs.SplitCost.{SplitCost}
 use Rattle.entry_planner.specs.Best.{is_best}
 use Rattle.entry_planner.specs.Choice.{AddsChosen, IsChosenAt, handed_on}
 use Rattle.entry_planner.specs.Placement.{ArePages, IsOwn}
-use Rattle.entry_planner.specs.PackedCosts.{split_cost, splits_in}
+use Rattle.entry_planner.specs.SplitCosts.{split_cost, splits_in}
 use Rattle.entry_planner.proofs.Choices.{kept_handed}
 use Rattle.entry_planner.proofs.SamePerm.{perm_eq-same}
 use Rattle.entry_planner.proofs.Sets.{has-set_of}

@@ -12,7 +12,7 @@ use Rattle.prefix_tree.proofs.Nested.{nested_lower, nested_upper}
 use Rattle.entry_planner.specs.declared.costs.SplitCost.{SplitCost}
 use Rattle.entry_planner.specs.Choice.{AddsChosen, AddsOwn, handed_on}
 use Rattle.entry_planner.specs.Placement.{place_at}
-use Rattle.entry_planner.specs.PackedCosts.{splits_in}
+use Rattle.entry_planner.specs.SplitCosts.{splits_in}
 use Rattle.entry_planner.proofs.ChainPlaced.{Completes, begun, completed, went_down, went_up}
 use Rattle.entry_planner.proofs.Walked.{halves_fit_in, some_left}
 

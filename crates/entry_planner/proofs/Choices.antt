@@ -13,7 +13,7 @@ use Rattle.entry_planner.specs.Choice.{first_least, halves_cost, handed_on, IsCh
 use Rattle.entry_planner.specs.Costs.{least_of, cost}
 use Rattle.entry_planner.specs.PermSets.{has}
 use Rattle.entry_planner.proofs.Placements.{IsCheap, IsPlacedAt}
-use Rattle.entry_planner.specs.PackedCosts.{split_cost}
+use Rattle.entry_planner.specs.SplitCosts.{split_cost}
 use Rattle.entry_planner.proofs.BestCosts.{cost_is, sum_at, sum_apart}
 use Rattle.entry_planner.proofs.CostLemmas.{least_le, least_is}
 use Rattle.entry_planner.proofs.SamePerm.{perm_eq-same, perm_eq-false}

@@ -4,7 +4,7 @@ use Rattle.std.proofs.lemmas.List.{length-map, length-reverse, get_or-map, get_o
 use Rattle.pmp_encoding.specs.declared.perm.Perm.{Perm}
 use Rattle.entry_planner.specs.declared.costs.BlockCost.{BlockCost}
 use Rattle.entry_planner.specs.declared.costs.SplitCost.{SplitCost}
-use Rattle.entry_planner.specs.PackedCosts.{as_block}
+use Rattle.entry_planner.specs.SplitCosts.{as_block}
 use Rattle.entry_planner.specs.Plans.{cost_of, cost_in}
 
 -- the i-th block's cost stands in the list, which is kept with the last first

@@ -12,7 +12,7 @@ use Rattle.prefix_tree.specs.Joined.{one_perm}
 use Rattle.entry_planner.specs.declared.costs.SplitCost.{SplitCost}
 use Rattle.entry_planner.specs.Choice.{AddsChosen, AddsOwn, AreChosen, IsChosenAt, handed_on}
 use Rattle.entry_planner.specs.Placement.{ArePages, IsOwn}
-use Rattle.entry_planner.specs.PackedCosts.{split_cost, splits_in}
+use Rattle.entry_planner.specs.SplitCosts.{split_cost, splits_in}
 use Rattle.entry_planner.proofs.Added.{both_added}
 use Rattle.entry_planner.proofs.BlockCosts.{added_both}
 use Rattle.entry_planner.proofs.BlockPages.{lower_pages, upper_pages}

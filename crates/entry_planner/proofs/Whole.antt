@@ -20,7 +20,7 @@ use Rattle.entry_planner.specs.Best.{is_best, least_cost}
 use Rattle.entry_planner.specs.Costs.{cost, bounds_of}
 use Rattle.entry_planner.specs.Choice.{AreChosen}
 use Rattle.entry_planner.specs.Order.{AreInOrder}
-use Rattle.entry_planner.specs.PackedCosts.{as_block, splits_in}
+use Rattle.entry_planner.specs.SplitCosts.{as_block, splits_in}
 use Rattle.entry_planner.specs.Plans.{AreSmall, CostsAre, IsMade, Planned, block_cost, cost_in, cost_of, costed, costs_in}
 use Rattle.entry_planner.proofs.BestCosts.{cost_is}
 use Rattle.entry_planner.proofs.BlockCosts.{least_le_branches, split_as_block}

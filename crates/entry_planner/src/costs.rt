@@ -1,22 +1,21 @@
-//! What a block costs: its least number of entries, and under which permissions.
+//! The cost of a block: its least number of entries, and the permissions under which it is attained.
 
-use crate::packed_cost::PackedCost;
 use crate::perm_set::PermSet;
 use crate::sibling::sibling_of;
 use pmp_encoding::Perm;
 use prefix_tree::{Chain, Halving};
 use std::alloc::AllocError;
 
-/// What a block costs: the least number of entries, and the permissions under which it costs that.
-/// Under each other permission it costs one more.
+/// The cost of a block: the least number of entries, and the set of permissions under which it costs that. Under each other
+/// permission it costs one more.
 #[derive(Clone, Copy)]
 pub struct BlockCost {
     pub least: u32,
     pub best: PermSet,
 }
 
-/// What a split block costs: the least number of entries, and the permissions that are best for both of its halves, and for
-/// either. It costs that least under those that are best for both, or, where there is none, under those that are best for either.
+/// The cost of a split block, in eight bytes: the least number of entries, the permissions that are best for both of its halves, and
+/// those that are best for either half. It costs the least under those for both or, if there are none, under those for either.
 #[derive(Clone, Copy)]
 pub struct SplitCost {
     pub least: u32,
@@ -29,13 +28,13 @@ ghost use Rattle.entry_planner.specs.declared.costs.BlockCost.{BlockCost};
 ghost use Rattle.entry_planner.specs.declared.costs.SplitCost.{SplitCost};
 ghost use Rattle.entry_planner.specs.Best.{least_cost};
 ghost use Rattle.entry_planner.specs.PermSets.{has};
-ghost use Rattle.entry_planner.specs.PackedCosts.{as_block, split_cost, splits_in};
+ghost use Rattle.entry_planner.specs.SplitCosts.{as_block, split_cost, splits_in};
 ghost use Rattle.entry_planner.specs.Plans.{block_cost, cost_of};
 ghost use Rattle.prefix_tree.specs.Counts.{splits};
 ghost use Rattle.prefix_tree.specs.Chains.{IsChain, chained};
 ghost use Rattle.prefix_tree.specs.Trees.{PermTree, Uniform, Split};
 
-/// For each set, and for each permission in the fixed order: one where the permission is not in the set.
+/// For each set and each permission, in the fixed order: 1 if the permission is not in the set, and otherwise 0.
 static MORE: [[u32; 6]; 64] = [
     [1, 1, 1, 1, 1, 1],
     [0, 1, 1, 1, 1, 1],
@@ -103,8 +102,7 @@ static MORE: [[u32; 6]; 64] = [
     [0, 0, 0, 0, 0, 0],
 ];
 
-/// How many more entries a block costs under a permission than under the best. The six of a set lie together, so that
-/// they are read in one step where all are needed.
+/// Returns how many more entries a block costs under a permission than under the best: 0 or 1.
 #[inline(always)]
 fn more_under(best: PermSet, perm: Perm) -> u32
     ensures value { result ≡ (if has best.bits perm then 0 else 1) }
@@ -114,7 +112,7 @@ fn more_under(best: PermSet, perm: Perm) -> u32
 }
 
 impl BlockCost {
-    /// What the block costs where it inherits a permission.
+    /// Returns the cost of the block if it inherits a permission.
     pub fn under(self, perm: Perm) -> u32
         requires { self.least + 1 < 2 ^ 32 }
         ensures { result ≡ cost_of self perm }
@@ -123,7 +121,7 @@ impl BlockCost {
     }
 }
 
-/// A block of one permission costs nothing under that one.
+/// Returns the cost of a block of one permission: nothing under that permission.
 fn cost_of_uniform(perm: Perm) -> BlockCost
     ensures { result ≡ block_cost (Uniform perm) }
 {
@@ -134,7 +132,7 @@ fn cost_of_uniform(perm: Perm) -> BlockCost
 }
 
 impl SplitCost {
-    /// What it costs as a block.
+    /// Returns its cost as a block.
     #[inline(always)]
     pub fn as_block(self) -> BlockCost
         ensures { result ≡ as_block self }
@@ -151,7 +149,7 @@ impl SplitCost {
     }
 }
 
-/// What a split block costs, whose halves cost so much.
+/// Returns the cost of a split block from the costs of its halves.
 #[inline(always)]
 fn cost_of_split(lower: BlockCost, upper: BlockCost) -> SplitCost
     requires { lower.least + upper.least + 1 < 2 ^ 32 }
@@ -174,14 +172,14 @@ fn cost_of_split(lower: BlockCost, upper: BlockCost) -> SplitCost
     }
 }
 
-/// Appends a split block after those of its upper half and of its lower half.
+/// Appends the cost of a split block, after those of its upper and its lower half.
 #[inline(always)]
 fn add_split(
     low: BlockCost,
     high: BlockCost,
-    costs: &mut Vec<PackedCost>,
+    costs: &mut Vec<SplitCost>,
 ) -> Result<BlockCost, AllocError>
-    requires { low.least + high.least + 1 < 2 ^ 20 }
+    requires { low.least + high.least + 1 < 2 ^ 32 }
     ensures own { IfOk result (λ cost.
         (lower upper : PermTree) → low ≡ block_cost lower → high ≡ block_cost upper
         → cost ≡ block_cost (Split lower upper)) }
@@ -191,15 +189,15 @@ fn add_split(
     ensures most { IfOk result (λ cost. cost.least ≤ low.least + high.least + 1) }
 {
     let cost = cost_of_split(low, high);
-    costs.push(PackedCost::new(cost))?;
+    costs.push(cost)?;
     Ok(cost.as_block())
 }
 
-/// Appends the split blocks of a chain after those of its smallest block, the smaller before the larger.
+/// Appends the costs of the split blocks of a chain after those of its smallest block, the smaller before the larger.
 fn add_chain_costs(
     chain: Chain,
     smallest: BlockCost,
-    costs: &mut Vec<PackedCost>,
+    costs: &mut Vec<SplitCost>,
 ) -> Result<BlockCost, AllocError>
     requires chain { IsChain chain }
     requires small { smallest.least + chain.levels < 2 ^ 20 }
@@ -215,7 +213,7 @@ fn add_chain_costs(
     let mut cost = smallest;
     let mut rest = chain.place;
     for level in 0..chain.levels {
-        // Which of the halves is the lower makes no difference to what they cost.
+        // The order of the halves makes no difference to their cost.
         cost = add_split(sibling_of(rest, before, behind), cost, costs)?;
         rest /= 2;
     }
@@ -223,10 +221,7 @@ fn add_chain_costs(
 }
 
 /// Appends the costs of the split blocks of a block, the last in preorder first.
-pub fn add_costs<H: Halving>(
-    block: &H,
-    costs: &mut Vec<PackedCost>,
-) -> Result<BlockCost, AllocError>
+pub fn add_costs<H: Halving>(block: &H, costs: &mut Vec<SplitCost>) -> Result<BlockCost, AllocError>
     requires { splits (H.shape block.now) < 2 ^ 20 }
     ensures own { IfOk result (λ cost. cost ≡ block_cost (H.shape block.now)) }
     ensures costs { OnOk result (costs.new.items ≡ costs.old.items

@@ -2,10 +2,10 @@
 
 use pmp_encoding::Perm;
 
-/// A set of permissions: a bit for each, in the fixed order, that of no access lowest.
+/// A set of permissions: one of the six low bits for each, in the fixed order, with that of no access lowest.
 #[derive(Clone, Copy)]
 pub struct PermSet {
-    pub bits: u32,
+    pub bits: u8,
 }
 
 ghost use Rattle.std.specs.Prelude.{◌≡◌, ◌<◌, bit_and, bit_or, false, true, IfSome, IfNone, ◌==◌};
@@ -13,11 +13,11 @@ ghost use Rattle.pmp_encoding.specs.declared.perm.Perm.{Perm};
 ghost use Rattle.pmp_encoding.specs.Perms.{index_of, perm_eq};
 ghost use Rattle.entry_planner.specs.PermSets.{has, set_of};
 
-/// The set of each permission, in the fixed order.
-static ONLY: [u32; 6] = [0x01, 0x02, 0x04, 0x08, 0x10, 0x20];
+/// The set of each single permission, in the fixed order.
+static ONLY: [u8; 6] = [0x01, 0x02, 0x04, 0x08, 0x10, 0x20];
 
 impl PermSet {
-    /// The set of one permission.
+    /// Returns the set of one permission.
     pub fn only(perm: Perm) -> PermSet
         ensures { result.bits ≡ set_of (perm_eq perm) }
     {
@@ -26,7 +26,7 @@ impl PermSet {
         }
     }
 
-    /// The permissions of both sets.
+    /// Returns the permissions that are in both sets.
     pub fn intersection(self, other: PermSet) -> PermSet
         ensures { result.bits ≡ bit_and self.bits other.bits }
     {
@@ -35,7 +35,7 @@ impl PermSet {
         }
     }
 
-    /// The permissions of either set.
+    /// Returns the permissions that are in either set.
     pub fn union(self, other: PermSet) -> PermSet
         ensures { result.bits ≡ bit_or self.bits other.bits }
     {
@@ -56,7 +56,7 @@ impl PermSet {
         self.bits == 0
     }
 
-    /// The first permission of the set in the fixed order.
+    /// Returns the first permission of the set in the fixed order.
     pub fn first(self) -> Option<Perm>
         ensures some { IfSome result (λ p. has self.bits p ≡ true) }
         ensures first { IfSome result (λ p.

@@ -1,7 +1,6 @@
 //! The pass down the tree: which blocks take an entry.
 
 use crate::costs::SplitCost;
-use crate::packed_cost::PackedCost;
 use crate::shelves::Shelves;
 use crate::sibling::sibling_of;
 use pmp_encoding::{Entry, PAGE_SIZE, PackedEntry, Perm, Region, pages_of};
@@ -22,7 +21,7 @@ ghost use Rattle.prefix_tree.specs.Trees.{PermTree, Fits};
 ghost use Rattle.entry_planner.specs.declared.costs.SplitCost.{SplitCost};
 ghost use Rattle.entry_planner.specs.Choice.{AddsChosen, AddsOwn, handed_on};
 ghost use Rattle.entry_planner.specs.Placement.{ArePages, IsBlockOf, IsOwn, place_at};
-ghost use Rattle.entry_planner.specs.PackedCosts.{split_cost, splits_in};
+ghost use Rattle.entry_planner.specs.SplitCosts.{split_cost, splits_in};
 ghost use Rattle.entry_planner.specs.Shelves.{is_free};
 
 impl PageBlock {
@@ -176,9 +175,9 @@ fn place_chain<'a, H: Halving>(
     smallest: &H,
     pages: PageBlock,
     inherited: Perm,
-    costs: &'a [PackedCost],
+    costs: &'a [SplitCost],
     entries: &mut Shelves,
-) -> Result<&'a [PackedCost], AllocError>
+) -> Result<&'a [SplitCost], AllocError>
     requires chain { chain.place < 2 ^ chain.levels }
     requires most { chain.levels ≤ 44 }
     requires fits { Fits pages.log2 (chained chain (H.shape smallest.now)) }
@@ -194,10 +193,10 @@ fn place_chain<'a, H: Halving>(
     let mut from = inherited;
     let mut left = costs;
     for depth in 0..chain.levels {
-        let [others @ .., packed] = left else {
+        let [others @ .., cost] = left else {
             unreachable!();
         };
-        let perm = halves_perm(packed.cost(), from);
+        let perm = halves_perm(*cost, from);
         push_entry_in_order(
             pages.part(depth, place_at(chain, depth)),
             from,
@@ -223,9 +222,9 @@ pub fn place_entries<'a, H: Halving>(
     block: &H,
     pages: PageBlock,
     inherited: Perm,
-    costs: &'a [PackedCost],
+    costs: &'a [SplitCost],
     entries: &mut Shelves,
-) -> Result<&'a [PackedCost], AllocError>
+) -> Result<&'a [SplitCost], AllocError>
     requires fits { Fits pages.log2 (H.shape block.now) }
     requires pages { ArePages pages.log2 pages.first }
     requires costs { (rest : List SplitCost)
@@ -251,10 +250,10 @@ pub fn place_entries<'a, H: Halving>(
         return Ok(rest);
     }
     let (lower, upper) = block.halves();
-    let [rest @ .., packed] = costs else {
+    let [rest @ .., cost] = costs else {
         unreachable!();
     };
-    let perm = halves_perm(packed.cost(), inherited);
+    let perm = halves_perm(*cost, inherited);
     let rest = place_entries(&lower, pages.lower(), perm, rest, entries)?;
     let rest = place_entries(&upper, pages.upper(), perm, rest, entries)?;
     push_entry_in_order(pages, inherited, perm, entries)?;

@@ -1,6 +1,6 @@
 //! A plan: the fewest entries of a view, with the costs of its blocks.
 
-use crate::packed_cost::PackedCost;
+use crate::costs::SplitCost;
 use crate::split_costs::SplitCosts;
 use pmp_encoding::{Entry, PackedEntry, Perm};
 use std::alloc::{AllocError, Global};
@@ -27,7 +27,7 @@ impl<E> Model for Plan<E> {
 }
 
 ghost use Rattle.std.specs.Prelude.{◌≡◌, ◌^◌, ◌<◌, length, map, reverse, IfOk};
-ghost use Rattle.entry_planner.specs.PackedCosts.{as_block};
+ghost use Rattle.entry_planner.specs.SplitCosts.{as_block};
 ghost use Rattle.entry_planner.specs.Plans.{AreSmall, cost_in};
 
 impl<E> Plan<E> {
@@ -92,7 +92,7 @@ fn unpacked(alloc: Global, packed: &[PackedEntry]) -> Result<Vec<Entry>, AllocEr
 
 impl Plan<PackedEntry> {
     /// A plan of these entries and costs, the last in preorder first.
-    pub(crate) fn new(entries: Vec<PackedEntry>, costs: Vec<PackedCost>) -> Plan<PackedEntry>
+    pub(crate) fn new(entries: Vec<PackedEntry>, costs: Vec<SplitCost>) -> Plan<PackedEntry>
         requires { AreSmall
             (record { entries = entries.items; costs = map as_block (reverse costs.items) }) }
         ensures { result

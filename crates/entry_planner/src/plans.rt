@@ -9,14 +9,13 @@ ghost use Rattle.prefix_tree.specs.Counts.{splits};
 ghost use Rattle.prefix_tree.specs.Trees.{Fits, view_of_tree};
 ghost use Rattle.entry_planner.specs.Order.{AreInOrder};
 ghost use Rattle.entry_planner.specs.Choice.{AreChosen};
-ghost use Rattle.entry_planner.specs.PackedCosts.{splits_in};
+ghost use Rattle.entry_planner.specs.SplitCosts.{splits_in};
 ghost use Rattle.entry_planner.specs.Plans.{CostsAre, IsMade, costed};
 ghost use Rattle.permission_map.specs.Runs.{view_of_runs};
 ghost use Rattle.prefix_tree.specs.TreeOf.{tree_of};
 
-use crate::costs::add_costs;
+use crate::costs::{SplitCost, add_costs};
 use crate::order::in_order;
-use crate::packed_cost::PackedCost;
 use crate::placement::{PageBlock, place_entries};
 use crate::planned::Plan;
 use crate::shelves::Shelves;
@@ -30,7 +29,7 @@ fn entries_of<H: Halving>(
     alloc: Global,
     root: &H,
     least: u32,
-    costs: &[PackedCost],
+    costs: &[SplitCost],
 ) -> Result<Vec<PackedEntry>, Memory>
     requires fits { Fits 44 (H.shape root.now) }
     requires costs { costs.now ≡ reverse (splits_in (H.shape root.now)) }

@@ -1,10 +1,10 @@
 //! What the split blocks of a tree cost, as a plan keeps it.
 
 ghost use Rattle.std.specs.Prelude.{◌≡◌, ◌+◌, ◌^◌, ◌<◌, All, length, map, reverse};
-ghost use Rattle.entry_planner.specs.PackedCosts.{as_block};
+ghost use Rattle.entry_planner.specs.SplitCosts.{as_block};
 ghost use Rattle.entry_planner.specs.Plans.{cost_in};
 
-use crate::packed_cost::PackedCost;
+use crate::costs::SplitCost;
 use pmp_encoding::Perm;
 use std::marker::Model;
 
@@ -13,13 +13,13 @@ use std::marker::Model;
 #[derive(Drop)]
 pub struct SplitCosts {
     /// The last in preorder comes first.
-    costs: Vec<PackedCost>,
+    costs: Vec<SplitCost>,
 }
 
 impl Model for SplitCosts {
     ghost use Rattle.std.specs.Prelude.{◌+◌, ◌^◌, ◌<◌, All, List, map, reverse};
     ghost use Rattle.entry_planner.specs.declared.costs.BlockCost.{BlockCost};
-    ghost use Rattle.entry_planner.specs.PackedCosts.{as_block};
+    ghost use Rattle.entry_planner.specs.SplitCosts.{as_block};
 
     ghost Value = { List BlockCost };
 
@@ -31,7 +31,7 @@ impl Model for SplitCosts {
 
 impl SplitCosts {
     /// These costs, the last in preorder first.
-    pub(crate) fn new(costs: Vec<PackedCost>) -> SplitCosts
+    pub(crate) fn new(costs: Vec<SplitCost>) -> SplitCosts
         requires { All (λ d. d.least + 1 < 2 ^ 32) (map as_block (reverse costs.items)) }
         ensures { result ≡ map as_block (reverse costs.items) }
     {
@@ -51,6 +51,6 @@ impl SplitCosts {
         ensures { result ≡ cost_in self.now i perm }
     {
         let last = self.branches() - 1;
-        self.costs[last - i].cost().as_block().under(perm)
+        self.costs[last - i].as_block().under(perm)
     }
 }

@@ -25,7 +25,7 @@ add_costs-requires-3 g t c =
     λ κs lives. (omega (arith, c.decreases, ap splits c.halves-lower.ensures), (lives, omega (arith, c.requires, ap splits c.halves-lower.ensures)))
 
 pub add_split-requires : goal.add_split-requires
-add_split-requires g t c = halves_fit _ _ _ _ _ c.halves-lower.ensures c.requires c.in_ok-low.ensures.own c.in_ok-high.ensures.own
+add_split-requires g t c = omega (arith, halves_fit _ _ _ _ _ c.halves-lower.ensures c.requires c.in_ok-low.ensures.own c.in_ok-high.ensures.own)
 
 pub returns-clause-own : goal.returns-clause-own
 returns-clause-own g t c = c.in_ok-cost-3.ensures.own _ _ c.in_ok-low.ensures.own c.in_ok-high.ensures.own ∙ ap block_cost (sym c.halves-lower.ensures)

@@ -1,6 +1,6 @@
 -- The lists grow by the split block of each level, whose halves are taken with the one beside the chain first.
 use Rattle.std.proofs.Common.{◌≡◌, ◌%◌, ◌∙◌, ◌∷◌, [], ◌++◌, ap, arith, reverse, eq-zero-or-pos, inl, inr}
-use Rattle.entry_planner.specs.PackedCosts.{splits_in}
+use Rattle.entry_planner.specs.SplitCosts.{splits_in}
 use Rattle.entry_planner.specs.Plans.{block_cost}
 use Rattle.entry_planner.proofs.BlockCosts.{turned_cost, turned_split}
 use Rattle.entry_planner.proofs.ChainCosts.{begun, raised_upper, raised_lower, raised_whole}

@@ -1,6 +1,6 @@
--- What is appended, packed, is what the split block costs, whose sets have six bits.
+-- What is appended is what the split block costs.
 use Rattle.std.proofs.Common.{◌++◌, ◌∷◌, [], ap, ◌∙◌}
-use Rattle.entry_planner.proofs.BlockCosts.{is_split_block, sets_small}
+use Rattle.entry_planner.proofs.BlockCosts.{is_split_block}
 use Rattle.entry_planner.proofs.costs.add_split.Goals as goal
 
 pub returns-clause-own : goal.returns-clause-own
@@ -10,5 +10,4 @@ returns-clause-own c = λ lower upper l u.
 pub returns-clause-costs : goal.returns-clause-costs
 returns-clause-costs c = λ lower upper l u.
     let is = c.cost_of_split-cost.ensures.cost lower upper l u in
-    let small = sets_small lower upper _ is in
-    c.in_ok-push.ensures.items ∙ ap (λ x. c.args.costs.now.items ++ x ∷ []) (c.new.ensures small.0 small.1 ∙ is)
+    c.in_ok-push.ensures.items ∙ ap (λ x. c.args.costs.now.items ++ x ∷ []) is

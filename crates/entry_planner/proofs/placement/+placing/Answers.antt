@@ -6,7 +6,7 @@ use Rattle.prefix_tree.specs.Counts.{splits}
 use Rattle.prefix_tree.specs.Trees.{PermTree, Uniform, Fits}
 use Rattle.prefix_tree.proofs.Nested.{splits-chained}
 use Rattle.entry_planner.specs.Placement.{place_at}
-use Rattle.entry_planner.specs.PackedCosts.{splits_in}
+use Rattle.entry_planner.specs.SplitCosts.{splits_in}
 use Rattle.entry_planner.proofs.ChainWalked.{all_costs, IsStep, begun_at, beside_small, cost_left, ended, left_at, place_small, split_at_lower, split_at_upper}
 use Rattle.entry_planner.proofs.ChainWalked.{stepped_lower, stepped_upper}
 use Rattle.entry_planner.proofs.ChainKept.{kept_chosen, smallest_costs, smallest_fits}
@@ -123,7 +123,7 @@ place_entries-returns-clause-rest g t c = rest_is _ _ _ _ _ _ c.halves-lower.ens
 pub place_entries-returns-clause-placed : goal.place_entries-returns-clause-placed
 place_entries-returns-clause-placed g t c =
     let handed = c.halves_perm-perm.ensures (g.H.Halving.shape c.halves-lower.result.0) (g.H.Halving.shape c.halves-lower.result.1)
-    (c.cost.ensures ∙ c.packed-item.is ∙ last_is _ _ _ _ _ c.halves-lower.ensures c.requires.costs) in
+    (last_is _ _ _ _ _ c.halves-lower.ensures c.requires.costs) in
     split_chosen _ _ _ _ _ _ _ _ _ _ _ _ _ _ _ c.halves-lower.ensures c.lower.ensures.log2 c.upper.ensures.log2 c.lower.ensures.first c.upper.ensures.first
     handed
     c.in_ok-rest-3.ensures.placed c.in_ok-rest-4.ensures.placed c.in_ok-push_entry_in_order-2.ensures
@@ -214,7 +214,7 @@ place_chain-loop-depth-preserved g t c =
           let s = split_at_lower c.args.chain tree l.depth some even in
           let parity = ap (λ n. n % 2) at ∙ even in
           let handed = c.halves_perm-perm.ensures (left_at c.args.chain (l.depth + 1) tree) (Uniform c.args.chain.behind)
-          (c.cost.ensures ∙ c.packed-item.is ∙ last_is _ _ _ _ _ s i.ends) in (record {
+          (last_is _ _ _ _ _ s i.ends) in (record {
             few = few;
             ends = lower_ends _ _ _ _ s i.ends;
             back = λ rest same. i.back rest (rest_is _ _ _ _ _ _ s i.ends same (sym (append-nil _)));
@@ -226,7 +226,7 @@ place_chain-loop-depth-preserved g t c =
           let s = split_at_upper c.args.chain tree l.depth some odd in
           let parity = ap (λ n. n % 2) at ∙ odd in
           let handed = c.halves_perm-perm.ensures (Uniform c.args.chain.before) (left_at c.args.chain (l.depth + 1) tree)
-          (c.cost.ensures ∙ c.packed-item.is ∙ last_is _ _ _ _ _ s i.ends) in (record {
+          (last_is _ _ _ _ _ s i.ends) in (record {
             few = few;
             ends = upper_ends _ _ _ _ _ s i.ends (sym (append-nil _));
             back = λ rest same. i.back rest (rest_is _ _ _ _ _ _ s i.ends (sym (append-nil _)) same);

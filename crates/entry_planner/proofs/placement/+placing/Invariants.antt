@@ -3,7 +3,7 @@ use Rattle.std.proofs.Common.{◌≡◌, ◌+◌, ◌-◌, ◌*◌, ◌≤◌, �
 use Rattle.prefix_tree.specs.Chains.{chained}
 use Rattle.prefix_tree.specs.Counts.{splits}
 use Rattle.entry_planner.specs.declared.costs.SplitCost.{SplitCost}
-use Rattle.entry_planner.specs.PackedCosts.{splits_in}
+use Rattle.entry_planner.specs.SplitCosts.{splits_in}
 use Rattle.entry_planner.proofs.ChainWalked.{WalkedTo, left_at}
 use Rattle.entry_planner.proofs.placement.+placing.Given as goal
 
