@@ -31,7 +31,7 @@ PARTS = [
     ("A call", "What the monitor answers to a call or an interrupt, and what it leaves.", [(MONITOR, "serve"), (MONITOR, "interrupt")]),
     ("A report", "What is read and written where a trace is run.", [("hart_sim/src/trace_run.rt", "run")]),
     ("The firmware", "What holds after any list of traps that the firmware's loop served.", [("trap_server/src/laws.rt", "firmware_law")]),
-    ("A board", "What holds after any list of accesses and traps on a board that the firmware runs on.", [("board/src/laws.rt", "board_law")]),
+    ("A board", "What holds after any list of events on a board that the firmware runs on.", [("board/src/laws.rt", "board_law")]),
     ("The model on a board", "How each run of the model is a run of such a board.", [("board/src/laws.rt", "model_law")]),
 ]
 # The theorems, whose contracts are on the first page, each with the part that it stands in.
@@ -39,7 +39,7 @@ THEOREMS = [("hart_sim/src/laws.rt", "headline_law"), ("trap_server/src/laws.rt"
 # The functions that look at a machine: what they answer is all that is to be known of `state_of`, `kept_of` and `bank_on`.
 OBSERVERS = [(MACHINE, name) for name in ("harts", "world", "registers", "registers_of", "marked", "byte", "is_written", "table", "bank")]
 # The most names and lines of each part, and of all that `boot`, `step` and `run` rest on. They may shrink; where one grows, look for what it says twice.
-MOST = {1: (87, 395), 2: (44, 262), 3: (48, 246), 4: (44, 240), 5: (69, 384), 6: (95, 510), 7: (48, 315), 8: (8, 68), "together": (253, 1320)}
+MOST = {1: (87, 395), 2: (44, 262), 3: (48, 246), 4: (44, 240), 5: (69, 384), 6: (95, 510), 7: (69, 475), 8: (8, 69), "together": (253, 1320)}
 # What those functions show, and no definition says: the state of a machine and of a monitor, the tables that they keep, a machine's banks.
 SHOWN = {"hart_sim": {"state_of", "kept_of", "bank_on"}, "monitor_core": {"state_of", "kept_of", "worlds_of", "marks_of", "list_of"}}
 # A part speaks of these, and says what follows from them: what they are is in a later part.
@@ -92,12 +92,16 @@ There are three, over one monitor (`monitor_core`), which the model and the firm
    entries in the last list that was answered for each world and in the list that each hart loaded last; the pages that are read or
    zeroed; how register sets change, for all sets that the harts may keep; and the control words of an enclave that is entered. The code
    establishes it in the clauses `all` and `early` of `serve_traps`.
-3. **A board** (`board_law`, part 7) is about memory and harts around that loop, and so about what worlds do between traps. What the code
-   around the loop must do is a premise in one definition (`DoesTrap`): each world keeps the list that an answer last gave it; a hart judges
-   by the list that it loaded last; the pages that an answer names are zeroed; pages that are read come from memory; no world runs
-   meanwhile; and register sets, floating-point registers and control words change only as the answer says. Between traps a host may
-   write any control word, and an enclave, in user mode, only its status (`MayWrite`). Other harts keep running while the pages of a new
-   enclave are read: until the next trap no world can change them (`pages_law`).
+3. **A board** (`board_law`, part 7) is about memory and harts around that loop, and so about what worlds do between traps. Its memory is
+   RAM outside the monitor's pages: devices and the monitor may change every other byte at any time. What the code around the loop must
+   do is a premise, in one definition for each event. For a trap that the loop serves it is `DoesTrap`: lists of entries, pages and
+   registers are kept, loaded, read and zeroed as the answer says, and nothing else of memory and registers changes. A trap that a hart
+   serves without the loop (`DoesAside`) changes a0, a1 and the program counter of a host that called, or enters the host's handler; an
+   enclave that is interrupted for a fence keeps all of its registers. A host may stop its hart (`DoesPark`) and start another
+   (`DoesStart`). A control register holds what was written as far as its bits can be written (`held`); `CanConfine` lists the bits that
+   must be able to be zero, and why. QEMU's hart is an instance (`crates/library_tests`). Between traps a host may write any control
+   word, and an enclave, in user mode, only its status (`MayWrite`). Other harts keep running while the pages of a new enclave are read:
+   until the next trap no world can change them (`pages_law`). `answers_law` bounds the words of each answer.
 
 The first and the third agree: each run of the model is a run of a board (`model_law`, part 8), access by access and call by call, with the same
 table, worlds, memory and registers at the end. What part 7 says about every board therefore holds for the model.
@@ -112,7 +116,8 @@ The theorems do not cover:
   board theorem takes this as its premise; `firmware/README.md` states the rules, which are tested on QEMU;
 - the build for RV64, a retargeted build of a proved module, which is tested on QEMU;
 - devices whose bytes are unknown, as explained above;
-- anything else that a real hart does: caches, side channels, devices that access memory by themselves, time.
+- anything else that a real hart does: caches, side channels, devices that access memory by themselves, time. `SECURITY.md` lists what
+  else no board has, and that a trap, which takes time, is one event of a board.
 
 ## The parts
 

@@ -1,38 +1,34 @@
 -- What holds of an access: it is a step of the model, whose verdict is the view's.
-use Rattle.std.proofs.Common.{◌≡◌, ◌≢◌, ◌∙◌, inl, inr, ℕ, ◌+◌, ◌-◌, ◌<◌, ◌≤◌, nat_le, nat_lt, if◌then◌else◌, List, Result, Ok, Err, true, refl}
-use Rattle.std.proofs.Common.{ap, sym, subst}
-use Rattle.std.proofs.lemmas.Bool.{and_parts, leb-true, ltb-true}
+use Rattle.std.proofs.Common.{◌≡◌, ◌≢◌, ◌∙◌, inl, inr, ℕ, List, Result, Ok, Err, true, refl, ap, sym, subst}
 use Rattle.pmp_encoding.specs.declared.perm.Perm.{Perm}
 use Rattle.pmp_encoding.specs.declared.region.Entry.{Entry}
-use Rattle.pmp_encoding.specs.Registers.{byte_of}
 use Rattle.pmp_encoding.proofs.Pairs.{one_list}
 use Rattle.pmp_match.specs.declared.access.Access.{Access}
 use Rattle.pmp_match.specs.declared.access.Kind.{Kind}
 use Rattle.pmp_match.specs.declared.access.Kind.TheVariants.{Fetch, Load, Store}
 use Rattle.pmp_match.specs.declared.access.Mode.TheVariants.{Machine}
 use Rattle.pmp_match.specs.declared.cause.Cause.{Cause}
-use Rattle.pmp_match.specs.Accesses.{Reaches}
 use Rattle.pmp_match.specs.Judgement.{Judges}
 use Rattle.pmp_match.specs.Meaning.{Means}
 use Rattle.pmp_match.proofs.Judged.{judgement_law_proof}
 use Rattle.enclave_table.specs.Enclaves.{Live}
 use Rattle.enclave_table.specs.Tables.{IsTable}
 use Rattle.enclave_table.specs.Views.{current_view}
-use Rattle.monitor_core.proofs.Cases.{both}
 use Rattle.hart_trace.specs.declared.event.Event.{Event}
 use Rattle.hart_trace.specs.declared.event.Event.TheVariants as events
 use Rattle.hart_trace.specs.declared.reply.Reply.{Reply}
 use Rattle.hart_trace.specs.declared.reply.Reply.TheVariants as replies
 use Rattle.hart_sim.specs.Changes.{storing}
-use Rattle.hart_sim.specs.Memory.{bytes_at, in_range, number_of_bytes}
+use Rattle.hart_sim.specs.Memory.{bytes_at, number_of_bytes}
 use Rattle.hart_sim.specs.Privacy.{StoresTo}
 use Rattle.hart_sim.specs.Promises.{Promises}
 use Rattle.hart_sim.specs.States.{MachineState, awoken}
 use Rattle.hart_sim.specs.Steps.{Accesses, Step, TakesEffect, verdict}
 use Rattle.trap_server.specs.Firmware.{HasFewest}
-use Rattle.board.specs.Board.{Board, DoesAccess, memory_after, put_by}
-use Rattle.board.specs.Headline.{IsMonitorByte, IsOwnStore, KeepsAccess, floats_of}
+use Rattle.board.specs.Board.{Board, DoesAccess, IsMemoryByte, memory_after, put_by}
+use Rattle.board.specs.Headline.{IsOwnStore, KeepsAccess, floats_of}
 use Rattle.board.proofs.Judged.{judged}
+use Rattle.board.proofs.Private.{private_memory}
 
 -- what a list says that means a view, the view says
 said_by : (view : ℕ → Perm) (entries : List Entry) (a : Access) (said : Result (Unit {0}) Cause) → Means entries view → a.mode ≢ Machine
@@ -110,25 +106,6 @@ said_fault : (said : Result (Unit {0}) Cause) (s : MachineState) (a : Access) (c
 said_fault (Err why) s a cause is = (why, refl)
 said_fault (Ok done) s a cause is = absurd (no_fault a.kind s a cause is)
 
--- an access changes no byte that it does not reach, and a fault none
-within : (first count n : ℕ) → in_range first count n ≡ true → (first ≤ n) × (n < first + count)
-within first count n is = let p = and_parts (nat_le first n) (nat_lt n (first + count)) is in (leb-true first n p.0, ltb-true n (first + count) p.1)
-
-put_stays : (kind : Kind) (memory : ℕ → ℕ) (a : Access) (value byte : ℕ) → (Reaches a byte → ⊥) → put_by kind memory a value byte ≡ memory byte
-put_stays Fetch memory a value byte past = refl
-put_stays Load memory a value byte past = refl
-put_stays Store memory a value byte past = both (in_range a.address a.size byte)
-    (λ yes. absurd (past (within a.address a.size byte yes)))
-    (λ no. ap (λ b. if b then byte_of value (byte - a.address) else memory byte) no)
-
-no_ok : (cause : Cause) → ◌≡◌ {A = Result (Unit {0}) Cause} (Ok tt) (Err cause) → ⊥
-no_ok cause is = cc
-
-closed_stays : (said : Result (Unit {0}) Cause) (memory : ℕ → ℕ) (a : Access) (value byte : ℕ) → (Reaches a byte → (cause : Cause) × (said ≡ Err cause))
-    → memory_after said memory a value byte ≡ memory byte
-closed_stays (Err cause) memory a value byte closed = refl
-closed_stays (Ok done) memory a value byte closed = put_stays a.kind memory a value byte (λ reaches. let fault = closed reaches in no_ok fault.0 fault.1)
-
 -- what every step of the model promises
 abbrev pub StepsPromise : Type 0
 StepsPromise = (old : MachineState) (hart : ℕ) (event : Event) (reply : Reply) (new : MachineState) → IsTable old.table → Step old hart event reply new
@@ -160,23 +137,21 @@ access_kept law old hart a value said new right fewest x =
     (subst (λ es. Judges es a said) same x.judged) in
     let s = awoken (as_machine old) hart in
     let p = promised law old hart a value said right is in
-    let closed : (byte : ℕ) → IsMonitorByte old byte → Reaches a byte → (cause : Cause) × (said ≡ Err cause) = λ byte own reaches.
-    let fault = p.monitor a value byte refl own reaches.0 reaches.1 in
-    said_fault said s a fault.0 fault.1 in
     record {
       by_view = is;
       denied = λ id byte e own reaches other.
           let fault = p.denied a value id byte e refl own.0 own.1 reaches.0 reaches.1 other in
           said_fault said s a fault.0 fault.1;
-      closed = closed;
+      closed = λ byte own reaches. let fault = p.monitor a value byte refl own reaches.0 reaches.1 in said_fault said s a fault.0 fault.1;
       private = λ id byte e own.
           let live : Live (state_after said s a value).table id e = subst (λ t. Live t id e) (sym (table_after said s a value)) own.0 in
-          let bytes : new.memory byte ≡ (state_after said s a value).bytes byte = ap (λ (b : Board). b.memory byte) x.state
-          ∙ sym (ap (λ m. m byte) (bytes_after said s a value)) in
+          let here : IsMemoryByte new.monitor.table.layout byte = subst (λ (b : Board). IsMemoryByte b.monitor.table.layout byte) (sym x.state)
+          (private_memory old.monitor.table id byte e right own.0 own.1) in
+          let bytes : new.memory byte ≡ (state_after said s a value).bytes byte = x.memory byte here ∙ sym (ap (λ m. m byte) (bytes_after said s a value)) in
           elim (p.private id byte e e own.0 live own.1 own.1) [
             | inl stays ↦ inl (bytes ∙ stays)
             | inr stores ↦ inr (own_store old hart a value said (reply_of said s a) id byte is stores)
           ];
-      monitor = λ byte own. ap (λ (b : Board). b.memory byte) x.state ∙ closed_stays said old.memory a value byte (closed byte own);
+      running = λ other. ap (λ (b : Board). b.running other) x.state;
       floats = λ who. ap (λ b. floats_of b who) x.state;
     }

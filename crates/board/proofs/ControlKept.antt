@@ -34,6 +34,8 @@ use Rattle.trap_server.specs.declared.trap.TrapEvent.TheVariants as traps
 use Rattle.trap_server.proofs.Said.{says_words}
 use Rattle.board.specs.Board.{Board, ChangesControl, DoesTrap, framed, runner_by, saved}
 use Rattle.board.specs.Headline.{HaveOwnControl, KeepsControl, host_control}
+use Rattle.board.specs.Held.{CanConfine, CanHold, held}
+use Rattle.board.proofs.Confined.{confined}
 use Rattle.board.proofs.Control.{IsOwn}
 use Rattle.board.proofs.FloatsKept.{next_is}
 use Rattle.board.proofs.Here.{served_here}
@@ -117,14 +119,16 @@ served_same traps.Stop s trap changes read question answered new id other x was 
 module _ (old new : Board) (hart : ℕ) (host : HostWords)
     (same_enclave : (id other : ℕ) → old.monitor.worlds hart ≡ InEnclave id → new.monitor.worlds hart ≡ InEnclave other → InEnclave other ≡ InEnclave id)
     (c : ChangesControl old hart (runner_on old.monitor hart) (runner_on new.monitor hart)
-    (words_given (old.monitor.worlds hart) (new.monitor.worlds hart) host) new) where
+    (words_given (old.monitor.worlds hart) (new.monitor.worlds hart) host) new) (can : CanConfine (old.csrs hart))
+    (legal : CanHold (old.csrs hart) (host_control old hart)) where
   -- what becomes of the words of the hart, by the worlds before and after
   record Here (before after : World) : Type 0 where
     hosts : (if is_host after then new.control hart else new.hosts hart) ≡ (if is_host before then old.control hart else old.hosts hart)
-    enters : (id : ℕ) → before ≡ Host → after ≡ InEnclave id → new.control hart ≡ enclave_words host
+    enters : (id : ℕ) → before ≡ Host → after ≡ InEnclave id → new.control hart ≡ held (old.csrs hart) (enclave_words host)
     stays : after ≡ before → new.control hart ≡ old.control hart
-    own : (before ≡ Host → host ≡ framed (old.control hart)) → ((id : ℕ) → before ≡ InEnclave id → IsOwn (old.control hart) (old.hosts hart))
-        → (id : ℕ) → after ≡ InEnclave id → IsOwn (new.control hart) (new.hosts hart)
+    own : (before ≡ Host → host ≡ framed (old.control hart))
+        → ((id : ℕ) → before ≡ InEnclave id → IsOwn (old.csrs hart) (old.control hart) (old.hosts hart))
+        → (id : ℕ) → after ≡ InEnclave id → IsOwn (old.csrs hart) (new.control hart) (new.hosts hart)
 
   said_is : (before after : World) → old.monitor.worlds hart ≡ before → new.monitor.worlds hart ≡ after
       → words_given (old.monitor.worlds hart) (new.monitor.worlds hart) host ≡ words_given before after host
@@ -146,15 +150,16 @@ module _ (old new : Board) (hart : ℕ) (host : HostWords)
         hosts = leaves;
         enters = λ id from to. gets;
         stays = λ same. let z : InEnclave k ≡ Host = same in absurd cc;
-        own = λ of owns id to. subst (λ keeps. IsOwn (new.control hart) keeps) (sym leaves)
-            (subst (λ has. IsOwn has (old.control hart)) (sym (gets ∙ ap enclave_words (of refl))) (refl, refl));
+        own = λ of owns id to. subst (λ keeps. IsOwn (old.csrs hart) (new.control hart) keeps) (sym leaves)
+            (subst (λ has. IsOwn (old.csrs hart) has (old.control hart)) (sym (gets ∙ ap (λ h. held (old.csrs hart) (enclave_words h)) (of refl)))
+            (refl, confined (old.csrs hart) (framed (old.control hart)) can));
       }
   by_worlds (InEnclave j) Host was is =
       let none = said_is (InEnclave j) Host was is in
       let differ : runner_on new.monitor hart ≢ runner_on old.monitor hart = λ same.
       let z : HostOf hart ≡ EnclaveOf j = sym (ap (runner_of hart) is) ∙ same ∙ ap (runner_of hart) was in cc in
       record {
-        hosts = c.comes_back none differ;
+        hosts = c.comes_back none differ ∙ subst (λ w. CanHold (old.csrs hart) (if is_host w then old.control hart else old.hosts hart)) was legal;
         enters = λ id from to. let z : Host ≡ InEnclave id = to in absurd cc;
         stays = λ same. let z : Host ≡ InEnclave j = same in absurd cc;
         own = λ of owns id to. let z : Host ≡ InEnclave id = to in absurd cc;
@@ -167,8 +172,8 @@ module _ (old new : Board) (hart : ℕ) (host : HostWords)
         hosts = waits;
         enters = λ id from to. let z : InEnclave j ≡ Host = from in absurd cc;
         stays = λ same. goes;
-        own = λ of owns id to. subst (λ keeps. IsOwn (new.control hart) keeps) (sym waits)
-            (subst (λ has. IsOwn has (old.hosts hart)) (sym goes) (owns j refl));
+        own = λ of owns id to. subst (λ keeps. IsOwn (old.csrs hart) (new.control hart) keeps) (sym waits)
+            (subst (λ has. IsOwn (old.csrs hart) has (old.hosts hart)) (sym goes) (owns j refl));
       }
 
   here : Here (old.monitor.worlds hart) (new.monitor.worlds hart)
@@ -180,7 +185,7 @@ module _ (old new : Board) (hart : ℕ) (host : HostWords)
       (λ off. far (λ same. both_ways (h == hart) off (eq-eqb h hart same)))
 
   module _ (of : old.monitor.worlds hart ≡ Host → host ≡ framed (old.control hart))
-      (still_there : (other : ℕ) → other ≢ hart → new.monitor.worlds other ≡ old.monitor.worlds other) where
+      (still_there : (other : ℕ) → other ≢ hart → new.monitor.worlds other ≡ old.monitor.worlds other) (csrs : new.csrs ≡ old.csrs) where
     host_stays : (h : ℕ) → host_control new h ≡ host_control old h
     host_stays h = at_hart (λ k. host_control new k ≡ host_control old k) h here.hosts
         (λ differ. ap (λ w. if is_host w then new.control h else new.hosts h) (still_there h differ)
@@ -192,17 +197,18 @@ module _ (old new : Board) (hart : ℕ) (host : HostWords)
         (λ differ same. c.harts h differ)
 
     own_after : HaveOwnControl old → HaveOwnControl new
-    own_after owns h = at_hart (λ k. (id : ℕ) → new.monitor.worlds k ≡ InEnclave id → IsOwn (new.control k) (new.hosts k)) h
+    own_after owns h = subst (λ cs. (id : ℕ) → new.monitor.worlds h ≡ InEnclave id → IsOwn (cs h) (new.control h) (new.hosts h)) (sym csrs)
+        (at_hart (λ k. (id : ℕ) → new.monitor.worlds k ≡ InEnclave id → IsOwn (old.csrs k) (new.control k) (new.hosts k)) h
         (here.own of (owns hart))
-        (λ differ id is. subst (λ keeps. IsOwn (new.control h) keeps) (sym (c.others h differ))
-        (subst (λ has. IsOwn has (old.hosts h)) (sym (c.harts h differ)) (owns h id (sym (still_there h differ) ∙ is))))
+        (λ differ id is. subst (λ keeps. IsOwn (old.csrs h) (new.control h) keeps) (sym (c.others h differ))
+        (subst (λ has. IsOwn (old.csrs h) has (old.hosts h)) (sym (c.harts h differ)) (owns h id (sym (still_there h differ) ∙ is)))))
 
 pub control_kept :
     (old : Board) (trap : Trap) (frame read question answered : List ℕ) (new : Board) → new.monitor.table.layout.harts ≡ old.monitor.table.layout.harts
-    → IsTable new.monitor.table → ArePlaced new.monitor → (x : DoesTrap old trap frame read question answered new)
-    → KeepsTrap (saved old trap) trap x.changes read question answered new.monitor
+    → IsTable new.monitor.table → ArePlaced new.monitor → CanConfine (old.csrs trap.hart) → CanHold (old.csrs trap.hart) (host_control old trap.hart)
+    → (x : DoesTrap old trap frame read question answered new) → KeepsTrap (saved old trap) trap x.changes read question answered new.monitor
     → KeepsControl old trap new × (HaveOwnControl old → HaveOwnControl new)
-control_kept old trap frame read question answered new same sound places x k =
+control_kept old trap frame read question answered new same sound places can legal x k =
     let hart = trap.hart in
     let given = given_at (saved old trap) new.monitor trap in
     let next : runner_by hart (word_at answered 2) ≡ runner_on new.monitor hart = next_is old trap frame read question answered new same sound places x k in
@@ -215,9 +221,10 @@ control_kept old trap frame read question answered new same sound places x k =
     let enclave = λ (id other : ℕ) (was : old.monitor.worlds hart ≡ InEnclave id) (at : new.monitor.worlds hart ≡ InEnclave other).
     served_same trap.event (saved old trap) trap x.changes read question answered new.monitor id other one was at in (
       record {
-        hosts = host_stays old new hart trap.host enclave c x.host k.stays;
-        enters = λ id was is. (here old new hart trap.host enclave c).enters id was is ∙ ap enclave_words (x.host was);
-        stays = control_stays old new hart trap.host enclave c x.host k.stays;
+        hosts = host_stays old new hart trap.host enclave c can legal x.host k.stays x.csrs;
+        enters = λ id was is. (here old new hart trap.host enclave c can legal).enters id was is
+            ∙ ap (λ h. held (old.csrs hart) (enclave_words h)) (x.host was);
+        stays = control_stays old new hart trap.host enclave c can legal x.host k.stays x.csrs;
       },
-      own_after old new hart trap.host enclave c x.host k.stays,
+      own_after old new hart trap.host enclave c can legal x.host k.stays x.csrs,
     )

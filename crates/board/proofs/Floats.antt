@@ -8,8 +8,8 @@ use Rattle.monitor_core.specs.Switches.{runner_on}
 use Rattle.monitor_core.specs.Worlds.{ArePlaced}
 use Rattle.monitor_core.proofs.Cases.{both}
 use Rattle.monitor_core.proofs.Put.{same_not, same_self}
-use Rattle.board.specs.Board.{Board, ChangesFloats, DoesCompute, Floats, SaysMade, no_floats}
-use Rattle.board.specs.Headline.{KeepsOtherFloats, floats_below, floats_of}
+use Rattle.board.specs.Board.{Board, ChangesFloats, Floats, HasEnded, SaysMade, no_floats}
+use Rattle.board.specs.Headline.{floats_below, floats_of}
 use Rattle.board.proofs.Runners.{alone, same_is}
 
 module _ (worlds : ℕ → World) (floats : ℕ → Floats) (kept : Runner → Floats) (who : Runner) where
@@ -57,25 +57,24 @@ pub runs_there : (board : Board) (hart : ℕ) → ArePlaced board.monitor → ha
 runs_there board hart placed known = there board.monitor.worlds board.floats board.kept (runner_on board.monitor hart)
     board.monitor.table.layout.harts hart known refl (λ other low differ. alone board.monitor hart other placed known low differ)
 
--- a computation
-pub computed_kept : (old : Board) (hart : ℕ) (floats : Floats) (new : Board) → ArePlaced old.monitor → DoesCompute old hart floats new
-    → KeepsOtherFloats old hart floats new
-computed_kept old hart floats new placed x =
-    let after : ℕ → Floats = λ h. if h == hart then floats else old.floats h in
-    let worlds : ℕ → World = old.monitor.worlds in
-    let harts : ℕ = old.monitor.table.layout.harts in
-    record {
-      own = ap (λ b. floats_of b (runner_on old.monitor hart)) x.state
-          ∙ there worlds after old.kept (runner_on old.monitor hart) harts hart x.known refl
-          (λ other low differ. alone old.monitor hart other placed x.known low differ)
-          ∙ ap (λ b. if b then floats else old.floats hart) (eq-eqb hart hart refl);
-      others = λ who other. ap (λ b. floats_of b who) x.state
-          ∙ unchanged worlds worlds old.floats after old.kept old.kept who harts refl (λ h low. both (h == hart)
-          (λ here.
-          let far : who ≢ runner_of h (worlds h) = λ is. other (is ∙ ap (λ k. runner_of k (worlds k)) (eqb-true h hart here)) in
-          inr (far, far))
-          (λ far. inl (refl, ap (λ b. if b then floats else old.floats h) far)));
-    }
+-- registers that are put on a hart
+module _ (old : Board) (hart : ℕ) (floats : Floats) (placed : ArePlaced old.monitor) (known : hart < old.monitor.table.layout.harts) where
+  abbrev put : ℕ → Floats
+  put h = if h == hart then floats else old.floats h
+
+  pub own_has : floats_below old.monitor.table.layout.harts old.monitor.worlds put old.kept (runner_on old.monitor hart) ≡ floats
+  own_has = there old.monitor.worlds put old.kept (runner_on old.monitor hart) old.monitor.table.layout.harts hart known refl
+      (λ other low differ. alone old.monitor hart other placed known low differ)
+      ∙ ap (λ b. if b then floats else old.floats hart) (eq-eqb hart hart refl)
+
+  pub others_have : (who : Runner) → who ≢ runner_on old.monitor hart
+      → floats_below old.monitor.table.layout.harts old.monitor.worlds put old.kept who ≡ floats_of old who
+  others_have who other =
+      unchanged old.monitor.worlds old.monitor.worlds old.floats put old.kept old.kept who old.monitor.table.layout.harts refl (λ h low. both (h == hart)
+      (λ here.
+      let far : who ≢ runner_of h (old.monitor.worlds h) = λ is. other (is ∙ ap (λ k. runner_of k (old.monitor.worlds k)) (eqb-true h hart here)) in
+      inr (far, far))
+      (λ far. inl (refl, ap (λ b. if b then floats else old.floats h) far)))
 
 -- a trap on a hart of that many
 module _ (old new : Board) (hart : ℕ) (question answered : List ℕ) (known : hart < old.monitor.table.layout.harts)
@@ -118,35 +117,38 @@ module _ (old new : Board) (hart : ℕ) (question answered : List ℕ) (known : 
       ∙ sym (nowhere old.monitor.worlds old.floats old.kept next harts
       (λ h low. at_hart (λ k. next ≢ runner_on old.monitor k) h differ (next_elsewhere h low)))
 
-  waits : next ≢ came → floats_of new came ≡ floats_of old came
-  waits differ = after came
+  waits : next ≢ came → (HasEnded old.monitor new.monitor came → ⊥) → floats_of new came ≡ floats_of old came
+  waits differ lives = after came
       ∙ nowhere new.monitor.worlds new.floats new.kept came harts
       (λ h low. at_hart (λ k. came ≢ runner_on new.monitor k) h (λ is. differ (sym is)) (came_elsewhere h low))
-      ∙ x.leaves differ ∙ sym (runs_there old hart placed known)
+      ∙ x.leaves differ lives ∙ sym (runs_there old hart placed known)
 
   goes_on : next ≡ came → floats_of new came ≡ floats_of old came
   goes_on same = ap (floats_of new) (sym same) ∙ runs_there new hart places (under hart known) ∙ x.goes_on same ∙ sym (runs_there old hart placed known)
 
-  other_stays : (who : Runner) → who ≢ came → who ≢ next → (SaysMade question answered who → ⊥) → floats_of new who ≡ floats_of old who
-  other_stays who past ahead none = after who
-      ∙ unchanged old.monitor.worlds new.monitor.worlds old.floats new.floats old.kept new.kept who harts (x.others who past none)
+  other_stays : (who : Runner) → who ≢ came → who ≢ next → (SaysMade question answered who → ⊥)
+      → (HasEnded old.monitor new.monitor who → ⊥) → floats_of new who ≡ floats_of old who
+  other_stays who past ahead none lives = after who
+      ∙ unchanged old.monitor.worlds new.monitor.worlds old.floats new.floats old.kept new.kept who harts (x.others who past none lives)
       (λ h low. at_hart (λ k. ((new.monitor.worlds k ≡ old.monitor.worlds k) × (new.floats k ≡ old.floats k))
       ⊎ ((who ≢ runner_on new.monitor k) × (who ≢ runner_on old.monitor k))) h (inr (ahead, past)) (λ differ. inl (stays h differ, x.harts h differ)))
 
-  pub trap_stays : (who : Runner) → (SaysMade question answered who → ⊥) → floats_of new who ≡ floats_of old who
-  trap_stays who none = both (is_same next came)
+  pub trap_stays : (who : Runner) → (SaysMade question answered who → ⊥) → (HasEnded old.monitor new.monitor who → ⊥)
+      → floats_of new who ≡ floats_of old who
+  trap_stays who none lives = both (is_same next came)
       (λ one.
       let same : next ≡ came = same_is next came one in
       both (is_same who came)
       (λ yes. let is : who ≡ came = same_is who came yes in ap (floats_of new) is ∙ goes_on same ∙ ap (floats_of old) (sym is))
-      (λ no. other_stays who (apart who came no) (λ is. apart who came no (is ∙ same)) none))
+      (λ no. other_stays who (apart who came no) (λ is. apart who came no (is ∙ same)) none lives))
       (λ two.
       let differ : next ≢ came = apart next came two in
       both (is_same who came)
-      (λ yes. let is : who ≡ came = same_is who came yes in ap (floats_of new) is ∙ waits differ ∙ ap (floats_of old) (sym is))
+      (λ yes. let is : who ≡ came = same_is who came yes in ap (floats_of new) is
+      ∙ waits differ (λ ended. lives (subst (HasEnded old.monitor new.monitor) (sym is) ended)) ∙ ap (floats_of old) (sym is))
       (λ no. both (is_same who next)
       (λ yes. let is : who ≡ next = same_is who next yes in ap (floats_of new) is ∙ goes differ ∙ ap (floats_of old) (sym is))
-      (λ far. other_stays who (apart who came no) (apart who next far) none)))
+      (λ far. other_stays who (apart who came no) (apart who next far) none lives)))
     where
       apart : (a b : Runner) → is_same a b ≡ false → a ≢ b
       apart a b off is = both_ways (is_same a b) off (ap (is_same a) (sym is) ∙ same_self a)
@@ -155,3 +157,8 @@ module _ (old new : Board) (hart : ℕ) (question answered : List ℕ) (known : 
   pub made_zero : (who : Runner) → SaysMade question answered who → ((h : ℕ) → h < new.monitor.table.layout.harts → who ≢ runner_on new.monitor h)
       → floats_of new who ≡ no_floats
   made_zero who made none = nowhere new.monitor.worlds new.floats new.kept who new.monitor.table.layout.harts none ∙ x.made who made
+
+  -- one that runs nowhere and ended leaves zeros
+  pub ended_zero : (who : Runner) → HasEnded old.monitor new.monitor who
+      → ((h : ℕ) → h < new.monitor.table.layout.harts → who ≢ runner_on new.monitor h) → floats_of new who ≡ no_floats
+  ended_zero who ended none = nowhere new.monitor.worlds new.floats new.kept who new.monitor.table.layout.harts none ∙ x.ends who ended

@@ -1,14 +1,14 @@
 -- What each host and each enclave has in registers of floating point, over a trap.
-use Rattle.std.proofs.Common.{◌≡◌, ◌≢◌, ◌∙◌, ℕ, ◌%◌, ◌^◌, ◌<◌, if◌then◌else◌, List, ap, sym, subst, arith}
+use Rattle.std.proofs.Common.{◌≡◌, ◌≢◌, ◌∙◌, inl, inr, ℕ, ◌%◌, ◌^◌, ◌<◌, if◌then◌else◌, List, Some, None, ap, sym, subst, arith}
 use Rattle.std.proofs.lemmas.Bool.{ne_eqb}
 use Rattle.std.proofs.lemmas.Option.{same_Some}
 use Rattle.sbi_decode.specs.Runners.{Runner, HostOf, EnclaveOf, runner_of}
 use Rattle.sbi_decode.specs.declared.world.World.{World}
 use Rattle.sbi_decode.specs.declared.world.World.TheVariants.{Host, Enclave as InEnclave}
-use Rattle.enclave_table.specs.Enclaves.{EnclaveTable, Live}
+use Rattle.enclave_table.specs.Enclaves.{EnclaveTable, Live, enclave_at}
 use Rattle.enclave_table.specs.Tables.{IsCurrent, IsTable}
 use Rattle.enclave_table.specs.declared.enclave.Enclave.{Enclave}
-use Rattle.enclave_table.specs.declared.enclave.Stage.TheVariants.{Fresh, Running}
+use Rattle.enclave_table.specs.declared.enclave.Stage.TheVariants.{Exited, Fresh, Running}
 use Rattle.enclave_table.proofs.Places.{live_above, live_inside}
 use Rattle.monitor_core.specs.Answers.{world_number}
 use Rattle.monitor_core.specs.States.{MonitorState}
@@ -20,9 +20,9 @@ use Rattle.trap_server.specs.Service.{given_at}
 use Rattle.trap_server.specs.Words.{word_at}
 use Rattle.trap_server.specs.declared.trap.Trap.{Trap}
 use Rattle.board.proofs.Here.{call_there, served_here}
-use Rattle.board.specs.Board.{Board, ChangesFloats, DoesTrap, runner_by, saved}
+use Rattle.board.specs.Board.{Board, ChangesFloats, DoesTrap, HasEnded, runner_by, saved}
 use Rattle.board.specs.Headline.{KeepsFloats, floats_of}
-use Rattle.board.proofs.Floats.{made_zero, trap_stays}
+use Rattle.board.proofs.Floats.{ended_zero, made_zero, trap_stays}
 use Rattle.board.proofs.Named.{says, whole_is}
 use Rattle.board.proofs.New.{new_said, said_new}
 
@@ -50,6 +50,25 @@ fresh_waits s id e hart placed known live fresh is = by_world (s.worlds hart) (p
     by_world (InEnclave k) current same =
         let one : current.0 ≡ e = same_Some current.0 e (sym current.1 ∙ subst (λ n. Live s.table n e) (ap number same) live) in
         let z : Running ≡ Fresh = sym current.2 ∙ ap (λ (f : Enclave). f.state) one ∙ fresh in cc
+
+-- one that ended runs on no hart
+ended_waits : (old s : MonitorState) (who : Runner) (hart : ℕ) → ArePlaced s → hart < s.table.layout.harts → HasEnded old s who → who ≢ runner_on s hart
+ended_waits old s who hart placed known ended is = by_world (s.worlds hart) (placed.current hart known) (sym ended.1 ∙ is)
+  where
+    number : Runner → ℕ
+    number (HostOf h) = h
+    number (EnclaveOf n) = n
+
+    by_world : (world : World) → IsCurrent s.table world → EnclaveOf ended.0 ≡ runner_of hart world → ⊥
+    by_world Host current same = cc
+    by_world (InEnclave k) current same =
+        let here : enclave_at s.table.enclaves ended.0 ≡ Some current.0 = ap (enclave_at s.table.enclaves) (ap number same) ∙ current.1 in
+        elim ended.2 [
+          | inl gone ↦ let z : None ≡ Some current.0 = sym gone.2 ∙ here in cc
+          | inr exited ↦
+              let one : current.0 ≡ exited.1 = same_Some current.0 exited.1 (sym here ∙ exited.4) in
+              let z : Running ≡ Exited = sym current.2 ∙ ap (λ (f : Enclave). f.state) one ∙ exited.5 in cc
+        ]
 
 -- the answer names who goes on
 pub next_is :
@@ -82,11 +101,14 @@ floats_kept old trap frame read question answered new same right sound placed pl
     let s = saved old trap in
     let there = call_there old trap in
     record {
+      ends = λ who ended.
+          ended_zero old new hart question answered known same placed places k.stays changes who ended
+          (λ h low. ended_waits old.monitor new.monitor who h places low ended);
       begins = λ who is.
           let said = new_said trap.event s trap x.changes read question answered new.monitor right there one is.0 is.1 is.3 is.4 in
           ap (floats_of new) is.2
           ∙ made_zero old new hart question answered known same placed places k.stays changes (EnclaveOf is.0) said.0
           (λ h low. fresh_waits new.monitor is.0 is.1 h places low is.4 said.1);
-      stays = λ who none. trap_stays old new hart question answered known same placed places k.stays changes who
-          (λ said. none (said_new trap.event s trap x.changes read question answered new.monitor right there one who said));
+      stays = λ who none lives. trap_stays old new hart question answered known same placed places k.stays changes who
+          (λ said. none (said_new trap.event s trap x.changes read question answered new.monitor right there one who said)) lives;
     }

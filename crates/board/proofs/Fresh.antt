@@ -36,10 +36,11 @@ use Rattle.trap_server.specs.declared.trap.Trap.{Trap}
 use Rattle.monitor_core.specs.declared.set_changes.SetChanges.{SetChanges}
 use Rattle.trap_server.specs.Service.{ServesAs}
 use Rattle.board.proofs.Here.{served_here}
-use Rattle.board.specs.Board.{Board, DoesTrap, saved}
+use Rattle.board.specs.Board.{Board, DoesTrap, HasMemory, saved}
 use Rattle.board.specs.Headline.{AreMeasured, KeepsAccess, KeepsMemory}
 use Rattle.board.specs.Stays.{KeepsFreshPages}
 use Rattle.board.proofs.Made.{Absent}
+use Rattle.board.proofs.Private.{private_memory}
 
 -- where one place of a table is written, an enclave stands there, or where it stood
 pub placed : (table new : EnclaveTable) (k id : ℕ) (slot : Option Enclave) (e : Enclave) → new ≡ with_enclave table k slot → 1 ≤ k
@@ -227,22 +228,30 @@ measured_access old hart a said new placed known same k before = λ id e live fr
     before id e was fresh
     ∙ same_measured old.memory new.memory e.parts (λ byte own. sym (stays_over_access old hart a said new placed known k id byte e (was, own) fresh))
 
+-- over an event that leaves the monitor and memory
+pub measured_quiet : (old new : Board) → IsTable new.monitor.table → new.monitor ≡ old.monitor → HasMemory new old.memory → AreMeasured old
+    → AreMeasured new
+measured_quiet old new sound same memory before = λ id e live fresh.
+    let was : Live old.monitor.table id e = subst (λ (m : MonitorState). Live m.table id e) same live in
+    before id e was fresh ∙ same_measured old.memory new.memory e.parts
+    (λ byte own. sym (memory byte (private_memory new.monitor.table id byte e sound live own)))
+
 -- over the trap that made an enclave
 pub stays_over_creation : (old : Board) (trap : Trap) (frame read question answered : List ℕ) (new : Board)
-    → DoesTrap old trap frame read question answered new → KeepsMemory old new → (id byte : ℕ) (e : Enclave) → Absent old.monitor.table id
-    → Live new.monitor.table id e → new.memory byte ≡ old.memory byte
-stays_over_creation old trap frame read question answered new x k id byte e none live =
+    → IsTable new.monitor.table → DoesTrap old trap frame read question answered new → KeepsMemory old new → (id byte : ℕ) (e : Enclave)
+    → Absent old.monitor.table id → Live new.monitor.table id e → is_private e.parts (byte / 4096) ≡ true → new.memory byte ≡ old.memory byte
+stays_over_creation old trap frame read question answered new sound x k id byte e none live own =
     let one = served_here old trap frame read question answered new x in
     k.stays (λ other gone. none_gone trap.event (saved old trap) trap x.changes read question answered new.monitor id e none live one
-    other gone.0 gone.1 gone.2) byte
+    other gone.0 gone.1 gone.2) byte (private_memory new.monitor.table id byte e sound live own)
 
 -- over a trap
 pub measured_trap : (old : Board) (trap : Trap) (frame read question answered : List ℕ) (new : Board) → IsTable old.monitor.table
-    → DoesTrap old trap frame read question answered new → KeepsMemory old new → AreMeasured old → AreMeasured new
-measured_trap old trap frame read question answered new right x k before = λ id e live fresh.
+    → IsTable new.monitor.table → DoesTrap old trap frame read question answered new → KeepsMemory old new → AreMeasured old → AreMeasured new
+measured_trap old trap frame read question answered new right sound x k before = λ id e live fresh.
     let one = served_here old trap frame read question answered new x in
     elim (fresh_served trap.event (saved old trap) trap x.changes read question answered new.monitor id e right live fresh one) [
       | inl was ↦ before id e was fresh ∙ same_measured old.memory new.memory e.parts (λ byte own. sym (k.private id byte e e (was, own) (live, own)))
       | inr none ↦ k.digest id e none live ∙ same_measured old.memory new.memory e.parts
-          (λ byte own. sym (stays_over_creation old trap frame read question answered new x k id byte e none live))
+          (λ byte own. sym (stays_over_creation old trap frame read question answered new sound x k id byte e none live own))
     ]

@@ -1,3 +1,5 @@
+mod Private
+mod Confined
 mod Named
 mod Runners
 mod Floats
@@ -10,6 +12,7 @@ mod New
 mod FloatsKept
 mod Control
 mod ControlKept
+mod Quiet
 mod Boards
 mod FrameWords
 mod PageFrames
@@ -24,3 +27,4 @@ mod ModelAccesses
 mod ModelTraps
 mod Modelled
 mod Stayed
+mod Answered

@@ -1,6 +1,6 @@
 -- An access and a set register of the model, on a board that is as its state.
 use Rattle.std.proofs.Common.{ℕ, ◌≡◌, ◌≢◌, ◌∙◌, inl, inr, ◌<◌, if◌then◌else◌, List, [], ◌∷◌, ◌++◌}
-use Rattle.std.proofs.Common.{Result, Ok, Err, append-nil, refl, ap, sym, subst}
+use Rattle.std.proofs.Common.{false, Result, Ok, Err, append-nil, refl, ap, sym, subst}
 use Rattle.pmp_encoding.specs.Limits.{limit_number}
 use Rattle.pmp_encoding.specs.Lists.{MeansList}
 use Rattle.pmp_match.specs.Judgement.{Judges}
@@ -24,7 +24,7 @@ use Rattle.trap_server.specs.Firmware.{loaded_pairs}
 use Rattle.board.specs.Board.{BoardEvent, BoardRun, DoesAccess, access, happened, memory_after, no_floats, put_by}
 use Rattle.board.specs.Model.{IsSeen}
 use Rattle.board.proofs.Judged.{judged}
-use Rattle.board.proofs.OnBoards.{IsGood, Next, OnBoard, board_of}
+use Rattle.board.proofs.OnBoards.{IsGood, Next, OnBoard, any_csrs, board_of}
 
 module _ (layout : PlatformLayout) (opened : List ℕ) (seen : List BoardEvent) (s : MachineState) (hart : ℕ) (reply : Reply) (new : MachineState)
     (known : hart < s.table.layout.harts) (on : OnBoard layout opened seen s) (good : IsGood layout s on.registers on.marked on.loaded) where
@@ -38,17 +38,18 @@ module _ (layout : PlatformLayout) (opened : List ℕ) (seen : List BoardEvent) 
   -- an access, with what the view says of it
   acts : (a : Access) (value : ℕ) (said : Result (Unit {0}) Cause) → a.mode ≢ Machine → said ≡ verdict (current_view s.table (s.worlds hart)) a
       → (memory : ℕ → ℕ) → memory ≡ memory_after said s.bytes a value
-      → DoesAccess (board_of s on.registers on.marked on.lists on.loaded on.control on.hosts) hart a value said
-      (record (board_of s on.registers on.marked on.lists on.loaded on.control on.hosts) { memory = memory })
+      → DoesAccess (board_of s on.registers on.marked on.lists on.loaded on.running on.control on.hosts) hart a value said
+      (record (board_of s on.registers on.marked on.lists on.loaded on.running on.control on.hosts) { memory = memory })
   acts a value said below is memory same =
       let fewest = good.banks hart (subst (λ l. hart < l.harts) good.platform known) in
       record {
-        known = known;
+        up = record { known = known; started = refl };
         below = below;
         entries = fewest.entries;
         loaded = subst (λ l. MeansList (loaded_pairs (on.loaded hart) 0 (limit_number l.limit)) fewest.entries) (sym good.platform) fewest.list;
         judged = subst (Judges fewest.entries a) (sym is) (judged (current_view s.table (s.worlds hart)) fewest.entries a fewest.fewest.means below);
-        state = ap (λ m. record (board_of s on.registers on.marked on.lists on.loaded on.control on.hosts) { memory = m }) same;
+        memory = λ byte there. ap (λ m. m byte) same;
+        state = refl;
       }
 
   -- an access that leaves this state, which differs in memory alone
@@ -57,22 +58,26 @@ module _ (layout : PlatformLayout) (opened : List ℕ) (seen : List BoardEvent) 
       → that.bytes ≡ memory_after said s.bytes a value
       → On (seen ++ access hart a value said ∷ []) that
   access_on a value said below is that table worlds registers bytes =
-      let put = record (board_of s on.registers on.marked on.lists on.loaded on.control on.hosts) { memory = that.bytes } in
-      let same : put ≡ board_of that on.registers on.marked on.lists on.loaded on.control on.hosts = λ i. record {
+      let put = record (board_of s on.registers on.marked on.lists on.loaded on.running on.control on.hosts) { memory = that.bytes } in
+      let same : put ≡ board_of that on.registers on.marked on.lists on.loaded on.running on.control on.hosts = λ i. record {
         monitor = record { table = sym table i; worlds = sym worlds i; registers = on.registers; marked = on.marked };
         memory = that.bytes;
         lists = on.lists;
         loaded = on.loaded;
+        parked = λ hart. false;
+        running = on.running;
         floats = λ hart. no_floats;
         kept = λ who. no_floats;
         control = on.control;
         hosts = on.hosts;
+        csrs = λ hart. any_csrs;
       } in
       record {
         registers = on.registers;
         marked = on.marked;
         lists = on.lists;
         loaded = on.loaded;
+        running = on.running;
         control = on.control;
         hosts = on.hosts;
         runs = subst (BoardRun layout opened (seen ++ access hart a value said ∷ [])) same
@@ -110,6 +115,7 @@ module _ (layout : PlatformLayout) (opened : List ℕ) (seen : List BoardEvent) 
       marked = on.marked;
       lists = on.lists;
       loaded = on.loaded;
+      running = on.running;
       control = on.control;
       hosts = on.hosts;
       runs = on.runs;
@@ -138,6 +144,7 @@ module _ (layout : PlatformLayout) (opened : List ℕ) (seen : List BoardEvent) 
       marked = on.marked;
       lists = on.lists;
       loaded = on.loaded;
+      running = on.running;
       control = on.control;
       hosts = on.hosts;
       runs = on.runs;

@@ -37,7 +37,7 @@ use Rattle.trap_server.specs.declared.answer.NewLists.TheVariants as lists
 use Rattle.trap_server.specs.declared.trap.TrapEvent.TheVariants as traps
 use Rattle.trap_server.proofs.ListsKept.{made_by_lists}
 use Rattle.trap_server.proofs.Remeasured.{call_remeasured}
-use Rattle.board.specs.Board.{BoardEvent, framed, trapped}
+use Rattle.board.specs.Board.{BoardEvent, computed, framed, no_floats, trapped}
 use Rattle.board.specs.Model.{IsOneTrap, SaysReply}
 use Rattle.board.proofs.Asked.{asks, frames_of_memory}
 use Rattle.board.proofs.Follows.{Follows, IsElsewhere, call_follows, digest_by, irq_follows, owner_current}
@@ -258,7 +258,9 @@ module _ (layout : PlatformLayout) (opened : List ℕ) (seen : List BoardEvent) 
       → (now : List BoardEvent) × IsOneTrap traps.Call hart (λ file. past_call file ≡ calling s hart words) reply now × OnBoard layout opened (seen ++ now) new
   trap_next file words came x replied =
       let t = trap_seen layout opened seen traps.Call s new hart file on known x in (
-        trapped (trap_at layout opened seen traps.Call s hart file on) (trap_frame traps.Call hart file (framed (on.control hart))) x.read x.question t.0 ∷ [],
+        computed hart file no_floats
+            ∷ (trapped (trap_at layout opened seen traps.Call s hart file on) (trap_frame traps.Call hart file (framed (on.control hart))) x.read x.question t.0
+            ∷ []),
         record {
           trap = trap_at layout opened seen traps.Call s hart file on;
           frame = trap_frame traps.Call hart file (framed (on.control hart));
@@ -280,8 +282,9 @@ module _ (layout : PlatformLayout) (opened : List ℕ) (seen : List BoardEvent) 
   stop_next x replied =
       let t = trap_seen layout opened seen traps.Stop s new hart running on known x in
       record {
-        now = trapped (trap_at layout opened seen traps.Stop s hart running on) (trap_frame traps.Stop hart running (framed (on.control hart)))
-            x.read x.question t.0 ∷ [];
+        now = computed hart running no_floats
+            ∷ (trapped (trap_at layout opened seen traps.Stop s hart running on) (trap_frame traps.Stop hart running (framed (on.control hart)))
+            x.read x.question t.0 ∷ []);
         is_seen = record {
           trap = trap_at layout opened seen traps.Stop s hart running on;
           frame = trap_frame traps.Stop hart running (framed (on.control hart));

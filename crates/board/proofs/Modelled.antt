@@ -19,12 +19,12 @@ use Rattle.hart_sim.specs.Changes.{with_words}
 use Rattle.hart_sim.specs.States.{MachineState, awoken, opening_state}
 use Rattle.hart_sim.specs.Steps.{Accesses, DoesEvent, IsEvent, Run, TakesEffect, step, still, verdict}
 use Rattle.trap_server.specs.Boot.{IsFirstAnswer}
-use Rattle.board.specs.Board.{BoardEvent, booted, no_floats}
+use Rattle.board.specs.Board.{BoardEvent, booted}
 use Rattle.board.specs.Model.{AreSeen, RunsOnBoard}
 use Rattle.board.proofs.Boards.{BoardHolds}
 use Rattle.board.proofs.ModelAccesses.{access_next, reg_next}
 use Rattle.board.proofs.ModelTraps.{call_next, irq_next, stop_next, trap_next}
-use Rattle.board.proofs.OnBoards.{IsGood, Next, OnBoard, board_of, no_words}
+use Rattle.board.proofs.OnBoards.{IsGood, Next, OnBoard, any_confine, board_of, no_words}
 use Rattle.board.proofs.Rooms.{AllFit}
 
 -- an access leaves the table
@@ -43,8 +43,9 @@ access_table (Ok done) s a value reply new x = took_table a.kind s a value reply
 module _ (law : BoardHolds) (layout : PlatformLayout) (opened : List ℕ) (rules : IsLayout layout) (answer : IsFirstAnswer layout opened) where
   good_of : (seen : List BoardEvent) (s : MachineState) (on : OnBoard layout opened seen s) → IsGood layout s on.registers on.marked on.loaded
   good_of seen s on =
-      let h = law layout opened seen (board_of s on.registers on.marked on.lists on.loaded on.control on.hosts) on.runs rules answer in
-      record { table = h.table; platform = h.platform; worlds = h.worlds; awake = h.awake; banks = h.banks }
+      let h = law layout opened seen (board_of s on.registers on.marked on.lists on.loaded on.running on.control on.hosts) on.runs rules answer
+      (λ hart. any_confine) in
+      record { table = h.table; platform = h.platform; worlds = h.worlds; awake = h.awake; banks = λ hart low. h.banks hart low refl }
 
   by_event : (seen : List BoardEvent) (s : MachineState) (hart : ℕ) (event : Event) (reply : Reply) (new : MachineState) → hart < s.table.layout.harts
       → IsEvent event → DoesEvent event (awoken s hart) hart reply new → OnBoard layout opened seen s → AllFit s.table
@@ -86,9 +87,16 @@ module _ (law : BoardHolds) (layout : PlatformLayout) (opened : List ℕ) (rules
       marked = λ hart. false;
       lists = λ world. drop 184 opened;
       loaded = λ hart. drop 184 opened;
+      running = λ hart. zeros;
       control = λ hart. no_words;
       hosts = λ hart. no_words;
-      runs = booted (λ byte. 0) (λ hart. no_floats) (λ who. no_floats) (λ hart. no_words) (λ hart. no_words);
+      runs = booted (board_of (opening_state layout) (λ who. zeros) (λ hart. false) (λ world. drop 184 opened) (λ hart. drop 184 opened) (λ hart. zeros)
+          (λ hart. no_words) (λ hart. no_words)) (record {
+            monitor = refl;
+            lists = λ world. refl;
+            loaded = λ hart. refl;
+            control = λ hart. refl;
+          });
       waits = λ who off. refl;
     };
     fits = record {
@@ -112,7 +120,7 @@ module _ (law : BoardHolds) (layout : PlatformLayout) (opened : List ℕ) (rules
       let r = reached events replies s run in
       record {
         seen = r.seen;
-        board = board_of s r.on.registers r.on.marked r.on.lists r.on.loaded r.on.control r.on.hosts;
+        board = board_of s r.on.registers r.on.marked r.on.lists r.on.loaded r.on.running r.on.control r.on.hosts;
         each = r.each;
         runs = r.on.runs;
         is_as = record { table = refl; worlds = refl; memory = refl; registers = r.on.waits };

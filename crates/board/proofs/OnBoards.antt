@@ -1,5 +1,5 @@
 -- A board that is as a state of the model.
-use Rattle.std.proofs.Common.{ℕ, ◌≡◌, ◌≢◌, ◌<◌, Bool, List, ◌++◌}
+use Rattle.std.proofs.Common.{ℕ, ◌≡◌, ◌≢◌, ◌-◌, ◌^◌, ◌<◌, Bool, false, List, ◌++◌, refl}
 use Rattle.platforms.specs.Platform.{PlatformLayout}
 use Rattle.sbi_decode.specs.Registers.{RegisterFile}
 use Rattle.sbi_decode.specs.Runners.{Runner, runner_of}
@@ -14,6 +14,7 @@ use Rattle.trap_server.specs.Answered.{AreAwake}
 use Rattle.trap_server.specs.Firmware.{HasFewest}
 use Rattle.trap_server.specs.declared.words.ControlWords.{ControlWords}
 use Rattle.board.specs.Board.{Board, BoardEvent, BoardRun, no_floats}
+use Rattle.board.specs.Held.{CanConfine, ControlRegisters}
 use Rattle.board.specs.Model.{IsSeen}
 
 -- a board that is as a state, with these registers of those that wait. Nobody computes in floating point
@@ -23,18 +24,6 @@ monitor_of s registers marked = record {
   worlds = s.worlds;
   registers = registers;
   marked = marked;
-}
-
-abbrev pub board_of : MachineState → (Runner → RegisterFile) → (ℕ → Bool) → (ℕ → List ℕ) → (ℕ → List ℕ) → (ℕ → ControlWords) → (ℕ → ControlWords) → Board
-board_of s registers marked lists loaded control hosts = record {
-  monitor = monitor_of s registers marked;
-  memory = s.bytes;
-  lists = lists;
-  loaded = loaded;
-  floats = λ hart. no_floats;
-  kept = λ who. no_floats;
-  control = control;
-  hosts = hosts;
 }
 
 -- control words of which none was written
@@ -51,6 +40,45 @@ no_words = record {
   mode = 0;
 }
 
+-- control registers that keep each bit of 64
+abbrev all_bits : ℕ
+all_bits = 2 ^ 64 - 1
+
+abbrev pub any_csrs : ControlRegisters
+any_csrs = record {
+  keeps = record {
+    status = all_bits;
+    satp = all_bits;
+    mie = all_bits;
+    scounteren = all_bits;
+    senvcfg = all_bits;
+    hstatus = all_bits;
+    medeleg = all_bits;
+    mideleg = all_bits;
+    mode = all_bits;
+  };
+  fixed = no_words;
+}
+
+abbrev pub board_of : MachineState → (Runner → RegisterFile) → (ℕ → Bool) → (ℕ → List ℕ) → (ℕ → List ℕ) → (ℕ → RegisterFile) → (ℕ → ControlWords)
+    → (ℕ → ControlWords) → Board
+board_of s registers marked lists loaded running control hosts = record {
+  monitor = monitor_of s registers marked;
+  memory = s.bytes;
+  lists = lists;
+  loaded = loaded;
+  parked = λ hart. false;
+  running = running;
+  floats = λ hart. no_floats;
+  kept = λ who. no_floats;
+  control = control;
+  hosts = hosts;
+  csrs = λ hart. any_csrs;
+}
+
+pub any_confine : CanConfine any_csrs
+any_confine = record { mode = refl; satp = refl; exceptions = refl; monitors = refl; hosts = refl; others = refl; guests = refl }
+
 -- who runs on no hart
 abbrev pub Waits : MachineState → Runner → Type 0
 Waits s who = (hart : ℕ) → hart < s.table.layout.harts → who ≢ runner_of hart (s.worlds hart)
@@ -60,9 +88,10 @@ pub record OnBoard (layout : PlatformLayout) (opened : List ℕ) (seen : List Bo
   pub marked : ℕ → Bool
   pub lists : ℕ → List ℕ
   pub loaded : ℕ → List ℕ
+  pub running : ℕ → RegisterFile
   pub control : ℕ → ControlWords
   pub hosts : ℕ → ControlWords
-  pub runs : BoardRun layout opened seen (board_of s registers marked lists loaded control hosts)
+  pub runs : BoardRun layout opened seen (board_of s registers marked lists loaded running control hosts)
   pub waits : (who : Runner) → Waits s who → registers who ≡ s.registers who
 
 -- what the theorem of a board says of one that is as a state

@@ -1,15 +1,14 @@
 -- What holds of memory over a trap.
-use Rattle.std.proofs.Common.{◌≡◌, ◌∙◌, inl, inr, ℕ, ◌+◌, ◌/◌, ◌≤◌, ◌^◌, ◌||◌, true, false, if◌then◌else◌, List, Option, Some, None, IfSome, ap, sym, subst}
+use Rattle.std.proofs.Common.{◌≡◌, ◌∙◌, inl, inr, ℕ, ◌+◌, ◌/◌, ◌≤◌, ◌^◌, true, false, if◌then◌else◌, List, Option, Some, None, IfSome, ap, sym, subst}
 use Rattle.std.proofs.Common.{arith}
-use Rattle.std.proofs.lemmas.Bool.{both_ways, false_from_ne_true}
+use Rattle.std.proofs.lemmas.Bool.{false_from_ne_true}
 use Rattle.pmp_encoding.specs.declared.pages.PageRange.{PageRange}
 use Rattle.pmp_encoding.specs.Views.{in_range}
 use Rattle.measurement.specs.Digests.{layout_of}
 use Rattle.measurement.specs.Measured.{digest_of}
-use Rattle.measurement.specs.Requests.{is_part, is_private, is_shared}
+use Rattle.measurement.specs.Requests.{is_private}
 use Rattle.measurement.specs.declared.request.Create.{Create}
 use Rattle.sbi_decode.specs.Calls.{call_of}
-use Rattle.platforms.specs.Ranges.{has_page}
 use Rattle.enclave_table.specs.Enclaves.{Live, enclave_at}
 use Rattle.enclave_table.specs.Tables.{IsTable}
 use Rattle.enclave_table.specs.declared.enclave.Enclave.{Enclave}
@@ -28,18 +27,15 @@ use Rattle.trap_server.specs.Firmware.{AreDestroyed, KeepsTrap}
 use Rattle.trap_server.specs.Service.{AsksFor, ServesAs, given_at}
 use Rattle.trap_server.specs.Words.{word_at}
 use Rattle.board.proofs.Here.{call_there, served_here}
-use Rattle.board.specs.Board.{Board, DoesTrap, ReadsMemory, saved}
+use Rattle.board.specs.Board.{Board, DoesTrap, IsMemoryByte, ReadsMemory, saved}
 use Rattle.board.specs.Headline.{KeepsMemory}
 use Rattle.board.proofs.Made.{Absent, made_call, made_irq}
 use Rattle.board.proofs.Named.{named}
+use Rattle.board.proofs.Private.{as_part, private_memory}
 
 -- no page is one of none
 pub none_in : (page : ℕ) → in_range 0 0 page ≡ false
 none_in page = false_from_ne_true (in_range 0 0 page) (λ yes. absurd (grind (arith, yes)))
-
--- a page that is private is a part
-as_part : (parts : Create) (page : ℕ) → is_private parts page ≡ true → is_part parts page ≡ true
-as_part parts page is = ap (λ b. b || is_shared parts page) is
 
 -- memory with the pages of a range zero, where there is one
 abbrev pub cleared_by : Option PageRange → (ℕ → ℕ) → ℕ → ℕ
@@ -63,15 +59,6 @@ private_stays (Some range) s new memory id byte e f right d live own now =
     let same : d.1.0 ≡ id = right.alone d.1.0 id gone.0 e (byte / 4096) gone.1 live (as_part gone.0.parts (byte / 4096) theirs)
     (as_part e.parts (byte / 4096) own) in
     let z : None ≡ Some f = sym gone.2 ∙ subst (λ n. enclave_at new.table.enclaves n ≡ Some f) (sym same) now in cc) in
-    ap (λ b. if b then 0 else memory byte) outside
-
--- pages that are made zero are none of the monitor's
-monitor_stays : (cleared : Option PageRange) (s new : MonitorState) (memory : ℕ → ℕ) (byte : ℕ) → IfSome cleared (AreDestroyed s new)
-    → has_page s.table.layout.monitor (byte / 4096) ≡ true → cleared_by cleared memory byte ≡ memory byte
-monitor_stays None s new memory byte d own = ap (λ b. if b then 0 else memory byte) (none_in (byte / 4096))
-monitor_stays (Some range) s new memory byte d own =
-    let outside : in_range range.first range.count (byte / 4096) ≡ false = false_from_ne_true (in_range range.first range.count (byte / 4096)) (λ yes.
-    both_ways (has_page s.table.layout.monitor (byte / 4096)) (d.0.not_monitor (byte / 4096) yes) own) in
     ap (λ b. if b then 0 else memory byte) outside
 
 -- the digest of an enclave that was made is that of memory
@@ -111,20 +98,25 @@ new_digest Stop s trap changes read question answered new memory id e right ther
     absurd (made_irq (s.worlds hart) t hart x.mid id e none now x.step)
 
 pub trap_kept :
-    (old : Board) (trap : Trap) (frame read question answered : List ℕ) (new : Board) → IsTable old.monitor.table
-    → (x : DoesTrap old trap frame read question answered new)
+    (old : Board) (trap : Trap) (frame read question answered : List ℕ) (new : Board) → IsTable old.monitor.table → IsTable new.monitor.table
+    → new.monitor.table.layout ≡ old.monitor.table.layout → (x : DoesTrap old trap frame read question answered new)
     → KeepsTrap (saved old trap) trap x.changes read question answered new.monitor → KeepsMemory old new
-trap_kept old trap frame read question answered new right x k =
+trap_kept old trap frame read question answered new right sound layout x k =
     let inside : IfSome k.cleared (λ range. range.first + range.count ≤ 2 ^ 44) = in_space k.cleared k.zeroes in
     let words = named new.monitor (given_at (saved old trap) new.monitor trap) trap.hart k.answer k.cleared k.woken k.lists x.changes answered k.says inside in
-    let memory : (byte : ℕ) → new.memory byte ≡ cleared_by k.cleared old.memory byte = λ byte.
-    x.cleared byte ∙ ap (λ first. zeroed old.memory first (word_at answered 7) byte) words.0
+    let memory : (byte : ℕ) → IsMemoryByte new.monitor.table.layout byte → new.memory byte ≡ cleared_by k.cleared old.memory byte = λ byte there.
+    x.cleared byte there ∙ ap (λ first. zeroed old.memory first (word_at answered 7) byte) words.0
     ∙ ap (λ count. zeroed old.memory (pages_of k.cleared).first count byte) words.1 in
     record {
-      private = λ id byte e f own now. memory byte ∙ private_stays k.cleared old.monitor new.monitor old.memory id byte e f right k.zeroes own.0 own.1 now.0;
-      monitor = λ byte own. memory byte ∙ monitor_stays k.cleared old.monitor new.monitor old.memory byte k.zeroes own;
-      zeroes = λ id gone byte. memory byte ∙ ap (λ cleared. cleared_by cleared old.memory byte) (k.destroys id gone);
-      stays = λ none byte. memory byte ∙ all_stay k.cleared old.monitor new.monitor old.memory byte k.zeroes none;
+      private = λ id byte e f own now.
+          memory byte (private_memory new.monitor.table id byte f sound now.0 now.1)
+          ∙ private_stays k.cleared old.monitor new.monitor old.memory id byte e f right k.zeroes own.0 own.1 now.0;
+      zeroes = λ id gone byte own.
+          let there = private_memory old.monitor.table id byte gone.0 right gone.1 own in
+          memory byte (subst (λ l. IsMemoryByte l byte) (sym layout) there)
+          ∙ ap (λ cleared. cleared_by cleared old.memory byte) (k.destroys id gone) ∙ ap (λ b. if b then 0 else old.memory byte) own;
+      keeps = λ id gone byte there. memory byte there ∙ ap (λ cleared. cleared_by cleared old.memory byte) (k.destroys id gone);
+      stays = λ none byte there. memory byte there ∙ all_stay k.cleared old.monitor new.monitor old.memory byte k.zeroes none;
       digest = λ id e none live.
           let one = served_here old trap frame read question answered new x in
           new_digest trap.event (saved old trap) trap x.changes read question answered new.monitor old.memory id e right (call_there old trap) x.pages

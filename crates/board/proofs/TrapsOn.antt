@@ -1,6 +1,6 @@
 -- A trap on a board that is as a state of the model.
-use Rattle.std.proofs.Common.{ℕ, ◌≡◌, ◌∙◌, ◌+◌, ◌/◌, ◌<◌, ◌≤◌, ◌^◌, false, if◌then◌else◌, List, [], ◌∷◌, ◌++◌}
-use Rattle.std.proofs.Common.{Option, Some, None, IfSome, option_map, unwrap_or, refl, ap, sym}
+use Rattle.std.proofs.Common.{ℕ, ◌≡◌, ◌∙◌, ◌+◌, ◌/◌, ◌<◌, ◌≤◌, ◌^◌, ◌==◌, Bool, true, false, if◌then◌else◌, List, [], ◌∷◌, ◌++◌}
+use Rattle.std.proofs.Common.{Option, Some, None, IfSome, option_map, unwrap_or, append_assoc, refl, ap, sym, subst}
 use Rattle.pmp_encoding.specs.declared.pages.PageRange.{PageRange}
 use Rattle.pmp_encoding.specs.declared.region.Entry.{Entry}
 use Rattle.pmp_match.specs.Meaning.{Needs}
@@ -28,12 +28,13 @@ use Rattle.trap_server.specs.Words.{word_at}
 use Rattle.trap_server.specs.declared.trap.TrapEvent.{TrapEvent}
 use Rattle.trap_server.specs.declared.trap.Trap.{Trap}
 use Rattle.trap_server.specs.declared.words.ControlWords.{ControlWords}
-use Rattle.board.specs.Board.{BoardEvent, ReadsMemory, framed, happened, runner_by, trapped}
+use Rattle.board.specs.Board.{BoardEvent, BoardRun, DoesCompute, ReadsMemory, computed, framed, happened, no_floats, runner_by, trapped}
 use Rattle.board.proofs.Control.{control_after, control_changes, hosts_after}
 use Rattle.board.proofs.Named.{Says, named, says, whole}
 use Rattle.board.proofs.TrapFrames.{frame_is, frame_size, trap_frame, trap_on}
 use Rattle.board.proofs.Trapped.{none_in}
-use Rattle.board.proofs.OnBoards.{OnBoard, Waits, board_of, monitor_of}
+use Rattle.board.proofs.OnBoards.{OnBoard, Waits, any_csrs, board_of, monitor_of}
+use Rattle.board.proofs.Quiet.{put_far, put_here}
 
 -- the register sets that a trap finds on a board that is as a state
 abbrev pub found : (layout : PlatformLayout) (opened : List ℕ) (seen : List BoardEvent) (old : MachineState) (hart : ℕ) (file : RegisterFile)
@@ -74,11 +75,16 @@ pub record TrapLeaves (layout : PlatformLayout) (opened : List ℕ) (seen : List
       → ServesAs kind (with_sets (monitor_of old on.registers on.marked) sets) (trap_at layout opened seen kind old hart file on) changes read question
       answered (with_sets that (changed hart changes sets))
 
+-- the same by either way
+same_both : (b : Bool) → (if b then no_floats else no_floats) ≡ no_floats
+same_both true = refl
+same_both false = refl
+
 pub trap_seen :
     (layout : PlatformLayout) (opened : List ℕ) (seen : List BoardEvent) (kind : TrapEvent) (old new : MachineState) (hart : ℕ) (file : RegisterFile)
     (on : OnBoard layout opened seen old) → hart < old.table.layout.harts → (x : TrapLeaves layout opened seen kind old new hart file on)
-    → (answered : List ℕ) × OnBoard layout opened (seen ++ trapped (trap_at layout opened seen kind old hart file on)
-    (trap_frame kind hart file (framed (on.control hart))) x.read x.question answered ∷ []) new
+    → (answered : List ℕ) × OnBoard layout opened (seen ++ computed hart file no_floats ∷ (trapped (trap_at layout opened seen kind old hart file on)
+    (trap_frame kind hart file (framed (on.control hart))) x.read x.question answered ∷ [])) new
     × Says answered (world_number (new.worlds hart)) (status_word x.answer.status) x.answer.value x.used
 trap_seen layout opened seen kind old new hart file on known x =
     let host = framed (on.control hart) in
@@ -107,7 +113,16 @@ trap_seen layout opened seen kind old new hart file on known x =
     let loaded : ℕ → List ℕ = λ h. loaded_after answered lists (on.loaded h) h in
     let who = runner_of hart (old.worlds hart) in
     let next = runner_by hart (word_at answered 2) in
-    let control : ℕ → ControlWords = control_after hart who next (said_words answered) on.control on.hosts in
+    let event = trapped trap (trap_frame kind hart file host) x.read x.question answered in
+    let came : ℕ → RegisterFile = λ h. if h == hart then file else on.running h in
+    let running : ℕ → RegisterFile = λ h. if h == hart then sets next else came h in
+    let mid = board_of old on.registers on.marked on.lists on.loaded came on.control on.hosts in
+    let computes : DoesCompute (board_of old on.registers on.marked on.lists on.loaded on.running on.control on.hosts) hart file no_floats mid = record {
+      up = record { known = known; started = refl };
+      memory = λ byte there. refl;
+      state = λ i. record mid { floats = λ h. sym (same_both (h == hart)) i };
+    } in
+    let control : ℕ → ControlWords = control_after any_csrs hart who next (said_words answered) on.control on.hosts in
     let hosts : ℕ → ControlWords = hosts_after hart (said_words answered) on.control on.hosts in (
       answered,
       record {
@@ -115,33 +130,45 @@ trap_seen layout opened seen kind old new hart file on known x =
         marked = (unmarked 4 x.mid).marked;
         lists = lists;
         loaded = loaded;
+        running = running;
         control = control;
         hosts = hosts;
-        runs = happened on.runs (trapped trap (trap_frame kind hart file host) x.read x.question answered) (record {
-          size = frame_size kind hart file host;
-          is_trap = frame_is kind hart file host old.table.layout.harts known;
-          host = λ host_trapped. refl;
-          changes = x.changes;
-          served = λ all there. x.serves answered that same is_answer all there;
-          sets = refl;
-          pages = x.reads;
-          cleared = λ byte.
-              x.bytes byte ∙ sym (ap (λ first. zeroed old.bytes first (word_at answered 7) byte) words.0
-              ∙ ap (λ count. zeroed old.bytes (pages_of x.cleared).first count byte) words.1);
-          keeps = λ world. refl;
-          loads = λ h. refl;
-          floats = record {
-            goes_on = λ same. refl;
-            leaves = λ differ. refl;
-            enters = λ differ. refl;
-            made = λ other said. refl;
-            harts = λ other differ. refl;
-            others = λ other differ none. refl;
-          };
-          control = control_changes (board_of old on.registers on.marked on.lists on.loaded on.control on.hosts)
-              (board_of new sets (unmarked 4 x.mid).marked lists loaded control hosts) hart who next (said_words answered)
-              (refl {a = control}) (refl {a = hosts});
-        });
+        runs = subst (λ all. BoardRun layout opened all (board_of new sets (unmarked 4 x.mid).marked lists loaded running control hosts))
+            (append_assoc seen (computed hart file no_floats ∷ []) (event ∷ []))
+            (happened (happened on.runs (computed hart file no_floats) computes) event (record {
+              size = frame_size kind hart file host;
+              is_trap = frame_is kind hart file host old.table.layout.harts known;
+              started = refl;
+              came = sym (put_here hart file (on.running hart));
+              host = λ host_trapped. refl;
+              changes = x.changes;
+              served = λ all there. x.serves answered that same is_answer all there;
+              sets = refl;
+              pages = x.reads;
+              cleared = λ byte there.
+                  x.bytes byte ∙ sym (ap (λ first. zeroed old.bytes first (word_at answered 7) byte) words.0
+                  ∙ ap (λ count. zeroed old.bytes (pages_of x.cleared).first count byte) words.1);
+              keeps = λ world. refl;
+              loads = λ h up. refl;
+              parked = refl;
+              csrs = refl;
+              running = record {
+                resumes = put_here hart (sets next) (came hart);
+                others = λ other differ. put_far hart other (sets next) (came other) differ;
+              };
+              floats = record {
+                goes_on = λ same. refl;
+                leaves = λ differ lives. refl;
+                ends = λ other ended. refl;
+                enters = λ differ. refl;
+                made = λ other said. refl;
+                harts = λ other differ. refl;
+                others = λ other differ none lives. refl;
+              };
+              control = control_changes mid
+                  (board_of new sets (unmarked 4 x.mid).marked lists loaded running control hosts) hart who next (said_words answered)
+                  (refl {a = control}) (refl {a = hosts});
+            }));
         waits = x.waits;
       },
       says head x.changes x.are given,

@@ -1,6 +1,7 @@
 -- A board: harts that load what the monitor answers, memory, and worlds that run between its traps.
-use Rattle.std.specs.Prelude.{◌≡◌, ◌≢◌, ℕ, ◌*◌, ◌<◌, ◌==◌, if◌then◌else◌, List, [], ◌++◌, ◌∷◌}
-use Rattle.std.specs.Prelude.{drop, length, Option, None, Some, Result, Ok, Err, ⊤}
+use Rattle.std.specs.Prelude.{◌≡◌, ◌≢◌, ◌⊎◌, ℕ, ◌*◌, ◌/◌, ◌<◌, ◌==◌, if◌then◌else◌, ⊤}
+use Rattle.std.specs.Prelude.{Bool, true, false, List, [], ◌++◌, ◌∷◌, drop, length, Option, None}
+use Rattle.std.specs.Prelude.{Some, Result, Ok, Err}
 use Rattle.pmp_encoding.specs.declared.region.Entry.{Entry}
 use Rattle.pmp_encoding.specs.Limits.{limit_number}
 use Rattle.pmp_encoding.specs.Lists.{MeansList}
@@ -11,20 +12,23 @@ use Rattle.pmp_match.specs.declared.access.Mode.TheVariants.{Machine}
 use Rattle.pmp_match.specs.declared.cause.Cause.{Cause}
 use Rattle.pmp_match.specs.Judgement.{Judges}
 use Rattle.measurement.specs.Digests.{pages_from}
-use Rattle.platforms.specs.Platform.{PlatformLayout}
+use Rattle.platforms.specs.Platform.{PlatformLayout, is_ram}
+use Rattle.platforms.specs.Ranges.{has_page}
+use Rattle.sbi_decode.specs.Registers.{RegisterFile, with_x}
 use Rattle.sbi_decode.specs.Runners.{Runner, HostOf, EnclaveOf}
 use Rattle.sbi_decode.specs.declared.world.World.{World}
 use Rattle.sbi_decode.specs.declared.world.World.TheVariants.{Host, Enclave as InEnclave}
 use Rattle.monitor_core.specs.States.{MonitorState, opening_monitor}
-use Rattle.monitor_core.specs.Switches.{runner_on}
+use Rattle.monitor_core.specs.Switches.{HasExited, IsGone, runner_on}
 use Rattle.hart_sim.specs.Memory.{bytes_at, stored, zeroed}
 use Rattle.trap_server.specs.declared.trap.Trap.{Trap}
 use Rattle.trap_server.specs.declared.host_words.HostWords.{HostWords}
 use Rattle.trap_server.specs.declared.words.ControlWords.{ControlWords}
 use Rattle.trap_server.specs.Firmware.{list_after, loaded_after, loaded_pairs}
 use Rattle.trap_server.specs.Given.{said_words}
+use Rattle.board.specs.Held.{CanHold, ControlRegisters, held}
 use Rattle.trap_server.specs.PageDigest.{ArePages}
-use Rattle.monitor_core.specs.Changes.{with_running}
+use Rattle.monitor_core.specs.Changes.{past_call, with_running}
 use Rattle.monitor_core.specs.SetChanges.{changed}
 use Rattle.monitor_core.specs.declared.set_changes.SetChanges.{SetChanges}
 use Rattle.trap_server.specs.Service.{ServesAll}
@@ -39,34 +43,77 @@ Floats = ℕ → ℕ
 abbrev pub no_floats : Floats
 no_floats n = 0
 
--- the state of the monitor, whose register sets are those that lie with the harts, and the byte at
--- each address. The bytes of the list of entries that is kept for each world by its number, 0 for
--- the host, and of the one that each hart loaded last. What each hart has in its registers of
--- floating point, and what is kept there for each host and each enclave. The words in the control
--- registers of each hart, and those that it keeps for its host while an enclave runs there
+-- a board at one moment
 pub record Board : Type 0 where
+  -- the state of the monitor, whose register sets lie with the harts
   pub monitor : MonitorState
+  -- the byte at each address
   pub memory : ℕ → ℕ
+  -- the bytes of the list of entries that is kept for each world by its number, 0 for the host, and
+  -- of the list that each hart loaded last
   pub lists : ℕ → List ℕ
   pub loaded : ℕ → List ℕ
+  -- whether the host has stopped a hart, or has not started it yet
+  pub parked : ℕ → Bool
+  -- the integer registers of each hart
+  pub running : ℕ → RegisterFile
+  -- the floating-point registers of each hart, and those that are kept for each host and enclave
   pub floats : ℕ → Floats
   pub kept : Runner → Floats
+  -- the words in the control registers of each hart, those that it keeps for its host while an
+  -- enclave runs there, and which bits of these registers can be written
   pub control : ℕ → ControlWords
   pub hosts : ℕ → ControlWords
+  pub csrs : ℕ → ControlRegisters
+
+-- a byte of the board's memory: its page is RAM, and not the monitor's. Device registers are no
+-- memory, since devices change them, and the code around the loop writes the monitor's pages
+pub record IsMemoryByte (layout : PlatformLayout) (byte : ℕ) : Type 0 where
+  pub in_ram : is_ram layout (byte / 4096) ≡ true
+  pub not_monitor : has_page layout.monitor (byte / 4096) ≡ false
+
+-- the memory of a board has these bytes. Bytes that are no memory may be anything
+abbrev pub HasMemory : Board → (ℕ → ℕ) → Type 0
+HasMemory board bytes = (byte : ℕ) → IsMemoryByte board.monitor.table.layout byte
+    → board.memory byte ≡ bytes byte
+
+-- the host or an enclave runs on a hart of the platform
+pub record IsUp (board : Board) (hart : ℕ) : Type 0 where
+  pub known : hart < board.monitor.table.layout.harts
+  pub started : board.parked hart ≡ false
 
 -- the PMP registers of a hart have this list
 abbrev pub HasEntries : Board → ℕ → List Entry → Type 0
 HasEntries board hart entries = MeansList
     (loaded_pairs (board.loaded hart) 0 (limit_number board.monitor.table.layout.limit)) entries
 
--- what happens on a board: an access, with the value that a store puts and what the entries say of
--- it; a computation that leaves this in a hart's registers of floating point; a write that leaves
--- these words in its control registers; or a trap, with the bytes of its frame, those of its pages,
--- the question for them and the answer
+-- how a world goes on after a trap that its hart serves without the loop
+pub data Resumption : Type 0 where
+  -- a host, after its call by SBI, with these words in a0 and a1: of its timer, of an interrupt or
+  -- a fence for another hart, of what there is, or in error
+  replied : (first second : ℕ) → Resumption
+  -- a host, in the handler of its own to which the trap was forwarded or delegated
+  handled : (pc : ℕ) → Resumption
+  -- any world, after an interrupt for machine mode: another hart asks for a fence, or for an
+  -- interrupt of the host, or the host's timer is due
+  resumed : Resumption
+
+-- what happens on a board
 pub data BoardEvent : Type 0 where
+  -- an access, with the value that a store puts and what the entries say of it
   access : (hart : ℕ) (a : Access) (value : ℕ) (said : Result (Unit {0}) Cause) → BoardEvent
-  computed : (hart : ℕ) (floats : Floats) → BoardEvent
+  -- a computation, which leaves these in the registers of a hart
+  computed : (hart : ℕ) (file : RegisterFile) (floats : Floats) → BoardEvent
+  -- a write that leaves these words in the control registers of a hart
   wrote : (hart : ℕ) (words : ControlWords) → BoardEvent
+  -- a trap that a hart serves without the loop
+  aside : (hart : ℕ) (on : Resumption) → BoardEvent
+  -- a host stops its hart
+  parks : (hart : ℕ) → BoardEvent
+  -- a host starts another hart, which begins with these registers and control words
+  starts : (hart : ℕ) (file : RegisterFile) (words : ControlWords) → BoardEvent
+  -- a trap that the loop serves, with the bytes of its frame, those of its pages, the question for
+  -- them and the answer
   trapped : (trap : Trap) (frame read question answered : List ℕ) → BoardEvent
 
 -- memory after an access that is allowed: a store puts its bytes, and no other changes any
@@ -81,34 +128,96 @@ memory_after (Err cause) memory a value = memory
 memory_after (Ok done) memory a value = put_by a.kind memory a value
 
 -- a world below machine mode makes an access, of any kind, address and value, and the entries of
--- its hart say of it what they say. What the world does with its integer registers is anything: no
--- board knows of them until the next trap
+-- its hart say of it what they say. Only memory changes
 pub record DoesAccess (old : Board) (hart : ℕ) (a : Access) (value : ℕ)
     (said : Result (Unit {0}) Cause) (new : Board) : Type 0 where
-  pub known : hart < old.monitor.table.layout.harts
+  pub up : IsUp old hart
   pub below : a.mode ≢ Machine
   pub entries : List Entry
   pub loaded : HasEntries old hart entries
   pub judged : Judges entries a said
-  pub state : new ≡ record old { memory = memory_after said old.memory a value }
+  pub memory : HasMemory new (memory_after said old.memory a value)
+  pub state : new ≡ record old { memory = new.memory }
 
--- the world of a hart puts anything into its registers of floating point
-pub record DoesCompute (old : Board) (hart : ℕ) (floats : Floats) (new : Board) : Type 0 where
-  pub known : hart < old.monitor.table.layout.harts
-  pub state : new ≡ record old { floats = λ h. if h == hart then floats else old.floats h }
+-- the world of a hart puts anything into its integer and floating-point registers
+pub record DoesCompute (old : Board) (hart : ℕ) (file : RegisterFile) (floats : Floats)
+    (new : Board) : Type 0 where
+  pub up : IsUp old hart
+  pub memory : HasMemory new old.memory
+  pub state : new ≡ record old {
+    memory = new.memory;
+    running = λ h. if h == hart then file else old.running h;
+    floats = λ h. if h == hart then floats else old.floats h;
+  }
 
--- what a world can make of the control words that a hart has. A host may write any. An enclave runs
--- in user mode, which writes none of them; but the hart notes in status that registers of floating
--- point changed
+-- which control words a world can write to those that a hart has. A host may write any. An enclave
+-- runs in user mode, which can write none; but the hart records in status that floating-point
+-- registers changed
 abbrev pub MayWrite : World → ControlWords → ControlWords → Type 0
 MayWrite Host had words = ⊤
 MayWrite (InEnclave id) had words = words ≡ record had { status = words.status }
 
--- the world of a hart puts other words into its control registers
+-- the world of a hart puts other words into its control registers, which can hold them
 pub record DoesWrite (old : Board) (hart : ℕ) (words : ControlWords) (new : Board) : Type 0 where
-  pub known : hart < old.monitor.table.layout.harts
+  pub up : IsUp old hart
   pub may : MayWrite (old.monitor.worlds hart) (old.control hart) words
-  pub state : new ≡ record old { control = λ h. if h == hart then words else old.control h }
+  pub can : CanHold (old.csrs hart) words
+  pub memory : HasMemory new old.memory
+  pub state : new ≡ record old {
+    memory = new.memory;
+    control = λ h. if h == hart then words else old.control h;
+  }
+
+-- the registers with which a world goes on after a trap that is served without the loop
+abbrev pub gone_on : Resumption → RegisterFile → RegisterFile
+gone_on (replied first second) file = with_x (with_x (past_call file) 10 first) 11 second
+gone_on (handled pc) file = record file { pc = pc }
+gone_on resumed file = file
+
+-- which world can go on like that: an enclave only after an interrupt
+abbrev pub MayGoOn : World → Resumption → Type 0
+MayGoOn Host on = ⊤
+MayGoOn (InEnclave id) on = on ≡ resumed
+
+-- a hart serves a trap without the loop. It changes a0, a1 and the program counter of the host that
+-- called, or enters the host's handler, and nothing else. A host's control words change as it
+-- enters its handler, which is a write of its own
+pub record DoesAside (old : Board) (hart : ℕ) (on : Resumption) (new : Board) : Type 0 where
+  pub up : IsUp old hart
+  pub may : MayGoOn (old.monitor.worlds hart) on
+  pub memory : HasMemory new old.memory
+  pub state : new ≡ record old {
+    memory = new.memory;
+    running = λ h. if h == hart then gone_on on (old.running h) else old.running h;
+  }
+
+-- a host stops its hart, on which no world runs then
+pub record DoesPark (old : Board) (hart : ℕ) (new : Board) : Type 0 where
+  pub up : IsUp old hart
+  pub host : old.monitor.worlds hart ≡ Host
+  pub memory : HasMemory new old.memory
+  pub state : new ≡ record old {
+    memory = new.memory;
+    parked = λ h. if h == hart then true else old.parked h;
+  }
+
+-- a hart that is parked is started. It loads the list of the host, and its host begins with any
+-- integer registers and control words, and with zero in its floating-point registers
+pub record DoesStart (old : Board) (hart : ℕ) (file : RegisterFile) (words : ControlWords)
+    (new : Board) : Type 0 where
+  pub known : hart < old.monitor.table.layout.harts
+  pub was_parked : old.parked hart ≡ true
+  pub host : old.monitor.worlds hart ≡ Host
+  pub can : CanHold (old.csrs hart) words
+  pub memory : HasMemory new old.memory
+  pub state : new ≡ record old {
+    memory = new.memory;
+    loaded = λ h. if h == hart then old.lists 0 else old.loaded h;
+    parked = λ h. if h == hart then false else old.parked h;
+    running = λ h. if h == hart then file else old.running h;
+    floats = λ h. if h == hart then no_floats else old.floats h;
+    control = λ h. if h == hart then words else old.control h;
+  }
 
 -- who goes on on a hart, by the number of the world in an answer: 0 is the host of that hart
 abbrev pub runner_by : ℕ → ℕ → Runner
@@ -119,32 +228,49 @@ runner_by hart world = if world == 0 then HostOf hart else EnclaveOf world
 abbrev pub SaysMade : List ℕ → List ℕ → Runner → Type 0
 SaysMade question answered who = (question ≢ []) × (who ≡ EnclaveOf (word_at answered 4))
 
--- registers of floating point over a trap of who runs on a hart. Where the answer says in its
--- word 2 that another goes on, what the hart has is kept for the one, and it gets what is kept for
--- the other. For an enclave that was made zeros are kept. Nothing else is changed
+-- an enclave that is destroyed or has exited
+abbrev pub HasEnded : MonitorState → MonitorState → Runner → Type 0
+HasEnded old new who = (id : ℕ) × (who ≡ EnclaveOf id)
+    × (IsGone old new id ⊎ HasExited old new id)
+
+-- floating-point registers over a trap of who runs on a hart. Where the answer says in its word 2
+-- that another goes on, what the hart has is kept for the one, and it gets what is kept for the
+-- other. For an enclave that was made zeros are kept, and for one that ended: its integer registers
+-- are made zero too. Nothing else changes
 pub record ChangesFloats (old : Board) (hart : ℕ) (who next : Runner)
     (question answered : List ℕ) (new : Board) : Type 0 where
   pub goes_on : next ≡ who → new.floats hart ≡ old.floats hart
-  pub leaves : next ≢ who → new.kept who ≡ old.floats hart
+  pub leaves : next ≢ who → (HasEnded old.monitor new.monitor who → ⊥)
+      → new.kept who ≡ old.floats hart
   pub enters : next ≢ who → new.floats hart ≡ old.kept next
   pub made : (other : Runner) → SaysMade question answered other → new.kept other ≡ no_floats
+  pub ends : (other : Runner) → HasEnded old.monitor new.monitor other
+      → new.kept other ≡ no_floats
   pub harts : (other : ℕ) → other ≢ hart → new.floats other ≡ old.floats other
   pub others : (other : Runner) → other ≢ who → (SaysMade question answered other → ⊥)
-      → new.kept other ≡ old.kept other
+      → (HasEnded old.monitor new.monitor other → ⊥) → new.kept other ≡ old.kept other
 
 -- control words over a trap of who runs on a hart, by those that the answer says. Where it says
--- some, the hart gets them, and those that it has are kept for its host. Where it says none, those
--- that it has stay if the same goes on, and if another does it gets those that are kept. Those of
--- other harts stay
+-- some, they are written to the hart, and those that it has are kept for its host. Where it says
+-- none, those that the hart has stay if the same goes on, and if another does those that are kept
+-- are written to it. Those of other harts stay
 pub record ChangesControl (old : Board) (hart : ℕ) (who next : Runner)
     (said : Option ControlWords) (new : Board) : Type 0 where
-  pub gets : (words : ControlWords) → said ≡ Some words → new.control hart ≡ words
+  pub gets : (words : ControlWords) → said ≡ Some words
+      → new.control hart ≡ held (old.csrs hart) words
   pub leaves : (words : ControlWords) → said ≡ Some words → new.hosts hart ≡ old.control hart
   pub goes_on : said ≡ None → next ≡ who → new.control hart ≡ old.control hart
-  pub comes_back : said ≡ None → next ≢ who → new.control hart ≡ old.hosts hart
+  pub comes_back : said ≡ None → next ≢ who
+      → new.control hart ≡ held (old.csrs hart) (old.hosts hart)
   pub waits : said ≡ None → new.hosts hart ≡ old.hosts hart
   pub harts : (other : ℕ) → other ≢ hart → new.control other ≡ old.control other
   pub others : (other : ℕ) → other ≢ hart → new.hosts other ≡ old.hosts other
+
+-- integer registers over a trap on a hart: the one that goes on has those of its set, and each
+-- other hart those that it had
+pub record ChangesRunning (old : Board) (hart : ℕ) (next : Runner) (new : Board) : Type 0 where
+  pub resumes : new.running hart ≡ new.monitor.registers next
+  pub others : (other : ℕ) → other ≢ hart → new.running other ≡ old.running other
 
 -- those of the control words that the frame of a trap has
 abbrev pub framed : ControlWords → HostWords
@@ -156,66 +282,69 @@ ReadsMemory memory read =
     (first count : ℕ) (pages : List (List ℕ)) → ArePages first count read pages
     → pages ≡ pages_from (λ page. bytes_at memory (page * 4096) 4096) first count
 
--- the register sets as a trap finds them: the world that trapped has any registers, which are saved
--- in its own. Its frame has a0 to a7 of them
+-- the register sets as a trap finds them: the registers of the world that trapped are saved in its
+-- own. Its frame has a0 to a7 of them
 abbrev pub saved : Board → Trap → MonitorState
 saved old trap = with_running old.monitor trap.hart trap.registers
 
--- a trap is served, whatever the register sets are, and meanwhile no world runs. The sets change as
--- the answer says, and nothing else changes them. The pages that were read are memory's; those that
--- the answer names, in its words 6 and 7, are made zero; the lists that it has are kept for their
--- worlds; the hart that it names loads the list of the world that it names, and each that it wakes
--- the host's, before any world goes on. Registers of floating point change with the world of the
--- hart that trapped. Where its host trapped the frame has two of the control words that the hart
--- has. They change as the answer says
+-- a trap is served by the loop. Each clause is a duty of the code around it
 pub record DoesTrap (old : Board) (trap : Trap) (frame read question answered : List ℕ)
     (new : Board) : Type 0 where
+  -- the loop reads a frame of this trap, on a hart that runs a world
   pub size : length frame ≡ 96
   pub is_trap : IsTrapFrame frame old.monitor.table.layout.harts trap
+  pub started : old.parked trap.hart ≡ false
+  -- the trap has the registers of the hart, and of a host two of its control words
+  pub came : trap.registers ≡ old.running trap.hart
   pub host : old.monitor.worlds trap.hart ≡ Host → trap.host ≡ framed (old.control trap.hart)
+  -- the loop serves it, whatever the register sets are, and they change as the answer says
   pub changes : SetChanges
   pub served : ServesAll old.monitor trap changes read question answered new.monitor
   pub sets : new.monitor.registers ≡ changed trap.hart changes (saved old trap).registers
+  -- the pages that were read are memory's; those that the answer names, in its words 6 and 7, are
+  -- made zero, and no other byte of memory changes
   pub pages : ReadsMemory old.memory read
-  pub cleared : (byte : ℕ) → new.memory byte
-      ≡ zeroed old.memory (word_at answered 6) (word_at answered 7) byte
+  pub cleared : HasMemory new
+      (zeroed old.memory (word_at answered 6) (word_at answered 7))
+  -- the lists that the answer has are kept for their worlds; the hart that it names loads the list
+  -- of the world that it names, and each other that it wakes the host's, before its world goes on.
+  -- A hart that is parked has any list
   pub keeps : (world : ℕ) → new.lists world ≡ list_after answered old.lists world
-  pub loads : (hart : ℕ) → new.loaded hart
+  pub loads : (hart : ℕ) → old.parked hart ≡ false → new.loaded hart
       ≡ loaded_after answered new.lists (old.loaded hart) hart
+  pub parked : new.parked ≡ old.parked
+  -- registers change as the world of the hart does
+  pub running : ChangesRunning old trap.hart (runner_by trap.hart (word_at answered 2)) new
   pub floats : ChangesFloats old trap.hart (runner_on old.monitor trap.hart)
       (runner_by trap.hart (word_at answered 2)) question answered new
   pub control : ChangesControl old trap.hart (runner_on old.monitor trap.hart)
       (runner_by trap.hart (word_at answered 2)) (said_words answered) new
+  pub csrs : new.csrs ≡ old.csrs
 
 -- an event happens on a board
 abbrev pub HappensOn : BoardEvent → Board → Board → Type 0
 HappensOn (access hart a value said) old new = DoesAccess old hart a value said new
-HappensOn (computed hart floats) old new = DoesCompute old hart floats new
+HappensOn (computed hart file floats) old new = DoesCompute old hart file floats new
 HappensOn (wrote hart words) old new = DoesWrite old hart words new
+HappensOn (aside hart on) old new = DoesAside old hart on new
+HappensOn (parks hart) old new = DoesPark old hart new
+HappensOn (starts hart file words) old new = DoesStart old hart file words new
 HappensOn (trapped trap frame read question answered) old new =
     DoesTrap old trap frame read question answered new
 
--- a board after boot: the opening state, any memory, on each hart the list of the first answer, and
--- anything in registers of floating point, in control registers, and kept of both
-abbrev pub booted_board : PlatformLayout → List ℕ → (ℕ → ℕ) → (ℕ → Floats) → (Runner → Floats)
-    → (ℕ → ControlWords) → (ℕ → ControlWords) → Board
-booted_board layout opened memory floats kept control hosts = record {
-  monitor = opening_monitor layout;
-  memory = memory;
-  lists = λ world. drop 184 opened;
-  loaded = λ hart. drop 184 opened;
-  floats = floats;
-  kept = kept;
-  control = control;
-  hosts = hosts;
-}
+-- a board right after boot has the opening state, keeps for each world the list of the first
+-- answer, and each hart has loaded it. It has any memory, any harts are parked, and registers have
+-- any values that they can hold
+pub record IsBooted (layout : PlatformLayout) (opened : List ℕ) (board : Board) : Type 0 where
+  pub monitor : board.monitor ≡ opening_monitor layout
+  pub lists : (world : ℕ) → board.lists world ≡ drop 184 opened
+  pub loaded : (hart : ℕ) → board.loaded hart ≡ drop 184 opened
+  pub control : (hart : ℕ) → CanHold (board.csrs hart) (board.control hart)
 
 -- events that happen one after another on a board, after boot
 pub data BoardRun (layout : PlatformLayout) (opened : List ℕ) : List BoardEvent → Board
     → Type 0 where
-  booted : (memory : ℕ → ℕ) (floats : ℕ → Floats) (kept : Runner → Floats)
-      (control hosts : ℕ → ControlWords)
-      → BoardRun layout opened [] (booted_board layout opened memory floats kept control hosts)
+  booted : (board : Board) → IsBooted layout opened board → BoardRun layout opened [] board
   happened : {events : List BoardEvent} {old new : Board} → BoardRun layout opened events old
       → (event : BoardEvent) → HappensOn event old new
       → BoardRun layout opened (events ++ event ∷ []) new

@@ -1,6 +1,6 @@
 -- What holds of a board after boot and any list of events.
 use Rattle.std.specs.Prelude.{◌≡◌, ◌≢◌, ◌⊎◌, ℕ, ◌/◌, ◌<◌, true, if◌then◌else◌, List, [], ◌++◌}
-use Rattle.std.specs.Prelude.{zero, suc, ◌==◌, ◌&&◌, None, Result, Ok, Err, ⊤}
+use Rattle.std.specs.Prelude.{zero, suc, ◌==◌, ◌&&◌, false, None, Result, Ok, Err, ⊤}
 use Rattle.pmp_match.specs.declared.access.Access.{Access}
 use Rattle.pmp_match.specs.Accesses.{Reaches}
 use Rattle.pmp_match.specs.declared.access.Kind.TheVariants.{Store}
@@ -8,6 +8,7 @@ use Rattle.pmp_match.specs.declared.cause.Cause.{Cause}
 use Rattle.sbi_decode.specs.declared.world.World.TheVariants.{Host, Enclave as InEnclave}
 use Rattle.sbi_decode.specs.Runners.{Runner, EnclaveOf, runner_of}
 use Rattle.sbi_decode.specs.declared.world.World.{World}
+use Rattle.sbi_decode.specs.Registers.{RegisterFile}
 use Rattle.measurement.specs.Requests.{is_private}
 use Rattle.platforms.specs.Platform.{PlatformLayout}
 use Rattle.platforms.specs.Ranges.{has_page}
@@ -24,12 +25,14 @@ use Rattle.hart_sim.specs.Memory.{measured_in}
 use Rattle.hart_sim.specs.Steps.{verdict}
 use Rattle.trap_server.specs.declared.trap.Trap.{Trap}
 use Rattle.trap_server.specs.Answered.{AreAwake}
-use Rattle.trap_server.specs.Firmware.{AreThose, HasFewest, list_last, loaded_last}
+use Rattle.trap_server.specs.Firmware.{AreThose, HasFewest, list_last}
 use Rattle.trap_server.specs.Runs.{ServesTraps}
 use Rattle.trap_server.specs.Tables.{enclave_words}
 use Rattle.trap_server.specs.declared.words.ControlWords.{ControlWords}
-use Rattle.board.specs.Board.{Board, BoardEvent, BoardRun, access, computed, trapped, wrote}
-use Rattle.board.specs.Board.{Floats, booted, framed, happened, no_floats, saved}
+use Rattle.board.specs.Board.{Board, BoardEvent, BoardRun, Floats, HasEnded, HasMemory}
+use Rattle.board.specs.Board.{access, aside, booted, computed, framed, gone_on, happened, no_floats}
+use Rattle.board.specs.Board.{parks, saved, starts, trapped, wrote}
+use Rattle.board.specs.Held.{CanHold, Confines, held}
 
 -- what a host or an enclave has in registers of floating point, by what is in each hart's and what
 -- is kept: of the harts below n that of the one on which it runs, and what is kept for it where it
@@ -70,7 +73,7 @@ pub record IsOwnStore (board : Board) (hart : ℕ) (a : Access) (said : Result (
 -- what holds of each access: the entries of its hart say what the view of its world says. An access
 -- that reaches a page which is private to an enclave, by any other world, is a fault, and so is any
 -- that reaches a page of the monitor. A byte of such a private page stays, but for the enclave's
--- own stores, and a byte of the monitor's pages stays. Nobody's registers of floating point change
+-- own stores. No register changes
 pub record KeepsAccess (old : Board) (hart : ℕ) (a : Access) (said : Result (Unit {0}) Cause)
     (new : Board) : Type 0 where
   pub by_view : said ≡ verdict (current_view old.monitor.table (old.monitor.worlds hart)) a
@@ -80,53 +83,67 @@ pub record KeepsAccess (old : Board) (hart : ℕ) (a : Access) (said : Result (U
       → (cause : Cause) × (said ≡ Err cause)
   pub private : (id byte : ℕ) (e : Enclave) → IsPrivateByte old id e byte
       → (new.memory byte ≡ old.memory byte) ⊎ IsOwnStore old hart a said id byte
-  pub monitor : (byte : ℕ) → IsMonitorByte old byte → new.memory byte ≡ old.memory byte
+  pub running : (other : ℕ) → new.running other ≡ old.running other
   pub floats : (who : Runner) → floats_of new who ≡ floats_of old who
 
--- what holds of each computation: it changes registers of floating point of the one who runs there,
--- and of nobody else
-pub record KeepsOtherFloats (old : Board) (hart : ℕ) (floats : Floats) (new : Board) : Type 0 where
-  pub own : floats_of new (runner_on old.monitor hart) ≡ floats
-  pub others : (who : Runner) → who ≢ runner_on old.monitor hart
+-- what every event but an access and a trap of the loop leaves as it was: the state of the monitor
+-- with its register sets, memory, and the registers of all that run elsewhere or wait
+pub record LeavesOthers (old : Board) (hart : ℕ) (new : Board) : Type 0 where
+  pub monitor : new.monitor ≡ old.monitor
+  pub memory : HasMemory new old.memory
+  pub running : (other : ℕ) → other ≢ hart → new.running other ≡ old.running other
+  pub floats : (who : Runner) → who ≢ runner_on old.monitor hart
       → floats_of new who ≡ floats_of old who
+
+-- the world of a hart has these registers
+abbrev pub HasRegisters : Board → ℕ → RegisterFile → Floats → Type 0
+HasRegisters board hart file floats = (board.running hart ≡ file)
+    × (floats_of board (runner_on board.monitor hart) ≡ floats)
 
 -- an enclave that was not there before, and is now
 abbrev pub IsNew : Board → Board → Runner → Type 0
 IsNew old new who = (id : ℕ) × (e : Enclave) × (who ≡ EnclaveOf id)
     × (enclave_at old.monitor.table.enclaves id ≡ None) × Live new.monitor.table id e
 
--- what holds of registers of floating point over each trap: a new enclave has zeros, and all
--- others, hosts and enclaves, have what they had. So one that goes on has what it left, on
--- whichever hart
+-- what holds of floating-point registers over each trap: a new enclave has zeros, one that ended
+-- leaves zeros, and all others, hosts and enclaves, have what they had. So one that goes on has
+-- what it left, on whichever hart
 pub record KeepsFloats (old new : Board) : Type 0 where
   pub begins : (who : Runner) → IsNew old new who → floats_of new who ≡ no_floats
-  pub stays : (who : Runner) → (IsNew old new who → ⊥) → floats_of new who ≡ floats_of old who
+  pub ends : (who : Runner) → HasEnded old.monitor new.monitor who
+      → floats_of new who ≡ no_floats
+  pub stays : (who : Runner) → (IsNew old new who → ⊥)
+      → (HasEnded old.monitor new.monitor who → ⊥) → floats_of new who ≡ floats_of old who
 
 -- what holds of memory over each trap. A byte of a page that is private to an enclave before it
--- and after it stays, and so does a byte of the monitor's pages. Where an enclave is no more, each
--- byte of its private pages is zero, and every other byte stays; where none is gone, every byte
--- stays. An enclave that is new has the digest of its private pages as they are in memory at that
--- moment
+-- and after it stays. Where an enclave is no more, each byte of its private pages is zero, and
+-- every other byte of memory stays. Where none is gone every byte of memory stays. An enclave that
+-- is new has the digest of its private pages as they are in memory at that moment
 pub record KeepsMemory (old new : Board) : Type 0 where
   pub private : (id byte : ℕ) (e f : Enclave) → IsPrivateByte old id e byte
       → IsPrivateByte new id f byte → new.memory byte ≡ old.memory byte
-  pub monitor : (byte : ℕ) → IsMonitorByte old byte → new.memory byte ≡ old.memory byte
   pub zeroes : (id : ℕ) (gone : IsGone old.monitor new.monitor id) (byte : ℕ)
-      → new.memory byte ≡ (if is_private gone.0.parts (byte / 4096) then 0 else old.memory byte)
-  pub stays : ((id : ℕ) → IsGone old.monitor new.monitor id → ⊥) → (byte : ℕ)
-      → new.memory byte ≡ old.memory byte
+      → is_private gone.0.parts (byte / 4096) ≡ true → new.memory byte ≡ 0
+  pub keeps : (id : ℕ) (gone : IsGone old.monitor new.monitor id) → HasMemory new
+      (λ byte. if is_private gone.0.parts (byte / 4096) then 0 else old.memory byte)
+  pub stays : ((id : ℕ) → IsGone old.monitor new.monitor id → ⊥) → HasMemory new old.memory
   pub digest : (id : ℕ) (e : Enclave) → enclave_at old.monitor.table.enclaves id ≡ None
       → Live new.monitor.table id e → e.digest ≡ measured_in old.memory e.parts
 
--- what holds of register sets over each trap. The world that trapped is left with the registers
+-- what holds of integer registers over each trap. The world that trapped is left with the registers
 -- that it had, if that was no exit: after a call the program counter is past it, and a0 and a1 may
--- be an answer. Each other set is as it was, but for that of one who comes in, comes back or ends
+-- be an answer. Each other set is as it was, but for that of one who comes in, comes back or ends.
+-- The world that goes on has its set, and each other hart the registers that it had
 pub record KeepsSets (old : Board) (trap : Trap) (new : Board) : Type 0 where
   pub registers : KeepsRegisters (saved old trap) trap.hart new.monitor
   pub came :
       ((id : ℕ) → runner_on old.monitor trap.hart ≡ EnclaveOf id
       → HasExited old.monitor new.monitor id → ⊥)
-      → AreThose trap.event trap.registers (new.monitor.registers (runner_on old.monitor trap.hart))
+      → AreThose trap.event (old.running trap.hart)
+      (new.monitor.registers (runner_on old.monitor trap.hart))
+  pub resumes : new.running trap.hart
+      ≡ new.monitor.registers (runner_on new.monitor trap.hart)
+  pub others : (other : ℕ) → other ≢ trap.hart → new.running other ≡ old.running other
 
 -- what holds of control words over each trap. Each host has those that it had: one that goes on,
 -- one that waits, and one that comes back after an enclave. An enclave that its host enters has its
@@ -135,51 +152,63 @@ pub record KeepsControl (old : Board) (trap : Trap) (new : Board) : Type 0 where
   pub hosts : (hart : ℕ) → host_control new hart ≡ host_control old hart
   pub enters : (id : ℕ) → old.monitor.worlds trap.hart ≡ Host
       → new.monitor.worlds trap.hart ≡ InEnclave id
-      → new.control trap.hart ≡ enclave_words (framed (old.control trap.hart))
+      → new.control trap.hart
+      ≡ held (old.csrs trap.hart) (enclave_words (framed (old.control trap.hart)))
   pub stays : (hart : ℕ) → new.monitor.worlds hart ≡ old.monitor.worlds hart
       → new.control hart ≡ old.control hart
 
--- what holds of an event. A write of control words changes nobody's registers of floating point
+-- what holds of an event. Where a hart serves a trap without the loop, an enclave goes on with all
+-- of its registers
 abbrev pub Keeps : BoardEvent → Board → Board → Type 0
 Keeps (access hart a value said) old new = KeepsAccess old hart a said new
-Keeps (computed hart floats) old new = KeepsOtherFloats old hart floats new
-Keeps (wrote hart words) old new = (who : Runner) → floats_of new who ≡ floats_of old who
+Keeps (computed hart file floats) old new = LeavesOthers old hart new
+    × HasRegisters new hart file floats
+Keeps (wrote hart words) old new = LeavesOthers old hart new
+    × HasRegisters new hart (old.running hart) (floats_of old (runner_on old.monitor hart))
+Keeps (aside hart on) old new = LeavesOthers old hart new
+    × HasRegisters new hart (gone_on on (old.running hart))
+    (floats_of old (runner_on old.monitor hart))
+    × (old.monitor.worlds hart ≢ Host → new.running hart ≡ old.running hart)
+Keeps (parks hart) old new = LeavesOthers old hart new
+Keeps (starts hart file words) old new = LeavesOthers old hart new
+    × HasRegisters new hart file no_floats
 Keeps (trapped trap frame read question answered) old new = KeepsMemory old new
     × KeepsFloats old new × KeepsSets old trap new × KeepsControl old trap new
 
 -- so it is for each event of a run
 abbrev pub EachKeeps : {layout : PlatformLayout} {opened : List ℕ} {events : List BoardEvent}
     {board : Board} → BoardRun layout opened events board → Type 0
-EachKeeps (booted memory floats kept control hosts) = ⊤
+EachKeeps (booted board begins) = ⊤
 EachKeeps (happened {old = old} {new = new} run event happens) = EachKeeps run × Keeps event old new
 
--- what was read in the traps of a run: their frames, and their pages
+-- what an event reads: the frame of a trap that the loop serves, and its pages
+abbrev pub read_in : BoardEvent → List ℕ
+read_in (trapped trap frame read question answered) = frame ++ read
+read_in _ = []
+
+-- what it writes: the answer, and the question for pages
+abbrev pub written_in : BoardEvent → List ℕ
+written_in (trapped trap frame read question answered) = answered ++ question
+written_in _ = []
+
+-- what was read in a run
 abbrev pub read_on : {layout : PlatformLayout} {opened : List ℕ} {events : List BoardEvent}
     {board : Board} → BoardRun layout opened events board → List ℕ
-read_on (booted memory floats kept control hosts) = []
-read_on (happened run (access hart a value said) does) = read_on run
-read_on (happened run (computed hart floats) does) = read_on run
-read_on (happened run (wrote hart words) does) = read_on run
-read_on (happened run (trapped trap frame read question answered) does) =
-    read_on run ++ (frame ++ read)
+read_on (booted board begins) = []
+read_on (happened run event happens) = read_on run ++ read_in event
 
--- what was written in them: the answers, and the questions for pages
+-- what was written in it
 abbrev pub written_on : {layout : PlatformLayout} {opened : List ℕ} {events : List BoardEvent}
     {board : Board} → BoardRun layout opened events board → List ℕ
-written_on (booted memory floats kept control hosts) = []
-written_on (happened run (access hart a value said) does) = written_on run
-written_on (happened run (computed hart floats) does) = written_on run
-written_on (happened run (wrote hart words) does) = written_on run
-written_on (happened run (trapped trap frame read question answered) does) =
-    written_on run ++ (answered ++ question)
+written_on (booted board begins) = []
+written_on (happened run event happens) = written_on run ++ written_in event
 
--- the traps are a run of the loop, which read and wrote these bytes, and each world's list is kept,
--- and loaded on each hart, as its answers say
+-- the traps are a run of the loop, which read and wrote these bytes, and each world's list is kept
+-- as its answers say
 pub record IsServed (layout : PlatformLayout) (opened read written : List ℕ) (board : Board) :
     Type 0 where
   pub served : ServesTraps (opening_monitor layout) read written board.monitor
   pub keeps : (world : ℕ) → board.lists world ≡ list_last opened served world
-  pub loads : (hart : ℕ) → board.loaded hart ≡ loaded_last opened served hart
 
 -- an enclave that was not entered yet has the digest of its private pages as they are in memory.
 -- So it has when it is entered
@@ -188,34 +217,37 @@ AreMeasured board = (id : ℕ) (e : Enclave) → Live board.monitor.table id e �
     → e.digest ≡ measured_in board.memory e.parts
 
 -- a hart on which an enclave runs has an enclave's control words, by two of those that it keeps for
--- its host, but for status: the enclave runs in user mode
+-- its host and as far as it can hold them, but for status; and they confine the enclave
 abbrev pub HaveOwnControl : Board → Type 0
 HaveOwnControl board = (hart id : ℕ) → board.monitor.worlds hart ≡ InEnclave id
-    → (board.control hart ≡ record (enclave_words (framed (board.hosts hart))) {
+    → (board.control hart
+    ≡ record (held (board.csrs hart) (enclave_words (framed (board.hosts hart)))) {
       status = (board.control hart).status;
     })
-    × ((board.control hart).mode ≡ 0)
+    × Confines (board.control hart)
 
--- the control words of a host after an event: where it wrote some itself, these
+-- the control words of a host after an event: where it wrote some itself, these, and where its hart
+-- was started, those with which it began
 abbrev pub control_by : BoardEvent → Board → ℕ → ControlWords → ControlWords
 control_by (wrote at words) old hart had =
     if hart == at && is_host (old.monitor.worlds at) then words else had
+control_by (starts at file words) old hart had = if hart == at then words else had
 control_by _ old hart had = had
 
--- those that the host of a hart wrote last; before it wrote any, those with which its hart began
+-- those that the host of a hart wrote last, or with which its hart began since
 abbrev pub wrote_last : {layout : PlatformLayout} {opened : List ℕ} {events : List BoardEvent}
     {board : Board} → BoardRun layout opened events board → ℕ → ControlWords
-wrote_last (booted memory floats kept control hosts) hart = control hart
+wrote_last (booted board begins) hart = board.control hart
 wrote_last (happened {old = old} run event happens) hart =
     control_by event old hart (wrote_last run hart)
 
 -- after any events: the traps among them are a run of the loop, by what was read and written. The
 -- table is sound, and the platform is the one that was booted. Each hart is in the host's world or
 -- in that of an enclave that is Running, and each of these runs on just one; none is to be woken.
--- The entries that each hart has loaded mean the view of its world, by the fewest that do, and in
--- its registers of floating point it has what its world has. Each host has the control words that
--- it wrote last, and an enclave that runs those of an enclave. What was measured of an enclave is
--- what it will first run. And what each event kept
+-- The entries that each hart has loaded which is not parked mean the view of its world, by the
+-- fewest that do, and in its floating-point registers it has what its world has. Each host has the
+-- control words that it wrote last, and an enclave that runs those of an enclave. What was measured
+-- of an enclave is what it will first run. And what each event kept
 pub record BoardHeadline (layout : PlatformLayout) (opened : List ℕ) (events : List BoardEvent)
     (board : Board) (run : BoardRun layout opened events board) : Type 0 where
   pub served : IsServed layout opened (read_on run) (written_on run) board
@@ -223,12 +255,13 @@ pub record BoardHeadline (layout : PlatformLayout) (opened : List ℕ) (events :
   pub platform : board.monitor.table.layout ≡ layout
   pub worlds : ArePlaced board.monitor
   pub awake : AreAwake board.monitor
-  pub banks : (hart : ℕ) → hart < layout.harts
+  pub banks : (hart : ℕ) → hart < layout.harts → board.parked hart ≡ false
       → HasFewest (board.loaded hart) layout.limit
       (current_view board.monitor.table (board.monitor.worlds hart))
   pub floats : (hart : ℕ) → hart < layout.harts
       → board.floats hart ≡ floats_of board (runner_on board.monitor hart)
   pub hosts : (hart : ℕ) → host_control board hart ≡ wrote_last run hart
+  pub legal : (hart : ℕ) → CanHold (board.csrs hart) (host_control board hart)
   pub control : HaveOwnControl board
   pub measured : AreMeasured board
   pub each : EachKeeps run

@@ -1,4 +1,6 @@
+pub mod Answers
 pub mod Board
 pub mod Headline
+pub mod Held
 pub mod Model
 pub mod Stays

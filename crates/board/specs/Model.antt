@@ -18,7 +18,7 @@ use Rattle.trap_server.specs.Words.{word_at}
 use Rattle.trap_server.specs.declared.trap.Trap.{Trap}
 use Rattle.trap_server.specs.declared.trap.TrapEvent.{TrapEvent}
 use Rattle.trap_server.specs.declared.trap.TrapEvent.TheVariants as trap_events
-use Rattle.board.specs.Board.{Board, BoardEvent, BoardRun, access, trapped}
+use Rattle.board.specs.Board.{Board, BoardEvent, BoardRun, access, computed, no_floats, trapped}
 
 -- a board is as a state of the model: the same table, the same world on each hart, the same byte at
 -- each address, and the same registers of each world that waits. Those of a world that runs are
@@ -40,7 +40,8 @@ SaysReply answered (replies.Irq world used) = (word_at answered 2 ≡ world % 2 
     × (word_at answered 5 ≡ used % 2 ^ 64)
 SaysReply answered _ = ⊥
 
--- one trap on a hart, of this kind, with registers of which that holds; its answer says the reply
+-- one trap on a hart, of this kind, after a computation that left registers of which that holds;
+-- its answer says the reply
 pub record IsOneTrap (kind : TrapEvent) (hart : ℕ) (Came : RegisterFile → Type 0) (reply : Reply)
     (seen : List BoardEvent) : Type 0 where
   pub trap : Trap
@@ -52,11 +53,13 @@ pub record IsOneTrap (kind : TrapEvent) (hart : ℕ) (Came : RegisterFile → Ty
   pub hart_is : trap.hart ≡ hart
   pub came : Came trap.registers
   pub says : SaysReply answered reply
-  pub one : seen ≡ trapped trap frame read question answered ∷ []
+  pub one : seen ≡ computed hart trap.registers no_floats
+      ∷ (trapped trap frame read question answered ∷ [])
 
 -- what a board sees of an event of the model: an access, with what was said of it, or none where a
--- store wanted memory; no event where a register is set; a trap for a call, with the registers with
--- which the model's goes on past it; and a trap for an interrupt, with those of who runs
+-- store wanted memory; no event where a register is set; a trap for a call, after the registers
+-- with which the model's goes on past it were computed; and a trap for an interrupt, after those of
+-- the world that runs were
 abbrev pub IsSeen : Event → MachineState → ℕ → Reply → List BoardEvent → Type 0
 IsSeen (events.Access a value) s hart (replies.Fault cause) seen =
     seen ≡ access hart a value (Err cause) ∷ []

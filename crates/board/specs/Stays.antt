@@ -7,19 +7,17 @@ use Rattle.enclave_table.specs.declared.enclave.Enclave.{Enclave}
 use Rattle.enclave_table.specs.declared.enclave.Stage.TheVariants.{Fresh}
 use Rattle.trap_server.specs.Boot.{IsFirstAnswer}
 use Rattle.trap_server.specs.declared.trap.Trap.{Trap}
-use Rattle.board.specs.Board.{Board, BoardEvent, BoardRun, DoesTrap, HappensOn}
-use Rattle.board.specs.Board.{access, computed, trapped, wrote}
+use Rattle.board.specs.Board.{Board, BoardEvent, BoardRun, DoesTrap, HappensOn, trapped}
+use Rattle.board.specs.Held.{CanConfine}
 use Rattle.board.specs.Headline.{IsPrivateByte}
 
--- an access, a computation or a write of control words
+-- any event but a trap that the loop serves
 abbrev pub IsNoTrap : BoardEvent → Type 0
-IsNoTrap (access hart a value said) = ⊤
-IsNoTrap (computed hart floats) = ⊤
-IsNoTrap (wrote hart words) = ⊤
 IsNoTrap (trapped trap frame read question answered) = ⊥
+IsNoTrap _ = ⊤
 
--- the worlds of a board run on, with no trap: accesses, computations and writes of control words,
--- one after another, on any harts
+-- the worlds of a board run on, with no trap of the loop: such events, one after another, on any
+-- harts
 pub data RunsOn (old : Board) : Board → Type 0 where
   begins : RunsOn old old
   goes_on : {mid new : Board} → RunsOn old mid → (event : BoardEvent) → IsNoTrap event
@@ -35,6 +33,7 @@ abbrev pub FreshPagesStay : Type 0
 FreshPagesStay =
     (layout : PlatformLayout) (opened : List ℕ) (events : List BoardEvent) (old new : Board)
     → BoardRun layout opened events old → IsLayout layout → IsFirstAnswer layout opened
+    → ((hart : ℕ) → CanConfine (old.csrs hart))
     → RunsOn old new → KeepsFreshPages old new
 
 -- where a trap makes an enclave, after any events, its pages stay over that trap and until the next
@@ -43,6 +42,7 @@ NewPagesStay =
     (layout : PlatformLayout) (opened : List ℕ) (events : List BoardEvent) (old mid new : Board)
     (trap : Trap) (frame read question answered : List ℕ)
     → BoardRun layout opened events old → IsLayout layout → IsFirstAnswer layout opened
+    → ((hart : ℕ) → CanConfine (old.csrs hart))
     → DoesTrap old trap frame read question answered mid → RunsOn mid new
     → (id byte : ℕ) (e : Enclave) → enclave_at old.monitor.table.enclaves id ≡ None
     → Live mid.monitor.table id e → is_private e.parts (byte / 4096) ≡ true

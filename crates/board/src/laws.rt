@@ -3,30 +3,40 @@
 ghost use Rattle.std.specs.Prelude.{ℕ, List};
 ghost use Rattle.platforms.specs.Platform.{IsLayout, PlatformLayout};
 ghost use Rattle.trap_server.specs.Boot.{IsFirstAnswer};
+ghost use Rattle.board.specs.Answers.{AnswersWell};
 ghost use Rattle.board.specs.Board.{Board, BoardEvent, BoardRun};
 ghost use Rattle.board.specs.Headline.{BoardHeadline};
+ghost use Rattle.board.specs.Held.{CanConfine};
 ghost use Rattle.board.specs.Model.{ModelRunsOnBoard};
 ghost use Rattle.board.specs.Stays.{FreshPagesStay, NewPagesStay};
 
 use hart_sim::step_law;
 use trap_server::firmware_law;
 
-/// After any events on a board, from boot on with any memory and on every platform that keeps its rules: the traps among
-/// them are a run of the loop, so `firmware_law` holds of them. The entries that each hart has loaded mean the view of its
-/// world, by the fewest that do. Each access was allowed exactly as that view allows it. Private pages were read by nobody
-/// but their enclave, and their bytes changed by its own stores alone; nobody reached the monitor's pages. The private
-/// pages of an enclave that was destroyed were zero after that trap, and no other byte changed in any. An enclave that was
-/// created has the digest of its private pages as they were in memory, and as they are until it is entered. Each host and
-/// each enclave finds in registers of floating point what it left there, on whichever hart it goes on, and an enclave that
-/// was created finds zeros. Over each trap the set of integer registers of who waits stays, the world that trapped is left
-/// with those that it had, past its call and with its answer, and who goes on has its own: the host but for a0 and a1, and
-/// an enclave at first zeros but its number and where it begins. Each host has the control words that it wrote last,
-/// whatever ran on its hart meanwhile, and an enclave runs in user mode with words of its own, which two of its host's
-/// decide.
+/// After any events on a board, from boot on with any memory, on every platform that keeps its rules, and on harts that can
+/// confine an enclave: the traps among them are a run of the loop, so `firmware_law` holds of them.
+///
+/// - The entries that each hart has loaded mean the view of its world, by the fewest that do, and each access was allowed
+///   exactly as that view allows it. No world reached the monitor's pages. Private pages were read by their enclave alone, and
+///   their bytes changed by its own stores alone.
+/// - Memory is RAM outside the monitor's pages. The private pages of an enclave that was destroyed were zero after that trap,
+///   and no other byte of memory changed in any. An enclave that was created has the digest of its private pages as they were
+///   in memory, and as they are until it is entered.
+/// - Over each trap that the loop serves, the set of integer registers of each world that waits stays, the world that trapped
+///   is left with those that it had, past its call and with its answer, and the world that goes on has its own: the host but
+///   for a0 and a1, and an enclave at first zeros but its number and where it begins. Over each other trap a host may get an
+///   answer in a0 and a1 or go on in its handler, and an enclave goes on with all of its registers.
+/// - Each host and each enclave finds in floating-point registers what it left there, on whichever hart it goes on. An enclave
+///   that was created finds zeros, and a host whose hart was started. An enclave that exited or was destroyed leaves zeros in
+///   its set and in these.
+/// - Each host has the control words that it wrote last, whatever ran on its hart meanwhile. An enclave has words of its own,
+///   which two of its host's decide, as far as the hart can hold them: with them it runs in user mode, with no table of pages,
+///   and no exception and no interrupt of it goes to its host.
 pub fn board_law()
     ensures { (layout : PlatformLayout) (opened : List ℕ) (events : List BoardEvent)
         (board : Board) (run : BoardRun layout opened events board)
         → IsLayout layout → IsFirstAnswer layout opened
+        → ((hart : ℕ) → CanConfine (board.csrs hart))
         → BoardHeadline layout opened events board run }
 {
     firmware_law();
@@ -34,9 +44,9 @@ pub fn board_law()
 }
 
 /// Each run of the model, from the opening state of a platform on, is a run of a board: each access that the model allows
-/// or denies is one of the board that is allowed or denied, each call and each interrupt is a trap with the same
-/// registers, whose answer says what the model replies, and at the end the table, the worlds, memory and the registers
-/// of the worlds that wait are the same. So what [`board_law`] says of every board holds of the model.
+/// or denies is one of the board that is allowed or denied, each call and each interrupt is a computation that leaves the
+/// same registers and then a trap, whose answer says what the model replies, and at the end the table, the worlds, memory
+/// and the registers of the worlds that wait are the same. So what [`board_law`] says of every board holds of the model.
 pub fn model_law()
     ensures { ModelRunsOnBoard }
 {
@@ -52,4 +62,13 @@ pub fn pages_law()
     ensures made { NewPagesStay }
 {
     board_law();
+}
+
+/// What the code around the loop relies on in the bytes of each answer, after any traps that were served: its size, the hart,
+/// the world, the number of entries, an enclave's id, and the kinds of changes are in their bounds. Where an answer has no
+/// list of entries, no page is to be made zero and no hart is woken. It has control words where a host enters an enclave.
+pub fn answers_law()
+    ensures { AnswersWell }
+{
+    firmware_law();
 }

@@ -1,3 +1,5 @@
+pub mod Fences
+pub mod Harts
 pub mod Life
 pub mod Served
 pub mod BootList

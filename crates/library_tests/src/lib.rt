@@ -21,7 +21,9 @@ mod cuts;
 mod digests;
 #[cfg(test)]
 mod failing_runs;
+mod fences;
 mod firmware;
+mod harts;
 mod headline;
 mod laws;
 #[cfg(test)]
@@ -61,6 +63,8 @@ mod trees;
 #[cfg(test)]
 mod two_harts;
 
+pub use fences::{fence_on_board, served_anyhow};
 pub use firmware::{destroyed_on_board, serve_life};
+pub use harts::{each_is_needed, qemu_confines};
 pub use headline::{life, runs_on};
 pub use laws::{boot_row, checked_plan, worked_rows};

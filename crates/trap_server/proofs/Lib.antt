@@ -11,7 +11,7 @@ mod Filling
 mod Past
 mod Read
 mod Traps
-mod LoadedBytes
+pub mod LoadedBytes
 pub mod Said
 mod RegistersCame
 mod WorldsStay
@@ -19,4 +19,4 @@ pub mod ListsKept
 mod ListsPut
 mod FramesTold
 mod TrapsKept
-mod Firmware
+pub mod Firmware

@@ -29,7 +29,7 @@ few_words None = lit< tt
 few_words (Some words) = lit< tt
 
 -- lists are as long as their number says
-lists_length : (table : EnclaveTable) (id : ℕ) (new : NewLists) (are : List (List Entry)) → AreLists table id new are
+pub lists_length : (table : EnclaveTable) (id : ℕ) (new : NewLists) (are : List (List Entry)) → AreLists table id new are
     → length (lists_bytes are) ≡ 8 * (73 * list_count new)
 lists_length table id lists.Nothing are l = ap (λ (x : List (List Entry)). length (lists_bytes x)) l
 lists_length table id lists.Host are l =
@@ -61,7 +61,7 @@ module _ (s : MonitorState) (given : Option ControlWords) (hart : ℕ) (answer :
   pub says_count : word_at bytes 9 ≡ list_count new
   says_count = ap (λ b. word_at b 9) put_all ∙ count_back head changes ends (few_lists new)
 
-  says_control_count : word_at bytes 10 ≡ control_count given
+  pub says_control_count : word_at bytes 10 ≡ control_count given
   says_control_count = ap (λ b. word_at b 10) put_all ∙ control_count_back head changes ends (few_words given)
 
   -- what becomes of register sets
