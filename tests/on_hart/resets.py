@@ -1,4 +1,6 @@
 """What is left of an enclave's secret after each end of the board: what tests/on_hart/run.py tries of firmware/reset.c."""
+import os
+import re
 import subprocess
 from concurrent.futures import ThreadPoolExecutor
 
@@ -49,9 +51,90 @@ def fatal(image, payload, harts, function, offset):
         return right, f"{board.said!r} {board.word(SECRET_AT):#x}"
 
 
-def resets(images, payloads, told):
-    """`images` and `payloads` are of one hart and of two."""
-    rows = []
+def is_left(memory, number):
+    """Whether the secret, or one of the numbers of secrets_enclave.S, is anywhere in memory."""
+    return number.to_bytes(8, "little") in memory
+
+
+def registers(image, payload, kind):
+    """An enclave has exited (1) or is destroyed (2), or the host ends the board (4), and none of its registers is left in memory."""
+    with Wired(image, payload, 1, kind=kind) as board:
+        ended = board.has_ended() if kind == 4 else board.until("it waits\n")
+        said = "run 0\nit waits\n" if kind == 1 else "run 1\ndestroy 0\nit waits\n" if kind == 2 else "run 1\n"
+        memory = board.memory()
+        left = [number for number in range(96) if is_left(memory, 0x5EC2E75EC2E70000 + number)]
+        return ended and board.said == said and not left, f"{board.said!r} {left}"
+
+
+def all_slots(image, payload):
+    """The reset button, while each of 64 enclaves that lie side by side has a secret."""
+    with Wired(image, payload, 1) as board:
+        begun = board.until("it waits\n")
+        count = board.memory()[0x5000000:].count(SECRET.to_bytes(8, "little"))
+        board.asked("system_reset")
+        right = begun and count == 64 and board.has_ended() and board.said == "it waits\nafter it\n" and not is_left(board.memory(), SECRET)
+        return right, f"{board.said!r} {count}"
+
+
+def absent_memory(image, payload):
+    """The list of private pages names memory that the board has not: a fault there leaves no other page as it is, and is not met again."""
+    first, count = 0x90000, 2
+    with Wired(image, payload, 1) as board:
+        begun = board.until("it waits\n")
+        words = (first, count, first ^ count << 32 ^ 0x70726976617465)
+        board.written(symbol(image, "private_ranges") + 24 * 10, b"".join(it.to_bytes(8, "little") for it in words))
+        board.written(0x85000000 + 4096 * 21, bytes(8))  # (the enclave that lost its place in the list)
+        board.asked("system_reset")
+        ended = board.has_ended()
+        memory = board.memory()
+        listed = [it for it in range(64) if memory[0x7F000 + 24 * it + 16 : 0x7F000 + 24 * it + 24] != bytes(8)]
+        right = begun and ended and board.said.startswith("it waits\nmonitor: trapped 0x0000000000000007 ") and not is_left(memory, SECRET) and not listed
+        return right, f"{board.said!r} {listed}"
+
+
+# Of trap.S, what no world's trap comes to: how a hart comes in for the first time, what follows a trap of the monitor, and a count for traces.
+NOT_MET = ("enter_as_trapped", "died", "instructions")
+
+
+def instructions_of(image):
+    """The address of each instruction of trap.S, with the name before it and its text. The first two of a trap are left out: a trap in them
+    comes to them again, on any hart."""
+    text = subprocess.run(["riscv64-unknown-elf-objdump", "-d", "--no-show-raw-insn", image], capture_output=True, text=True, check=True).stdout
+    part = text.split(" <run_world>:\n")[1].split(" <load_bank>:\n")[0]
+    name, found = "run_world", []
+    for line in part.splitlines():
+        if match := re.match(r"[0-9a-f]+ <(\w+)>:", line):
+            name = match[1]
+        elif (match := re.match(r" *([0-9a-f]+):\t(.*)", line)) and name not in NOT_MET and match[2] != "nop":
+            found.append((int(match[1], 16), name, match[2]))
+    first = next(i for i, it in enumerate(found) if it[1] == "trap")
+    return found[:first] + found[first + 2 :]
+
+
+def injected(image, payload, address):
+    """The monitor traps at an instruction while four harts take every way through it."""
+    with Wired(image, payload, 4) as board:
+        begun = board.until("it waits\n")
+        board.written(address, bytes(2))
+        right = begun and board.has_ended() and "\nmonitor: trapped 0x0000000000000002 " in board.said and not is_left(board.memory(), SECRET)
+        return right, f"{board.said!r}"
+
+
+def each_instruction(image, payload, told):
+    """Each instruction of trap.S, or one of EVERY (1: all; 8 if it is not given)."""
+    every = int(os.environ.get("EVERY", "8"))
+    always = ("drawn", "take_monitor", "wait_for_call", "wake_called")
+    found = [it for i, it in enumerate(instructions_of(image)) if i % every == 0 or it[1] in always or it[2].startswith(("fence", "jal", "csrrw"))]
+    with ThreadPoolExecutor(max_workers=2) as boards:
+        done = list(boards.map(lambda it: injected(image, payload, it[0]), found))
+    wrong = [f"{it[1]}: {it[2]}: {why}" for it, (right, why) in zip(found, done) if not right]
+    told(f"a fatal end at each of {len(found)} instructions of trap.S, which four harts execute: nothing of an enclave is left", found and not wrong, "; ".join(wrong[:3]))
+
+
+def resets(images, payloads, wide, secrets, slots, told):
+    """`images` and `payloads` are of one hart and of two, and `wide` is of more memory than the board has."""
+    rows = [(f"the registers of an enclave {what}", registers, (images[0], secrets, kind)) for kind, what in ((1, "that exits"), (2, "that is destroyed"), (4, "when the host ends the board"))]
+    rows += [("the reset button, 64 enclaves", all_slots, (images[0], slots)), ("a list that names absent memory, after the button", absent_memory, (wide, slots))]
     for harts, image, payload in zip((1, 2), images, payloads):
         rows += [(f"a cold reboot, {harts} harts", asked_for, (image, payload, harts, COLD)), (f"the board is switched off, {harts} harts", off, (image, payload, harts))]
         rows += [(f"the reset button, {harts} harts", button, (image, payload, harts))]

@@ -26,10 +26,11 @@ class Wired:
 
     def __enter__(self):
         end = time.monotonic() + 30
+        self.qmp = socket.socket(socket.AF_UNIX)
+        while self.qmp.connect_ex(str(self.place / "qmp")) and time.monotonic() < end:
+            time.sleep(0.02)
         while not (self.place / "gdb").exists() and time.monotonic() < end:
             time.sleep(0.02)
-        self.qmp = socket.socket(socket.AF_UNIX)
-        self.qmp.connect(str(self.place / "qmp"))
         self.lines = self.qmp.makefile("r")
         self.lines.readline()
         self.asked("qmp_capabilities")
@@ -50,6 +51,10 @@ class Wired:
             if "event" not in answer:
                 return answer.get("return")
 
+    def memory(self):
+        """All of memory, which is there after the board's end too."""
+        return (self.place / "memory").read_bytes()
+
     def word(self, address):
         """A word of memory, which is there after the board's end too."""
         with (self.place / "memory").open("rb") as memory:
@@ -58,16 +63,8 @@ class Wired:
 
     def written(self, address, data):
         """A debugger writes bytes into memory, and the board goes on."""
-        with socket.socket(socket.AF_UNIX) as wire:
-            wire.connect(str(self.place / "gdb"))
-            wire.settimeout(10)
-            for packet in ("?", "Qqemu.PhyMemMode:1", f"M{address:x},{len(data):x}:{data.hex()}", "D"):
-                wire.sendall(b"$%s#%02x" % (packet.encode(), sum(packet.encode()) % 256))
-                answer = b""
-                while b"#" not in answer and (some := wire.recv(4096)):
-                    answer += some
-                if packet != "D":  # after it the board may have ended
-                    wire.sendall(b"+")
+        with Debugger(self.place / "gdb") as debugger:
+            debugger.write(address, data)
 
     def until(self, text, seconds=60):
         """Whether a text is said in time."""
@@ -87,3 +84,68 @@ class Wired:
             return self.process.wait(5) is not None
         except subprocess.TimeoutExpired:
             return False
+
+
+class Debugger:
+    """What gdb says to QEMU: memory is looked at and written at physical addresses, and harts go on or stand still. The board stands still
+    from the first word on, and goes on at the end."""
+
+    def __init__(self, path):
+        self.wire = socket.socket(socket.AF_UNIX)
+        self.wire.connect(str(path))
+        self.wire.settimeout(60)
+
+    def __enter__(self):
+        self.packet("?")
+        self.packet("Qqemu.PhyMemMode:1")
+        return self
+
+    def __exit__(self, *_):
+        self.send("D")
+        self.wire.close()
+
+    def send(self, text):
+        self.wire.sendall(b"$%s#%02x" % (text.encode(), sum(text.encode()) % 256))
+
+    def reply(self):
+        """The next packet, which is acknowledged."""
+        answer = b""
+        while not (answer[-3:-2] == b"#" and b"$" in answer):
+            some = self.wire.recv(1)
+            if not some:
+                return ""
+            answer += some
+        self.wire.sendall(b"+")
+        return answer[answer.index(b"$") + 1 : -3].decode("latin-1")
+
+    def packet(self, text):
+        self.send(text)
+        return self.reply()
+
+    def write(self, address, data):
+        self.packet(f"M{address:x},{len(data):x}:{data.hex()}")
+
+    def word(self, address):
+        return int.from_bytes(bytes.fromhex(self.packet(f"m{address:x},8")), "little")
+
+    def stops_at(self, address):
+        """A breakpoint."""
+        self.packet(f"Z1,{address:x},4")
+
+    def stops_no_more_at(self, address):
+        self.packet(f"z1,{address:x},4")
+
+    def watches(self, address):
+        """The board stops before a word is written."""
+        self.packet(f"Z2,{address:x},8")
+
+    def waits(self):
+        """The board goes on until it stops by itself."""
+        return self.packet("vCont;c")
+
+    def goes_on(self, seconds, *harts):
+        """Some harts go on for a time, while the others stand still."""
+        self.send("vCont;" + ";".join(f"c:{hart + 1:x}" for hart in harts))
+        time.sleep(seconds)
+        self.wire.sendall(b"\x03")
+        return self.reply()
