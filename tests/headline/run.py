@@ -101,7 +101,8 @@ There are three, over one monitor (`monitor_core`), which the model and the firm
    (`DoesStart`). A control register holds what was written as far as its bits can be written (`held`); `CanConfine` lists the bits that
    must be able to be zero, and why. QEMU's hart is an instance (`crates/library_tests`). Between traps a host may write any control
    word, and an enclave, in user mode, only its status (`MayWrite`). Other harts keep running while the pages of a new enclave are read:
-   until the next trap no world can change them (`pages_law`). `answers_law` bounds the words of each answer.
+   until the next trap no world can change them (`pages_law`). A board whose traps take time, with other harts running between the change
+   of lists and the answer, has the same runs (`time_law`). `answers_law` bounds the words of each answer.
 
 The first and the third agree: each run of the model is a run of a board (`model_law`, part 8), access by access and call by call, with the same
 table, worlds, memory and registers at the end. What part 7 says about every board therefore holds for the model.
@@ -117,7 +118,7 @@ The theorems do not cover:
 - the build for RV64, a retargeted build of a proved module, which is tested on QEMU;
 - devices whose bytes are unknown, as explained above;
 - anything else that a real hart does: caches, side channels, devices that access memory by themselves, time. `SECURITY.md` lists what
-  else no board has, and that a trap, which takes time, is one event of a board.
+  else no board has.
 
 ## The parts
 

@@ -28,3 +28,4 @@ mod ModelTraps
 mod Modelled
 mod Stayed
 mod Answered
+mod Timed

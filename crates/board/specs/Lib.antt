@@ -4,3 +4,4 @@ pub mod Headline
 pub mod Held
 pub mod Model
 pub mod Stays
+pub mod Timed

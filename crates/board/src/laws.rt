@@ -9,6 +9,7 @@ ghost use Rattle.board.specs.Headline.{BoardHeadline};
 ghost use Rattle.board.specs.Held.{CanConfine};
 ghost use Rattle.board.specs.Model.{ModelRunsOnBoard};
 ghost use Rattle.board.specs.Stays.{FreshPagesStay, NewPagesStay};
+ghost use Rattle.board.specs.Timed.{TimeIsUnseen};
 
 use hart_sim::step_law;
 use trap_server::firmware_law;
@@ -70,5 +71,16 @@ pub fn pages_law()
 pub fn answers_law()
     ensures { AnswersWell }
 {
+    firmware_law();
+}
+
+/// A board whose traps take time: the hart that traps holds the lock, its lists change in a first step, it is answered in a
+/// last one, and in between other harts make accesses, compute, write control words and serve traps without the loop. Each
+/// run of it has the same events, accesses and verdicts as a run of a board whose traps take none, of which [`board_law`]
+/// holds.
+pub fn time_law()
+    ensures { TimeIsUnseen }
+{
+    board_law();
     firmware_law();
 }

@@ -25,4 +25,4 @@
 
 mod laws;
 
-pub use laws::{answers_law, board_law, model_law, pages_law};
+pub use laws::{answers_law, board_law, model_law, pages_law, time_law};
