@@ -22,8 +22,8 @@ use Rattle.trap_server.specs.Runs.{ServesTraps, next_trap, no_trap}
 use Rattle.trap_server.specs.Sets.{with_sets}
 use Rattle.trap_server.specs.Words.{word_at}
 use Rattle.trap_server.proofs.Firmware.{next_bank}
-use Rattle.board.specs.Board.{Board, BoardEvent, BoardRun, DoesTrap, HappensOn, IsBooted, access, aside, booted, computed, happened, parks, saved, starts}
-use Rattle.board.specs.Board.{trapped, wrote}
+use Rattle.board.specs.Board.{Board, BoardEvent, BoardRun, HappensOn, IsBooted, access, aside, booted, computed, happened, parks, saved, starts}
+use Rattle.board.specs.Board.{TrapDuties, trapped, wrote}
 use Rattle.board.specs.Headline.{AreMeasured, BoardHeadline, EachKeeps, HaveOwnControl, IsServed, Keeps, LeavesOthers}
 use Rattle.board.specs.Headline.{control_by, host_control, read_on, written_on, wrote_last}
 use Rattle.board.specs.Held.{CanConfine, CanHold}
@@ -49,7 +49,7 @@ FirmwareHolds =
     → IsLayout layout → IsFirstAnswer layout opened → FirmwareHeadline layout opened read written s served
 
 -- lists that were the same are so after an answer, and what a hart has loaded
-same_after :
+pub same_after :
     (answered : List ℕ) (a b : ℕ → List ℕ) → ((world : ℕ) → a world ≡ b world) → (world : ℕ) → list_after answered a world ≡ list_after answered b world
 same_after answered a b same zero = ap (λ bytes. if nat_lt 0 (word_at answered 9) then drop 184 answered else bytes) (same 0)
 same_after answered a b same (suc n) = ap (λ bytes. if word_at answered 9 == 2 && word_at answered 4 == suc n then drop 768 answered else bytes) (same (suc n))
@@ -137,7 +137,7 @@ module _ (law : FirmwareHolds) (steps : StepsPromise) (layout : PlatformLayout) 
   -- a trap more
   abbrev next_served :
       (came gone : List ℕ) (old : Board) (trap : Trap) (frame read question answered : List ℕ) (new : Board) → Served came gone old
-      → DoesTrap old trap frame read question answered new → Served (came ++ (frame ++ read)) (gone ++ (answered ++ question)) new
+      → TrapDuties old trap frame read question answered new → Served (came ++ (frame ++ read)) (gone ++ (answered ++ question)) new
   next_served came gone old trap frame read question answered new before x = record {
     served = next_trap before.served trap frame read question answered x.changes new.monitor x.size x.is_trap x.served;
     keeps = λ world. x.keeps world ∙ same_after answered old.lists (list_last opened before.served) before.keeps world;
@@ -150,8 +150,8 @@ module _ (law : FirmwareHolds) (steps : StepsPromise) (layout : PlatformLayout) 
       (sym (x.keeps (world_number world))) ((firmware read written board x).lists world there)
 
   -- and what each hart has loaded after a trap
-  trap_banks : (read written : List ℕ) (old new : Board) (trap : Trap) (frame more question answered : List ℕ)
-      (before : Served read written old) (x : DoesTrap old trap frame more question answered new)
+  pub trap_banks : (read written : List ℕ) (old new : Board) (trap : Trap) (frame more question answered : List ℕ)
+      (before : Served read written old) (x : TrapDuties old trap frame more question answered new)
       → KeepsTrap (saved old trap) trap x.changes more question answered new.monitor
       → FirmwareHeadline layout opened (read ++ (frame ++ more)) (written ++ (answered ++ question)) new.monitor
       (next_served read written old trap frame more question answered new before x).served
@@ -229,21 +229,22 @@ module _ (law : FirmwareHolds) (steps : StepsPromise) (layout : PlatformLayout) 
       (starts_host old hart file words new x) (λ h. starts_legal old hart file words new x h (before.legal h))
       (starts_own old hart file words new x before.control) kept
   by_event events old new run (trapped trap frame read question answered) x can before =
-      let next = next_served (read_on run) (written_on run) old trap frame read question answered new before.served x in
+      let d = x.duties in
+      let next = next_served (read_on run) (written_on run) old trap frame read question answered new before.served d in
       let f = firmware (read_on run ++ (frame ++ read)) (written_on run ++ (answered ++ question)) new next in
-      let k : KeepsTrap (saved old trap) trap x.changes read question answered new.monitor =
-      subst (λ (sets : Runner → RegisterFile). KeepsTrap (saved old trap) trap x.changes read question answered (with_sets new.monitor sets))
-      (sym x.sets) (f.each.1 (saved old trap).registers (call_there old trap)) in
+      let k : KeepsTrap (saved old trap) trap d.changes read question answered new.monitor =
+      subst (λ (sets : Runner → RegisterFile). KeepsTrap (saved old trap) trap d.changes read question answered (with_sets new.monitor sets))
+      (sym d.sets) (f.each.1 (saved old trap).registers (call_there old trap)) in
       let layouts = f.platform ∙ sym before.platform in
       let harts = ap (λ l. l.harts) layouts in
-      let kept = trap_kept old trap frame read question answered new before.table f.table layouts x k in
-      let floats = floats_kept old trap frame read question answered new harts before.table f.table before.worlds f.worlds x k in
-      let control = control_kept old trap frame read question answered new harts f.table f.worlds (can trap.hart) (before.legal trap.hart) x k in
+      let kept = trap_kept old trap frame read question answered new before.table f.table layouts d x.pages k in
+      let floats = floats_kept old trap frame read question answered new harts before.table f.table before.worlds f.worlds d k in
+      let control = control_kept old trap frame read question answered new harts f.table f.worlds (can trap.hart) (before.legal trap.hart) d k in
       headline (events ++ trapped trap frame read question answered ∷ []) new (happened run (trapped trap frame read question answered) x) next
-      (trap_banks (read_on run) (written_on run) old new trap frame read question answered before.served x k f before.banks)
+      (trap_banks (read_on run) (written_on run) old new trap frame read question answered before.served d k f before.banks)
       (λ h. control.0.hosts h ∙ before.hosts h)
-      (λ h. subst (λ cs. CanHold (cs h) (host_control new h)) (sym x.csrs) (subst (CanHold (old.csrs h)) (sym (control.0.hosts h)) (before.legal h)))
-      (control.1 before.control) (measured_trap old trap frame read question answered new before.table f.table x kept before.measured) (
+      (λ h. subst (λ cs. CanHold (cs h) (host_control new h)) (sym d.csrs) (subst (CanHold (old.csrs h)) (sym (control.0.hosts h)) (before.legal h)))
+      (control.1 before.control) (measured_trap old trap frame read question answered new before.table f.table d kept before.measured) (
         before.each,
         (
           kept,
@@ -251,9 +252,9 @@ module _ (law : FirmwareHolds) (steps : StepsPromise) (layout : PlatformLayout) 
           record {
             registers = k.registers;
             came = λ lived. subst (λ (file : RegisterFile). AreThose trap.event file (new.monitor.registers (runner_on old.monitor trap.hart)))
-                (put_there old.monitor trap.hart trap.registers ∙ x.came) (k.came lived);
-            resumes = x.running.resumes ∙ ap new.monitor.registers (next_is old trap frame read question answered new harts f.table f.worlds x k);
-            others = x.running.others;
+                (put_there old.monitor trap.hart trap.registers ∙ d.came) (k.came lived);
+            resumes = d.running.resumes ∙ ap new.monitor.registers (next_is old trap frame read question answered new harts f.table f.worlds d k);
+            others = d.running.others;
           },
           control.0,
         ),

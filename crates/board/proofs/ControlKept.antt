@@ -32,7 +32,7 @@ use Rattle.trap_server.specs.declared.trap.Trap.{Trap}
 use Rattle.trap_server.specs.declared.trap.TrapEvent.{TrapEvent}
 use Rattle.trap_server.specs.declared.trap.TrapEvent.TheVariants as traps
 use Rattle.trap_server.proofs.Said.{says_words}
-use Rattle.board.specs.Board.{Board, ChangesControl, DoesTrap, framed, runner_by, saved}
+use Rattle.board.specs.Board.{Board, ChangesControl, TrapDuties, framed, runner_by, saved}
 use Rattle.board.specs.Headline.{HaveOwnControl, KeepsControl, host_control}
 use Rattle.board.specs.Held.{CanConfine, CanHold, held}
 use Rattle.board.proofs.Confined.{confined}
@@ -206,7 +206,7 @@ module _ (old new : Board) (hart : ℕ) (host : HostWords)
 pub control_kept :
     (old : Board) (trap : Trap) (frame read question answered : List ℕ) (new : Board) → new.monitor.table.layout.harts ≡ old.monitor.table.layout.harts
     → IsTable new.monitor.table → ArePlaced new.monitor → CanConfine (old.csrs trap.hart) → CanHold (old.csrs trap.hart) (host_control old trap.hart)
-    → (x : DoesTrap old trap frame read question answered new) → KeepsTrap (saved old trap) trap x.changes read question answered new.monitor
+    → (x : TrapDuties old trap frame read question answered new) → KeepsTrap (saved old trap) trap x.changes read question answered new.monitor
     → KeepsControl old trap new × (HaveOwnControl old → HaveOwnControl new)
 control_kept old trap frame read question answered new same sound places can legal x k =
     let hart = trap.hart in

@@ -20,7 +20,7 @@ use Rattle.trap_server.specs.Service.{given_at}
 use Rattle.trap_server.specs.Words.{word_at}
 use Rattle.trap_server.specs.declared.trap.Trap.{Trap}
 use Rattle.board.proofs.Here.{call_there, served_here}
-use Rattle.board.specs.Board.{Board, ChangesFloats, DoesTrap, HasEnded, runner_by, saved}
+use Rattle.board.specs.Board.{Board, ChangesFloats, TrapDuties, HasEnded, runner_by, saved}
 use Rattle.board.specs.Headline.{KeepsFloats, floats_of}
 use Rattle.board.proofs.Floats.{ended_zero, made_zero, trap_stays}
 use Rattle.board.proofs.Named.{says, whole_is}
@@ -73,7 +73,7 @@ ended_waits old s who hart placed known ended is = by_world (s.worlds hart) (pla
 -- the answer names who goes on
 pub next_is :
     (old : Board) (trap : Trap) (frame read question answered : List ℕ) (new : Board) → new.monitor.table.layout.harts ≡ old.monitor.table.layout.harts
-    → IsTable new.monitor.table → ArePlaced new.monitor → (x : DoesTrap old trap frame read question answered new)
+    → IsTable new.monitor.table → ArePlaced new.monitor → (x : TrapDuties old trap frame read question answered new)
     → KeepsTrap (saved old trap) trap x.changes read question answered new.monitor
     → runner_by trap.hart (word_at answered 2) ≡ runner_on new.monitor trap.hart
 next_is old trap frame read question answered new same sound places x k =
@@ -89,7 +89,7 @@ next_is old trap frame read question answered new same sound places x k =
 pub floats_kept :
     (old : Board) (trap : Trap) (frame read question answered : List ℕ) (new : Board) → new.monitor.table.layout.harts ≡ old.monitor.table.layout.harts
     → IsTable old.monitor.table → IsTable new.monitor.table → ArePlaced old.monitor → ArePlaced new.monitor
-    → (x : DoesTrap old trap frame read question answered new)
+    → (x : TrapDuties old trap frame read question answered new)
     → KeepsTrap (saved old trap) trap x.changes read question answered new.monitor → KeepsFloats old new
 floats_kept old trap frame read question answered new same right sound placed places x k =
     let hart = trap.hart in

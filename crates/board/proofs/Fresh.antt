@@ -36,7 +36,7 @@ use Rattle.trap_server.specs.declared.trap.Trap.{Trap}
 use Rattle.monitor_core.specs.declared.set_changes.SetChanges.{SetChanges}
 use Rattle.trap_server.specs.Service.{ServesAs}
 use Rattle.board.proofs.Here.{served_here}
-use Rattle.board.specs.Board.{Board, DoesTrap, HasMemory, saved}
+use Rattle.board.specs.Board.{Board, TrapDuties, HasMemory, saved}
 use Rattle.board.specs.Headline.{AreMeasured, KeepsAccess, KeepsMemory}
 use Rattle.board.specs.Stays.{KeepsFreshPages}
 use Rattle.board.proofs.Made.{Absent}
@@ -164,7 +164,7 @@ kept_call call digests s hart answer pages new id e none live x other g was gone
           ]
     ]
 
-none_gone :
+pub none_gone :
     (event : TrapEvent) (s : MonitorState) (trap : Trap) (changes : SetChanges) (read question answered : List ℕ)
     (new : MonitorState) (id : ℕ) (e : Enclave)
     → Absent s.table id → Live new.table id e → ServesAs event s trap changes read question answered new
@@ -180,7 +180,7 @@ none_gone traps.Stop s trap changes read question answered new id e none live x 
     lost_irq (s.worlds trap.hart) s trap.hart x.mid other g was lost x.step
 
 -- the digest of the same bytes
-same_bytes : (memory other : ℕ → ℕ) (address count : ℕ) → ((byte : ℕ) → address ≤ byte → byte < address + count → memory byte ≡ other byte)
+pub same_bytes : (memory other : ℕ → ℕ) (address count : ℕ) → ((byte : ℕ) → address ≤ byte → byte < address + count → memory byte ≡ other byte)
     → bytes_at memory address count ≡ bytes_at other address count
 unfolding bytes_at
 same_bytes memory other address zero same = refl
@@ -238,7 +238,7 @@ measured_quiet old new sound same memory before = λ id e live fresh.
 
 -- over the trap that made an enclave
 pub stays_over_creation : (old : Board) (trap : Trap) (frame read question answered : List ℕ) (new : Board)
-    → IsTable new.monitor.table → DoesTrap old trap frame read question answered new → KeepsMemory old new → (id byte : ℕ) (e : Enclave)
+    → IsTable new.monitor.table → TrapDuties old trap frame read question answered new → KeepsMemory old new → (id byte : ℕ) (e : Enclave)
     → Absent old.monitor.table id → Live new.monitor.table id e → is_private e.parts (byte / 4096) ≡ true → new.memory byte ≡ old.memory byte
 stays_over_creation old trap frame read question answered new sound x k id byte e none live own =
     let one = served_here old trap frame read question answered new x in
@@ -247,7 +247,7 @@ stays_over_creation old trap frame read question answered new sound x k id byte 
 
 -- over a trap
 pub measured_trap : (old : Board) (trap : Trap) (frame read question answered : List ℕ) (new : Board) → IsTable old.monitor.table
-    → IsTable new.monitor.table → DoesTrap old trap frame read question answered new → KeepsMemory old new → AreMeasured old → AreMeasured new
+    → IsTable new.monitor.table → TrapDuties old trap frame read question answered new → KeepsMemory old new → AreMeasured old → AreMeasured new
 measured_trap old trap frame read question answered new right sound x k before = λ id e live fresh.
     let one = served_here old trap frame read question answered new x in
     elim (fresh_served trap.event (saved old trap) trap x.changes read question answered new.monitor id e right live fresh one) [

@@ -8,14 +8,14 @@ use Rattle.monitor_core.proofs.Put.{put_there}
 use Rattle.trap_server.specs.Service.{ServesAs}
 use Rattle.trap_server.specs.Sets.{with_sets}
 use Rattle.trap_server.specs.declared.trap.Trap.{Trap}
-use Rattle.board.specs.Board.{Board, DoesTrap, saved}
+use Rattle.board.specs.Board.{Board, TrapDuties, saved}
 
 -- the registers that came make the call of the trap
 pub call_there : (old : Board) (trap : Trap) → call_of (running_registers (saved old trap) trap.hart) ≡ call_of trap.registers
 call_there old trap = ap call_of (put_there old.monitor trap.hart trap.registers)
 
 pub served_here :
-    (old : Board) (trap : Trap) (frame read question answered : List ℕ) (new : Board) (x : DoesTrap old trap frame read question answered new)
+    (old : Board) (trap : Trap) (frame read question answered : List ℕ) (new : Board) (x : TrapDuties old trap frame read question answered new)
     → ServesAs trap.event (saved old trap) trap x.changes read question answered new.monitor
 served_here old trap frame read question answered new x =
     subst (λ (sets : Runner → RegisterFile). ServesAs trap.event (saved old trap) trap x.changes read question answered (with_sets new.monitor sets))

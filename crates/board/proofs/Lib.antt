@@ -28,4 +28,5 @@ mod ModelTraps
 mod Modelled
 mod Stayed
 mod Answered
+mod Zeroing
 mod Timed

@@ -24,7 +24,7 @@ frame_of page bytes size = record {
   bytes_are = refl;
 }
 
-next : (count : ℕ) → suc count ≡ count + 1
+pub next : (count : ℕ) → suc count ≡ count + 1
 next count = omega arith
 
 pub frames_are : (pages : ℕ → List ℕ) (first count : ℕ) → ((page : ℕ) → length (pages page) ≡ 4096)
@@ -36,7 +36,7 @@ frames_are pages first (suc count) whole =
     (frame_of (first + count) (pages (first + count)) (whole (first + count))))
 
 -- two lists with ends of one length are the same in both parts
-ends : (xs ys a b : List ℕ) → length a ≡ length b → xs ++ a ≡ ys ++ b → (xs ≡ ys) × (a ≡ b)
+pub ends : (xs ys a b : List ℕ) → length a ≡ length b → xs ++ a ≡ ys ++ b → (xs ≡ ys) × (a ≡ b)
 ends xs ys a b size same =
     let all : length (xs ++ a) ≡ length (ys ++ b) = ap length same in
     let left = length-append xs a in
@@ -46,7 +46,7 @@ ends xs ys a b size same =
       sym (drop-append_seam xs a) ∙ ap (drop (length xs)) same ∙ ap (λ n. drop n (ys ++ b)) front ∙ drop-append_seam ys b,
     )
 
-no_frame : {P : Type 0} (read frame : List ℕ) → length frame ≡ 4112 → read ++ frame ≡ [] → P
+pub no_frame : {P : Type 0} (read frame : List ℕ) → length frame ≡ 4112 → read ++ frame ≡ [] → P
 no_frame read frame size none =
     let all : length (read ++ frame) ≡ 0 = ap length none in
     let parts = length-append read frame in

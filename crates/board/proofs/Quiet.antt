@@ -96,4 +96,4 @@ csrs_stay (wrote hart words) old new x = ap (λ (b : Board). b.csrs) x.state
 csrs_stay (aside hart on) old new x = ap (λ (b : Board). b.csrs) x.state
 csrs_stay (parks hart) old new x = ap (λ (b : Board). b.csrs) x.state
 csrs_stay (starts hart file words) old new x = ap (λ (b : Board). b.csrs) x.state
-csrs_stay (trapped trap frame read question answered) old new x = x.csrs
+csrs_stay (trapped trap frame read question answered) old new x = x.duties.csrs

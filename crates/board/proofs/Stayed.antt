@@ -95,11 +95,11 @@ module _ (law : BoardHolds) (layout : PlatformLayout) (opened : List ℕ) (rules
       → Live mid.monitor.table id e → is_private e.parts (byte / 4096) ≡ true → new.memory byte ≡ old.memory byte
   new_stay events old mid new trap frame read question answered run can x on id byte e none live own =
       let before = law layout opened events old run rules answer can in
-      let confine = can_still old mid x.csrs can in
+      let confine = can_still old mid x.duties.csrs can in
       let after = happened run (trapped trap frame read question answered) x in
       let now = law layout opened (events ++ trapped trap frame read question answered ∷ []) mid after rules answer confine in
-      let one = served_here old trap frame read question answered mid x in
-      let said = new_said trap.event (saved old trap) trap x.changes read question answered mid.monitor before.table (call_there old trap) one
+      let one = served_here old trap frame read question answered mid x.duties in
+      let said = new_said trap.event (saved old trap) trap x.duties.changes read question answered mid.monitor before.table (call_there old trap) one
       id e none live in
       fresh_stay (events ++ trapped trap frame read question answered ∷ []) mid new after confine on id byte e (live, own) said.1
-      ∙ stays_over_creation old trap frame read question answered mid now.table x now.each.1.0 id byte e none live own
+      ∙ stays_over_creation old trap frame read question answered mid now.table x.duties now.each.1.0 id byte e none live own

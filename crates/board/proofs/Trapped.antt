@@ -27,7 +27,7 @@ use Rattle.trap_server.specs.Firmware.{AreDestroyed, KeepsTrap}
 use Rattle.trap_server.specs.Service.{AsksFor, ServesAs, given_at}
 use Rattle.trap_server.specs.Words.{word_at}
 use Rattle.board.proofs.Here.{call_there, served_here}
-use Rattle.board.specs.Board.{Board, DoesTrap, IsMemoryByte, ReadsMemory, saved}
+use Rattle.board.specs.Board.{Board, TrapDuties, IsMemoryByte, ReadsMemory, saved}
 use Rattle.board.specs.Headline.{KeepsMemory}
 use Rattle.board.proofs.Made.{Absent, made_call, made_irq}
 use Rattle.board.proofs.Named.{named}
@@ -42,7 +42,7 @@ abbrev pub cleared_by : Option PageRange → (ℕ → ℕ) → ℕ → ℕ
 cleared_by cleared memory = zeroed memory (pages_of cleared).first (pages_of cleared).count
 
 -- where no enclave is gone no pages are made zero
-all_stay : (cleared : Option PageRange) (s new : MonitorState) (memory : ℕ → ℕ) (byte : ℕ) → IfSome cleared (AreDestroyed s new)
+pub all_stay : (cleared : Option PageRange) (s new : MonitorState) (memory : ℕ → ℕ) (byte : ℕ) → IfSome cleared (AreDestroyed s new)
     → ((id : ℕ) → IsGone s new id → ⊥) → cleared_by cleared memory byte ≡ memory byte
 all_stay None s new memory byte d none = ap (λ b. if b then 0 else memory byte) (none_in (byte / 4096))
 all_stay (Some range) s new memory byte d none = absurd (none d.1.0 d.1.1)
@@ -97,16 +97,28 @@ new_digest Stop s trap changes read question answered new memory id e right ther
     let now : Live x.mid.table id e = subst (λ (y : MonitorState). Live y.table id e) x.woken live in
     absurd (made_irq (s.worlds hart) t hart x.mid id e none now x.step)
 
-pub trap_kept :
-    (old : Board) (trap : Trap) (frame read question answered : List ℕ) (new : Board) → IsTable old.monitor.table → IsTable new.monitor.table
-    → new.monitor.table.layout ≡ old.monitor.table.layout → (x : DoesTrap old trap frame read question answered new)
-    → KeepsTrap (saved old trap) trap x.changes read question answered new.monitor → KeepsMemory old new
-trap_kept old trap frame read question answered new right sound layout x k =
+-- memory after a trap
+pub memory_is :
+    (old : Board) (trap : Trap) (frame read question answered : List ℕ) (new : Board) (x : TrapDuties old trap frame read question answered new)
+    → (k : KeepsTrap (saved old trap) trap x.changes read question answered new.monitor) → (byte : ℕ) → IsMemoryByte new.monitor.table.layout byte
+    → new.memory byte ≡ cleared_by k.cleared old.memory byte
+memory_is old trap frame read question answered new x k byte there =
     let inside : IfSome k.cleared (λ range. range.first + range.count ≤ 2 ^ 44) = in_space k.cleared k.zeroes in
     let words = named new.monitor (given_at (saved old trap) new.monitor trap) trap.hart k.answer k.cleared k.woken k.lists x.changes answered k.says inside in
-    let memory : (byte : ℕ) → IsMemoryByte new.monitor.table.layout byte → new.memory byte ≡ cleared_by k.cleared old.memory byte = λ byte there.
     x.cleared byte there ∙ ap (λ first. zeroed old.memory first (word_at answered 7) byte) words.0
-    ∙ ap (λ count. zeroed old.memory (pages_of k.cleared).first count byte) words.1 in
+    ∙ ap (λ count. zeroed old.memory (pages_of k.cleared).first count byte) words.1
+  where
+    in_space : (cleared : Option PageRange) → IfSome cleared (AreDestroyed old.monitor new.monitor)
+        → IfSome cleared (λ range. range.first + range.count ≤ 2 ^ 44)
+    in_space None d = tt
+    in_space (Some range) d = d.0.inside
+
+pub trap_kept :
+    (old : Board) (trap : Trap) (frame read question answered : List ℕ) (new : Board) → IsTable old.monitor.table → IsTable new.monitor.table
+    → new.monitor.table.layout ≡ old.monitor.table.layout → (x : TrapDuties old trap frame read question answered new)
+    → ReadsMemory old.memory read → KeepsTrap (saved old trap) trap x.changes read question answered new.monitor → KeepsMemory old new
+trap_kept old trap frame read question answered new right sound layout x pages k =
+    let memory = memory_is old trap frame read question answered new x k in
     record {
       private = λ id byte e f own now.
           memory byte (private_memory new.monitor.table id byte f sound now.0 now.1)
@@ -119,11 +131,6 @@ trap_kept old trap frame read question answered new right sound layout x k =
       stays = λ none byte there. memory byte there ∙ all_stay k.cleared old.monitor new.monitor old.memory byte k.zeroes none;
       digest = λ id e none live.
           let one = served_here old trap frame read question answered new x in
-          new_digest trap.event (saved old trap) trap x.changes read question answered new.monitor old.memory id e right (call_there old trap) x.pages
+          new_digest trap.event (saved old trap) trap x.changes read question answered new.monitor old.memory id e right (call_there old trap) pages
           none live one;
     }
-  where
-    in_space : (cleared : Option PageRange) → IfSome cleared (AreDestroyed old.monitor new.monitor)
-        → IfSome cleared (λ range. range.first + range.count ≤ 2 ^ 44)
-    in_space None d = tt
-    in_space (Some range) d = d.0.inside

@@ -136,38 +136,40 @@ trap_seen layout opened seen kind old new hart file on known x =
         runs = subst (λ all. BoardRun layout opened all (board_of new sets (unmarked 4 x.mid).marked lists loaded running control hosts))
             (append_assoc seen (computed hart file no_floats ∷ []) (event ∷ []))
             (happened (happened on.runs (computed hart file no_floats) computes) event (record {
-              size = frame_size kind hart file host;
-              is_trap = frame_is kind hart file host old.table.layout.harts known;
-              started = refl;
-              came = sym (put_here hart file (on.running hart));
-              host = λ host_trapped. refl;
-              changes = x.changes;
-              served = λ all there. x.serves answered that same is_answer all there;
-              sets = refl;
               pages = x.reads;
-              cleared = λ byte there.
-                  x.bytes byte ∙ sym (ap (λ first. zeroed old.bytes first (word_at answered 7) byte) words.0
-                  ∙ ap (λ count. zeroed old.bytes (pages_of x.cleared).first count byte) words.1);
-              keeps = λ world. refl;
-              loads = λ h up. refl;
-              parked = refl;
-              csrs = refl;
-              running = record {
-                resumes = put_here hart (sets next) (came hart);
-                others = λ other differ. put_far hart other (sets next) (came other) differ;
+              duties = record {
+                size = frame_size kind hart file host;
+                is_trap = frame_is kind hart file host old.table.layout.harts known;
+                started = refl;
+                came = sym (put_here hart file (on.running hart));
+                host = λ host_trapped. refl;
+                changes = x.changes;
+                served = λ all there. x.serves answered that same is_answer all there;
+                sets = refl;
+                cleared = λ byte there.
+                    x.bytes byte ∙ sym (ap (λ first. zeroed old.bytes first (word_at answered 7) byte) words.0
+                    ∙ ap (λ count. zeroed old.bytes (pages_of x.cleared).first count byte) words.1);
+                keeps = λ world. refl;
+                loads = λ h up. refl;
+                parked = refl;
+                csrs = refl;
+                running = record {
+                  resumes = put_here hart (sets next) (came hart);
+                  others = λ other differ. put_far hart other (sets next) (came other) differ;
+                };
+                floats = record {
+                  goes_on = λ same. refl;
+                  leaves = λ differ lives. refl;
+                  ends = λ other ended. refl;
+                  enters = λ differ. refl;
+                  made = λ other said. refl;
+                  harts = λ other differ. refl;
+                  others = λ other differ none lives. refl;
+                };
+                control = control_changes mid
+                    (board_of new sets (unmarked 4 x.mid).marked lists loaded running control hosts) hart who next (said_words answered)
+                    (refl {a = control}) (refl {a = hosts});
               };
-              floats = record {
-                goes_on = λ same. refl;
-                leaves = λ differ lives. refl;
-                ends = λ other ended. refl;
-                enters = λ differ. refl;
-                made = λ other said. refl;
-                harts = λ other differ. refl;
-                others = λ other differ none lives. refl;
-              };
-              control = control_changes mid
-                  (board_of new sets (unmarked 4 x.mid).marked lists loaded running control hosts) hart who next (said_words answered)
-                  (refl {a = control}) (refl {a = hosts});
             }));
         waits = x.waits;
       },

@@ -287,8 +287,9 @@ ReadsMemory memory read =
 abbrev pub saved : Board → Trap → MonitorState
 saved old trap = with_running old.monitor trap.hart trap.registers
 
--- a trap is served by the loop. Each clause is a duty of the code around it
-pub record DoesTrap (old : Board) (trap : Trap) (frame read question answered : List ℕ)
+-- what the code around the loop has to do at a trap that the loop serves, but for the pages that it
+-- reads
+pub record TrapDuties (old : Board) (trap : Trap) (frame read question answered : List ℕ)
     (new : Board) : Type 0 where
   -- the loop reads a frame of this trap, on a hart that runs a world
   pub size : length frame ≡ 96
@@ -301,9 +302,8 @@ pub record DoesTrap (old : Board) (trap : Trap) (frame read question answered : 
   pub changes : SetChanges
   pub served : ServesAll old.monitor trap changes read question answered new.monitor
   pub sets : new.monitor.registers ≡ changed trap.hart changes (saved old trap).registers
-  -- the pages that were read are memory's; those that the answer names, in its words 6 and 7, are
-  -- made zero, and no other byte of memory changes
-  pub pages : ReadsMemory old.memory read
+  -- the pages that the answer names, in its words 6 and 7, are made zero, and no other byte of
+  -- memory changes
   pub cleared : HasMemory new
       (zeroed old.memory (word_at answered 6) (word_at answered 7))
   -- the lists that the answer has are kept for their worlds; the hart that it names loads the list
@@ -320,6 +320,13 @@ pub record DoesTrap (old : Board) (trap : Trap) (frame read question answered : 
   pub control : ChangesControl old trap.hart (runner_on old.monitor trap.hart)
       (runner_by trap.hart (word_at answered 2)) (said_words answered) new
   pub csrs : new.csrs ≡ old.csrs
+
+-- a trap is served by the loop: the code around it does its duties, and the pages that were read
+-- are memory's
+pub record DoesTrap (old : Board) (trap : Trap) (frame read question answered : List ℕ)
+    (new : Board) : Type 0 where
+  pub duties : TrapDuties old trap frame read question answered new
+  pub pages : ReadsMemory old.memory read
 
 -- an event happens on a board
 abbrev pub HappensOn : BoardEvent → Board → Board → Type 0

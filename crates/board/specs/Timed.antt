@@ -1,9 +1,13 @@
 -- A board whose traps take time: other harts run between two steps of a trap.
-use Rattle.std.specs.Prelude.{◌≡◌, ◌≢◌, ℕ, ◌==◌, if◌then◌else◌, List, [], ◌++◌, ◌∷◌}
+use Rattle.std.specs.Prelude.{◌≡◌, ◌≢◌, ◌⊎◌, ℕ, ◌*◌, ◌/◌, ◌==◌, true, if◌then◌else◌, List, []}
+use Rattle.std.specs.Prelude.{◌++◌, ◌∷◌, length}
 use Rattle.platforms.specs.Platform.{IsLayout, PlatformLayout}
+use Rattle.hart_sim.specs.Memory.{bytes_at, in_range}
+use Rattle.trap_server.specs.Words.{word_at}
+use Rattle.trap_server.specs.PageDigest.{IsPageFrame}
 use Rattle.trap_server.specs.Boot.{IsFirstAnswer}
 use Rattle.trap_server.specs.declared.trap.Trap.{Trap}
-use Rattle.board.specs.Board.{Board, BoardEvent, BoardRun, DoesTrap, HappensOn, IsBooted}
+use Rattle.board.specs.Board.{Board, BoardEvent, BoardRun, HappensOn, IsBooted, TrapDuties}
 use Rattle.board.specs.Board.{access, aside, computed, parks, starts, trapped, wrote}
 use Rattle.board.specs.Headline.{BoardHeadline}
 use Rattle.board.specs.Held.{CanConfine}
@@ -21,12 +25,38 @@ IsElsewhere hart (parks other) = ⊥
 IsElsewhere hart (starts other file words) = ⊥
 IsElsewhere hart (trapped trap frame read question answered) = ⊥
 
--- other harts run while one has the lock: such events, one after another
-pub data OthersRun (hart : ℕ) (old : Board) : List BoardEvent → Board → Type 0 where
-  rests : OthersRun hart old [] old
-  runs : {events : List BoardEvent} {mid new : Board} → OthersRun hart old events mid
+-- some bytes of these pages are made zero
+pub record ZeroesSome (first count : ℕ) (old new : Board) : Type 0 where
+  pub state : new ≡ record old { memory = new.memory }
+  pub bytes : (byte : ℕ) → (new.memory byte ≡ old.memory byte)
+      ⊎ ((new.memory byte ≡ 0) × (in_range first count (byte / 4096) ≡ true))
+
+-- other harts run while the one with the lock makes pages zero, piece by piece
+pub data Zeroes (hart first count : ℕ) (old : Board) : List BoardEvent → Board → Type 0 where
+  none_yet : Zeroes hart first count old [] old
+  meanwhile : {events : List BoardEvent} {mid new : Board} → Zeroes hart first count old events mid
       → (event : BoardEvent) → IsElsewhere hart event → HappensOn event mid new
-      → OthersRun hart old (events ++ event ∷ []) new
+      → Zeroes hart first count old (events ++ event ∷ []) new
+  zeroes : {events : List BoardEvent} {mid new : Board} → Zeroes hart first count old events mid
+      → ZeroesSome first count mid new → Zeroes hart first count old events new
+
+-- the frame of a page has the bytes of memory, whichever page it is
+abbrev pub HasPage : (ℕ → ℕ) → List ℕ → Type 0
+HasPage memory frame = (page : ℕ) (bytes : List ℕ) → IsPageFrame frame page bytes
+    → bytes ≡ bytes_at memory (page * 4096) 4096
+
+-- other harts run while one has the lock: such events, one after another. In between the hart with
+-- the lock reads pages, each as it is in memory at that moment
+pub data OthersRun (hart : ℕ) (old : Board) : List BoardEvent → List ℕ → Board → Type 0 where
+  rests : OthersRun hart old [] [] old
+  runs : {events : List BoardEvent} {read : List ℕ} {mid new : Board}
+      → OthersRun hart old events read mid
+      → (event : BoardEvent) → IsElsewhere hart event → HappensOn event mid new
+      → OthersRun hart old (events ++ event ∷ []) read new
+  reads : {events : List BoardEvent} {read : List ℕ} {mid : Board}
+      → OthersRun hart old events read mid
+      → (frame : List ℕ) → length frame ≡ 4112 → HasPage mid.memory frame
+      → OthersRun hart old events (read ++ frame) mid
 
 -- the first step of a trap, by what the whole trap does: pages are zero, lists of entries are kept,
 -- and harts have loaded theirs. The harts whose entries change are stopped for this step alone
@@ -49,31 +79,36 @@ answered_on hart done board = record board {
   hosts = λ h. if h == hart then done.hosts h else board.hosts h;
 }
 
--- a trap that takes time. The hart that traps has the lock and makes no event until it is answered.
--- In its first step the lists change, in its last step it is answered, and in between other harts
--- run, by the new lists. Together the steps do what a trap does at once, with pages as they are in
--- memory at the first step: until the next trap they stay
-pub record TakesTime (old : Board) (trap : Trap) (frame read question answered : List ℕ)
-    (others : List BoardEvent) (new : Board) : Type 0 where
+-- a trap that takes time. The hart that traps has the lock and makes no event until it is answered
+pub record TakesTime (old : Board) (before : List BoardEvent) (trap : Trap)
+    (frame read question answered : List ℕ) (others : List BoardEvent) (new : Board) :
+    Type 0 where
+  -- the pages that the answer names are made zero while other harts run, by the old lists
+  pub ready : Board
+  pub zeroing : Zeroes trap.hart (word_at answered 6) (word_at answered 7) old before ready
+  -- the lists change at once, when all of these pages are zero. This and the last step do the
+  -- duties of a trap
   pub done : Board
-  pub does : DoesTrap old trap frame read question answered done
+  pub duties : TrapDuties ready trap frame read question answered done
+  -- other harts run, by the new lists, while the pages are read that were asked for
   pub last : Board
-  pub between : OthersRun trap.hart (changed_lists old done) others last
+  pub between : OthersRun trap.hart (changed_lists ready done) others read last
+  -- the trap is answered
   pub answers : new ≡ answered_on trap.hart done last
 
--- events on such a board, after boot. A trap stands in the list where its lists change: what other
--- harts do before that is as if the trap had not begun
+-- events on such a board, after boot. A trap stands in the list where its lists change
 pub data TimedRun (layout : PlatformLayout) (opened : List ℕ) : List BoardEvent → Board
     → Type 0 where
   boots : (board : Board) → IsBooted layout opened board → TimedRun layout opened [] board
   happens : {events : List BoardEvent} {old new : Board} → TimedRun layout opened events old
       → (event : BoardEvent) → IsNoTrap event → HappensOn event old new
       → TimedRun layout opened (events ++ event ∷ []) new
-  traps : {events others : List BoardEvent} {old new : Board} → TimedRun layout opened events old
+  traps : {events before others : List BoardEvent} {old new : Board}
+      → TimedRun layout opened events old
       → (trap : Trap) (frame read question answered : List ℕ)
-      → TakesTime old trap frame read question answered others new
+      → TakesTime old before trap frame read question answered others new
       → TimedRun layout opened
-      ((events ++ trapped trap frame read question answered ∷ []) ++ others) new
+      (((events ++ before) ++ trapped trap frame read question answered ∷ []) ++ others) new
 
 -- each run of such a board is a run of a board whose traps take no time: with the same accesses,
 -- the same verdicts and every other event, and the same board at the end

@@ -74,13 +74,14 @@ pub fn answers_law()
     firmware_law();
 }
 
-/// A board whose traps take time: the hart that traps holds the lock, its lists change in a first step, it is answered in a
-/// last one, and in between other harts make accesses, compute, write control words and serve traps without the loop. Each
-/// run of it has the same events, accesses and verdicts as a run of a board whose traps take none, of which [`board_law`]
-/// holds.
+/// A board whose traps take time. The hart that traps holds the lock. It zeroes the pages of an enclave that ends, piece by
+/// piece; then the lists change; then it reads the pages of a new enclave, one by one; then it is answered. Before the lists
+/// change and after it, other harts make accesses, compute, write control words and serve traps without the loop. Each run of
+/// it has the same events, accesses and verdicts as a run of a board whose traps take no time, of which [`board_law`] holds.
 pub fn time_law()
     ensures { TimeIsUnseen }
 {
     board_law();
     firmware_law();
+    step_law();
 }

@@ -2,5 +2,6 @@ pub mod Fences
 pub mod Harts
 pub mod Life
 pub mod Served
+pub mod Starts
 pub mod BootList
 pub mod WorkedTrees

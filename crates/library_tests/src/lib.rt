@@ -52,6 +52,7 @@ mod served;
 mod served_life;
 #[cfg(test)]
 mod spread_banks;
+mod starts;
 #[cfg(test)]
 mod switches;
 #[cfg(test)]
@@ -68,3 +69,4 @@ pub use firmware::{destroyed_on_board, serve_life};
 pub use harts::{each_is_needed, qemu_confines};
 pub use headline::{life, runs_on};
 pub use laws::{boot_row, checked_plan, worked_rows};
+pub use starts::started_anyhow;

@@ -17,7 +17,7 @@ pub returns : goal.returns
 returns c = λ layout opened events old mid new id on trap frame read question answered run rules first can enclave fence x lived.
     let hart = trap.hart in
     let can_mid : (h : ℕ) → CanConfine (mid.csrs h) = λ h. subst (λ (b : Board). CanConfine (b.csrs h)) (sym fence.state) (can h) in
-    let can_new : (h : ℕ) → CanConfine (new.csrs h) = λ h. subst (λ (cs : ℕ → ControlRegisters). CanConfine (cs h)) (sym x.csrs) (can_mid h) in
+    let can_new : (h : ℕ) → CanConfine (new.csrs h) = λ h. subst (λ (cs : ℕ → ControlRegisters). CanConfine (cs h)) (sym x.duties.csrs) (can_mid h) in
     let fenced = happened run (aside hart on) fence in
     let kept = (c.board_law.ensures layout opened _ mid fenced rules first can_mid).each.1 in
     let after = (c.board_law.ensures layout opened _ new (happened fenced (trapped trap frame read question answered) x) rules first can_new).each.1 in

@@ -6,7 +6,8 @@ use Rattle.library_tests.proofs.firmware.destroyed_on_board.Goals as goal
 -- one event more is a run too, of which the law holds
 pub returns : goal.returns
 returns c = λ layout opened events old trap frame read question answered new run does rules answer can id gone.
-    let still : (hart : ℕ) → CanConfine (new.csrs hart) = λ hart. subst (λ (cs : ℕ → ControlRegisters). CanConfine (cs hart)) (sym does.csrs) (can hart) in
+    let still : (hart : ℕ) → CanConfine (new.csrs hart) = λ hart.
+    subst (λ (cs : ℕ → ControlRegisters). CanConfine (cs hart)) (sym does.duties.csrs) (can hart) in
     let last = c.board_law.ensures layout opened _ new (happened run (trapped trap frame read question answered) does) rules answer still in
     record {
       closed = λ hart a value said after byte x own reaches other.
