@@ -1,4 +1,5 @@
-"""Every order in which two harts can go through the monitor's lock, the stop of a hart, its fences, and its wait to be started.
+"""The orders in which two harts can go through the monitor's lock, the stop of a hart, its fences, and its wait to be started: all orders
+with the lock, the stop and two of fences, sleep and start at a time. All of them together are too many states.
 
 What firmware/trap.S, harts.c and serve.c do with the lock, `is_out` (a hart is halted where it is zero), `stopping`, `is_stale`, `is_wanted`, what harts ask of one another
 and the CLINT's software interrupts is written here once more, a step for each access. A store waits in a buffer of its hart: one for

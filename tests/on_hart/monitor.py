@@ -12,6 +12,7 @@ from pathlib import Path
 
 from builds import builds
 from costs import costs
+from debugged import late_hart, measured_page, memory_types, state_of_stopping_hart
 from edits import edited
 from interleavings import all_interleavings
 from lives import Life
@@ -254,6 +255,7 @@ def worlds(folder, told):
     stages(folder, told)
     large_trees(folder, told)
     races(folder, told)
+    quartet(folder, told)
     aside(folder, told)
     secrets = host(folder / "secrets.elf", "harts.S", "secrets_enclave.S", "secrets.c")
     slots = host(folder / "slots.elf", "harts.S", "reset_enclave.S", "slots.c")
@@ -303,7 +305,7 @@ def but(kind):
 
 
 REGISTERS_LEFT_OUT = {"the way past a call": ([but("PAST_CALL")], "the board did not end"), "a0 and a1 of an answer": ([but("TWO_WORDS")], "run 1: 1 1\n")}
-REGISTERS_LEFT_OUT |= {"a first entry": ([but("FIRST_ENTRY")], "resume 1: 1 0\n"), "a set of each enclave": ([("board.h", SET_OF, "world ? MOST_HARTS : hart")], "resume 1: 1 0\n")}
+REGISTERS_LEFT_OUT |= {"a first entry": ([but("FIRST_ENTRY")], "resume 1: 1 0\n"), "a set of each enclave": ([("board.h", SET_OF, "world ? MOST_HARTS + 0 * world : hart")], "resume 1: 1 0\n")}
 REGISTERS_LEFT_OUT |= {"the zeros of a set": ([("registers.c", "set->x[n] = 0;", ";"), ("registers.c", "memset(set, 0, sizeof *set);", ";")], "run 1: 0 7\n")}
 
 
@@ -311,8 +313,8 @@ def sets_of(image, payload):
     """What a board says on which two enclaves have exited, and whether nothing of their registers is left in the monitor's memory."""
     with Wired(image, payload, 1) as board:
         board.has_ended(20)
-        # (after the sets of four hosts, of x1 to x31, the program counter and floats)
-        left = [board.word(symbol(image, "register_sets") + 528 * (4 + enclave) + 8 * word) for enclave in (0, 1) for word in range(1, 33)]
+        # (after the sets of four hosts, of x1 to x31, the program counter, f0 to f31 and fcsr)
+        left = [board.word(symbol(image, "register_sets") + 528 * (4 + enclave) + 8 * word) for enclave in (0, 1) for word in range(66)]
     return board.said, not any(left)
 
 
@@ -321,13 +323,13 @@ def sets(folder, told):
     payload = host(folder / "sets.elf", "harts.S", "sets.S", "sets.c")
     said, is_zero = sets_of(FIRMWARE / "out/pmpmon-virt.elf", payload)
     told("a host and two enclaves have registers of their own, which an enclave begins with zeros", said == SETS, said if said != SETS else "")
-    told("nothing of the registers of an enclave that exited is left in the monitor's memory", is_zero)
+    told("the register sets of two enclaves that exited are zero", is_zero)
     for number, (name, (edits, want)) in enumerate(REGISTERS_LEFT_OUT.items()):
         said = booted(edited(FIRMWARE / "platform.toml", folder / f"sets-{number}", *edits), payload, 1, seconds=10)
         told(f"without {name} others come out", want in said, said if want not in said else "")
     said, is_zero = sets_of(edited(FIRMWARE / "platform.toml", folder / "sets-end", but("ALL_ZERO")), payload)
-    told("without the zeros at an enclave's end its registers are left there, and no other enclave finds them", said == SETS and not is_zero)
-    image = edited(folder / "two.toml", folder / "sets-hosts", ("board.h", SET_OF, "world ? MOST_HARTS - 1 + world : 0"))
+    told("without the zeros at an enclave's end its set is not zero, though the next enclave begins with zeros in integer registers", said == SETS and not is_zero)
+    image = edited(folder / "two.toml", folder / "sets-hosts", ("board.h", SET_OF, "world ? MOST_HARTS - 1 + world : 0 * hart"))
     said = booted(image, folder / "two_hosts.elf", 2, seconds=10)
     told("without a set of the host of each hart two hosts go wrong", said != TWO_HOSTS, said if said == TWO_HOSTS else "")
 
@@ -484,6 +486,33 @@ def ends(folder, told):
     told("no segment of the image is both written and executed", flags == ["R E", "R  ", "RW "], str(flags))
 
 
+# What four harts find of fences, of the table of pages at a start, and of interrupts: 4 is one that came after the start.
+QUARTET = "to harts that are not started 0\n" + 2 * "".join(f"hart {it}: its table, and what waited 4\n" for it in (1, 2, 3)) + "fences that did not come 0\n"
+# Why enclaves stop, and the address that their host learns: a closed counter, a store to its code, a jump to its data, and so on (causes_enclave.S).
+CAUSES = "".join(f"{cause} {value:#018x}\n" for cause, value in ((2, 0), (7, 0), (1, 0), (5, 0x85002008), (1, 0x10000000), (3, 0)))
+VECTORS = "run 1\nwhat it exits with 0\nthe cause 2\nthe host's 6210279\nVS 3\n"
+
+
+def quartet(folder, told):
+    """What four harts ask of one another, harts that are late, and what a host learns of an enclave."""
+    image, four = folder / "with/pmpmon-virt.elf", folder / "four/pmpmon-virt.elf"
+    payload = host(folder / "quartet.elf", "harts.S", "two_hosts.S", "quartet.c")
+    said = booted(four, payload, 4, seconds=120)
+    told("each of four harts gets its fences and interrupts, and starts without a table of pages", said == QUARTET, said)
+    said = booted(image, host(folder / "zeros.elf", "harts.S", "two_hosts.S", "zeros.c"), 2, seconds=120)
+    told("what another hart reads first of a destroyed enclave is zero", said == 4 * "others than zero 0\n", said)
+    said = booted(image, host(folder / "causes.elf", "harts.S", "causes_enclave.S", "causes.c"), 1, seconds=60)
+    told("a host learns no address or instruction of an enclave's own", said == CAUSES, said)
+    said = booted(image, host(folder / "vectors.elf", "harts.S", "vectors.S", "vectors.c"), 1, "-cpu", "rv64,v=true", seconds=60)
+    told("an enclave reads no vector register, and the host keeps its own", said == VECTORS, said)
+    rows = [("a hart that does not run for eleven seconds is waited for", late_hart, image, folder / "race.elf")]
+    rows += [("a hart that stops is at no moment one that is about to start", state_of_stopping_hart, four, payload)]
+    rows += [("memory types are closed to the host", memory_types, FIRMWARE / "out/pmpmon-virt.elf", folder / "reset-1.elf")] if shutil.which("dtc") else []
+    for name, look, *words in rows:
+        right, why = look(*words)
+        told(name, right, "" if right else why)
+
+
 def kind(number):
     """What a host of harts.h finds as KIND."""
     return "-device", f"loader,addr=0x86001000,data={number},data-len=8"
@@ -499,7 +528,9 @@ def races(folder, told):
         told(f"a page that is read {name} while it is made an enclave's faults, and is zero after it", right, "" if right else said)
     said = booted(image, host(folder / "moments.elf", "harts.S", "moments_enclave.S", "moments.c"), 2, seconds=60)
     match = re.fullmatch(r"differ 1\nzeros (\d+)\nones (\d+)\nwrong 0\n", said)
-    told("a page that is written while it is measured: the digest is that of the enclave's bytes", match and all(int(it) for it in match.groups()) and int(match.group(1)) + int(match.group(2)) == 40, said.replace("\n", " "))
+    told("a page that is written while it is measured: the digest is that of the enclave's bytes", match and int(match.group(1)) + int(match.group(2)) == 40, said.replace("\n", " "))
+    right, why = measured_page(image, folder / "moments.elf")
+    told("while a page is measured no other hart writes it", right, "" if right else why)
     said = booted(image, host(folder / "share.elf", "harts.S", "share_enclave.S", "share.c"), 2, seconds=60)
     counts = {int(it): int(n) for it, n in re.findall(r"call (\d+): counted (\d+)\n", said)}
     right = len(counts) == 4 and "odd" not in said and min(counts.values()) > counts[255] // 4

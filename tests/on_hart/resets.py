@@ -18,11 +18,21 @@ def symbol(image, name):
     return next(int(it.split()[0], 16) for it in lines if it.split()[2] == name)
 
 
+def is_left(memory, number):
+    """Whether the secret is anywhere in memory."""
+    return number.to_bytes(8, "little") in memory
+
+
+def numbers_in(memory):
+    """Where memory has numbers of secrets_enclave.S, each with its last byte: that of a register from 0 on, and 64 more for f0 to f31."""
+    return [(it.start(), memory[it.start()]) for it in re.finditer(b".." + re.escape(b"\xe7\xc2\x5e\xe7\xc2\x5e"), memory, re.S)]
+
+
 def asked_for(image, payload, harts, kind, more=""):
     """The host asks for the reset, and looks for the secret after it."""
     begun = BEGUN.format(run="run 1\n" if harts == 1 else "") + more
     with Wired(image, payload, harts, kind=kind) as board:
-        right = board.has_ended() and board.said == begun + AFTER and board.word(SECRET_AT) == 0
+        right = board.has_ended() and board.said == begun + AFTER and not is_left(board.memory(), SECRET)
         return right, repr(board.said)
 
 
@@ -30,7 +40,7 @@ def off(image, payload, harts):
     """The host switches the board off: its memory is looked at from outside."""
     begun = BEGUN.format(run="run 1\n" if harts == 1 else "")
     with Wired(image, payload, harts, kind=SHUTDOWN) as board:
-        return board.has_ended() and board.said == begun and board.word(SECRET_AT) == 0, f"{board.said!r} {board.word(SECRET_AT):#x}"
+        return board.has_ended() and board.said == begun and not is_left(board.memory(), SECRET), repr(board.said)
 
 
 def button(image, payload, harts):
@@ -38,7 +48,7 @@ def button(image, payload, harts):
     with Wired(image, payload, harts, kind=WAITS) as board:
         begun = board.until("it waits\n") and board.word(SECRET_AT) == SECRET
         board.asked("system_reset")
-        right = begun and board.has_ended() and board.said.endswith("it waits\n" + AFTER)
+        right = begun and board.has_ended() and board.said.endswith("it waits\n" + AFTER) and not is_left(board.memory(), SECRET)
         return right, repr(board.said)
 
 
@@ -47,13 +57,8 @@ def fatal(image, payload, harts, function, offset):
     with Wired(image, payload, harts, kind=WAITS) as board:
         begun = board.until("it waits\n") and board.word(SECRET_AT) == SECRET
         board.written(symbol(image, function) + offset, bytes(8))
-        right = begun and board.has_ended() and "\nmonitor: trapped 0x0000000000000002 " in board.said and board.word(SECRET_AT) == 0
-        return right, f"{board.said!r} {board.word(SECRET_AT):#x}"
-
-
-def is_left(memory, number):
-    """Whether the secret, or one of the numbers of secrets_enclave.S, is anywhere in memory."""
-    return number.to_bytes(8, "little") in memory
+        right = begun and board.has_ended() and "\nmonitor: trapped 0x0000000000000002 " in board.said and not is_left(board.memory(), SECRET)
+        return right, repr(board.said)
 
 
 def registers(image, payload, kind):
@@ -61,8 +66,7 @@ def registers(image, payload, kind):
     with Wired(image, payload, 1, kind=kind) as board:
         ended = board.has_ended() if kind == 4 else board.until("it waits\n")
         said = "run 0\nit waits\n" if kind == 1 else "run 1\ndestroy 0\nit waits\n" if kind == 2 else "run 1\n"
-        memory = board.memory()
-        left = [number for number in range(96) if is_left(memory, 0x5EC2E75EC2E70000 + number)]
+        left = numbers_in(board.memory())
         return ended and board.said == said and not left, f"{board.said!r} {left}"
 
 
@@ -90,6 +94,15 @@ def absent_memory(image, payload):
         listed = [it for it in range(64) if memory[0x7F000 + 24 * it + 16 : 0x7F000 + 24 * it + 24] != bytes(8)]
         right = begun and ended and board.said.startswith("it waits\nmonitor: trapped 0x0000000000000007 ") and not is_left(memory, SECRET) and not listed
         return right, f"{board.said!r} {listed}"
+
+
+def saved_registers(image, payload):
+    """An enclave has just been stopped: s1 to s11, which C saves, are in its set alone. (A frame of the loop has a0 to a7.)"""
+    with Wired(image, payload, 1, kind=3) as board:
+        begun = board.until("it waits\n")
+        found, at = numbers_in(board.memory()), symbol(image, "register_sets") - 0x80000000 + 528 * 4
+        left = [(place, it) for place, it in found if not at <= place < at + 528 and it in (9, *range(18, 28))]
+        return begun and len(found) >= 62 and not left, f"{board.said!r} {left}"
 
 
 # Of trap.S, what no world's trap comes to: how a hart comes in for the first time, what follows a trap of the monitor, and a count for traces.
@@ -134,6 +147,7 @@ def each_instruction(image, payload, told):
 def resets(images, payloads, wide, secrets, slots, told):
     """`images` and `payloads` are of one hart and of two, and `wide` is of more memory than the board has."""
     rows = [(f"the registers of an enclave {what}", registers, (images[0], secrets, kind)) for kind, what in ((1, "that exits"), (2, "that is destroyed"), (4, "when the host ends the board"))]
+    rows += [("the saved registers of an enclave that was stopped, but in its set", saved_registers, (images[0], secrets))]
     rows += [("the reset button, 64 enclaves", all_slots, (images[0], slots)), ("a list that names absent memory, after the button", absent_memory, (wide, slots))]
     for harts, image, payload in zip((1, 2), images, payloads):
         rows += [(f"a cold reboot, {harts} harts", asked_for, (image, payload, harts, COLD)), (f"the board is switched off, {harts} harts", off, (image, payload, harts))]

@@ -23,7 +23,8 @@ void host_main(void)
         say("destroy", (uint64_t)pmpmon_destroy(made.value).error);
     if (KIND == ENDS)
         off();
-    pmpmon_resume(0); /* refused: the next frame of the loop */
+    if (KIND != LIVE)
+        pmpmon_resume(0); /* refused: the next frame of the loop */
     put("it waits\n");
     for (;;)
         ;

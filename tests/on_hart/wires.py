@@ -1,6 +1,7 @@
 """A board of QEMU that is looked at and reset from outside: its monitor's button, its memory, and a debugger that writes into it."""
 import json
 import os
+import re
 import select
 import socket
 import subprocess
@@ -97,7 +98,9 @@ class Debugger:
 
     def __enter__(self):
         self.packet("?")
-        self.packet("Qqemu.PhyMemMode:1")
+        self.send("Qqemu.PhyMemMode:1")
+        while self.reply() != "OK":  # (a board that ran says that it stops, too)
+            pass
         return self
 
     def __exit__(self, *_):
@@ -128,20 +131,32 @@ class Debugger:
     def word(self, address):
         return int.from_bytes(bytes.fromhex(self.packet(f"m{address:x},8")), "little")
 
-    def stops_at(self, address):
-        """A breakpoint."""
+    def control_register(self, name):
+        """A control register of the first hart."""
+        self.packet("qXfer:features:read:target.xml:0,400")
+        text, part = "", "m"
+        while part.startswith("m"):
+            part = self.packet(f"qXfer:features:read:riscv-csr.xml:{len(text):x},400")
+            text += part[1:]
+        number = re.search(rf'name="{name}"[^>]*regnum="(\d+)"', text)[1]
+        return int.from_bytes(bytes.fromhex(self.packet(f"p{int(number):x}")), "little")
+
+    def comes_to(self, address, times=1):
+        """The board goes on until a hart has come to an address so often."""
         self.packet(f"Z1,{address:x},4")
+        for left in range(times - 1, -1, -1):
+            thread = re.search("thread:([0-9a-f]+)", self.packet("vCont;c"))[1]
+            self.packet(f"z1,{address:x},4")
+            if left:
+                self.packet(f"vCont;s:{thread}")
+                self.packet(f"Z1,{address:x},4")
 
-    def stops_no_more_at(self, address):
-        self.packet(f"z1,{address:x},4")
-
-    def watches(self, address):
-        """The board stops before a word is written."""
+    def is_written(self, address):
+        """The board goes on until a hart has written a word."""
         self.packet(f"Z2,{address:x},8")
-
-    def waits(self):
-        """The board goes on until it stops by itself."""
-        return self.packet("vCont;c")
+        thread = re.search("thread:([0-9a-f]+)", self.packet("vCont;c"))[1]
+        self.packet(f"z2,{address:x},8")
+        self.packet(f"vCont;s:{thread}")
 
     def goes_on(self, seconds, *harts):
         """Some harts go on for a time, while the others stand still."""
