@@ -5,7 +5,8 @@ that were changed or cut.
   tests/board_trees/run.py PROGRAM
 
 Trees written here have each case in which a tree does not say what a map wants to know; what has to come of them is written
-beside them, by docs/DECISIONS.md, 392 to 397. Of QEMU's trees the registers of each node are asked of fdtget, and rounded here.
+beside them, by docs/DECISIONS.md, 43 to 46. In trees with
+buses inside one another, by a fixed seed, each kilobyte is translated here, bus by bus. Of QEMU's trees the registers of each node are asked of fdtget, and rounded here.
 Of one tree of each board 5,000 copies, or COPIES, with up to four bytes changed are read by both commands, each of which prints a
 text that reads back, or a reason. What is printed is taken as it is: a map by plan, a platform by lint and by run with the trace of an
 example. It wants dtc and fdtget, and for the boards QEMU; on Debian:
@@ -73,6 +74,77 @@ def written(count, folder):
         lines = [line for line in text.splitlines() if line and not line.startswith(("# The ", "# not in use", "# /reserved", "# A dev", "# table"))]
         right = lines == wanted and status == 0 if text else [reason(tree, said)] == wanted and status == 2
         count.note(right, name, text + said)
+
+
+UNIT = 0x400
+CELLS = "#address-cells = <1>; #size-cells = <1>;"
+
+
+def windows_of_bus(made):
+    """Up to three windows of a bus, in units: addresses of the bus, those of its parent, and a size."""
+    return [(made.randrange(24), made.randrange(24), made.randrange(1, 12)) for _ in range(made.randrange(1, 4))]
+
+
+def at_parent(windows, unit):
+    """Where the parent of a bus has a unit of it: by the first window that has it."""
+    for child, parent, size in windows:
+        if child <= unit < child + size:
+            return parent + unit - child
+    return None
+
+
+def at_root(buses, unit):
+    """Where the root has a unit, bus by bus from the innermost on."""
+    for windows in buses:
+        unit = None if unit is None else at_parent(windows, unit)
+    return unit
+
+
+def nested(made):
+    """Buses inside one another with devices on each: the source, and each device with the buses around it."""
+    devices, body = [], ""
+    buses = [windows_of_bus(made) for _ in range(made.randrange(1, 4))]
+    for depth in range(len(buses), 0, -1):
+        inside = ""
+        for number in range(made.randrange(1, 4)):
+            name, base, size = f"d{depth}-{number}", made.randrange(30), made.randrange(1, 10)
+            kind = made.choice(["vendor,uart", "vendor,uart", "riscv,clint0"])
+            devices.append((name, kind, base, size, buses[depth - 1::-1]))
+            inside += f'{name} {{ compatible = "{kind}"; reg = <{base * UNIT:#x} {size * UNIT:#x}>; }};'
+        rows = ", ".join(f"<{' '.join(hex(it * UNIT) for it in row)}>" for row in buses[depth - 1])
+        body = f"bus{depth} {{ {CELLS} ranges = {rows}; {inside} {body} }};"
+    return f"/dts-v1/;\n/ {{ {CELLS} {body} }};\n", devices
+
+
+def runs_of(units):
+    """Sorted units as a base and a size in bytes each."""
+    runs = []
+    for unit in sorted(units):
+        if runs and runs[-1][1] == unit:
+            runs[-1][1] = unit + 1
+        else:
+            runs.append([unit, unit + 1])
+    return [(first * UNIT, (end - first) * UNIT) for first, end in runs]
+
+
+def buses(count, folder):
+    """Random buses inside one another: the pages of the map, and what no bus translates, unit by unit."""
+    wrong = []
+    for seed in range(300):
+        source, devices = nested(random.Random(f"buses {seed}"))
+        given, denied, lost = set(), set(), []
+        for name, kind, base, size, around in devices:
+            roots = {unit: at_root(around, unit) for unit in range(base, base + size)}
+            pages = {root * UNIT // PAGE for root in roots.values() if root is not None}
+            (denied if kind == "riscv,clint0" else given).update(pages)
+            lost += [f"# left out: {name}: on its bus {first:#x} {bytes_of:#x}; no bus translates it to an address of the root"
+                     for first, bytes_of in runs_of(unit for unit, root in roots.items() if root is None)]
+        lines = map_of(compiled(source, folder))[1].splitlines()
+        pages = [line[:-3] for line in lines if line.startswith("0x")]
+        told = [line for line in lines if " on its bus " in line]
+        if pages != joined(given - denied) or sorted(told) != sorted(lost):
+            wrong.append(f"{source}: {lines}")
+    count.note(not wrong, "300 trees with buses inside one another", "\n".join(wrong[:2]))
 
 
 def numbers(tree, node, name):
@@ -211,6 +283,7 @@ def main():
     with tempfile.TemporaryDirectory() as temporary:
         folder = Path(temporary)
         written(count, folder)
+        buses(count, folder)
         spoilt(count, folder)
         if shutil.which("qemu-system-riscv64"):
             boards(count, folder)

@@ -1,5 +1,6 @@
 """Trees written for the test, each with what the program is given, and the lines that have to come: of the map, or of the
 platform where they begin with `harts`, or why there is no platform."""
+import re
 
 RAM = "memory@80000000 { device_type = \"memory\"; reg = <0 0x80000000 0 0x8000000>; };"
 RAM_NAMED = "# memory@80000000: memory 0x80000000 0x8000000"
@@ -32,6 +33,17 @@ WHOLE = ", of it the whole pages"
 FIRMWARE = node("firmware@80000000", (0x80000000, 0x40000), more="no-map;")
 SECOND = node("second@80040000", (0x80040000, 0x40000), more="no-map;")
 OUT = "# left out: "
+
+
+def lost(name, base, size):
+    return f"{OUT}{name}: on its bus {base:#x} {size:#x}; no bus translates it to an address of the root"
+
+
+def nested(outer, inner, beside, inside):
+    """A bus with nodes, and in it a bus with other nodes, each by the rows of its `ranges`."""
+    cells = "#address-cells = <1>; #size-cells = <1>; ranges ="
+    outer = re.sub(r"<(\S+) ", r"<\1 0 ", outer)
+    return f"soc {{ {cells} {outer}; {beside} bus@0 {{ {cells} {inner}; {inside} }}; }};"
 
 
 def DEEP(levels):
@@ -93,7 +105,40 @@ TREES = {
         tree('off@1000 { status = "disabled"; reg = <0 0x1000 0 0x1000>; };'
              "bus { #address-cells = <1>; #size-cells = <1>; ranges = <0 0 0x40000000 0x1000>;"
              "in@800 { reg = <0x800 0x100>; }; out@2000 { reg = <0x2000 0x100>; }; };"), [],
-        [named("in@800", "device", 0x40000800, 0x100, REST), "0x40000000 0x1000 rw", *RAM_LINES]),
+        [named("in@800", "device", 0x40000800, 0x100, REST), "0x40000000 0x1000 rw", *RAM_LINES, lost("out@2000", 0x2000, 0x100)]),
+    "a status without the zero that ends it": (
+        tree('on@1000 { status = [6f 6b 61 79]; reg = <0 0x1000 0 0x1000>; }; off@2000 { status = [6e 6f]; reg = <0 0x2000 0 0x1000>; };'), [],
+        [named("on@1000", "device", 0x1000, 0x1000), "0x1000 0x1000 rw", *RAM_LINES]),
+    "a device behind two buses, the outer of which translates a part of the inner": (
+        tree(nested("<0 0x10000000 0x1000000>", "<0 0 0x2000000>", 'syscon@0 { reg = <0 0x1000000>; };',
+                    'clint@200000 { compatible = "sifive,clint0"; reg = <0x200000 0x10000>; }; uart@300000 { reg = <0x300000 0x1000>; };'
+                    "edge@fff000 { reg = <0xfff000 0x3000>; }; past@1800000 { reg = <0x1800000 0x1000>; };")), [],
+        [named("syscon@0", "device", 0x10000000, 0x1000000), "0x10000000 0x200000 rw",
+         named("syscon@0", "device", 0x10000000, 0x1000000), named("uart@300000", "device", 0x10300000, 0x1000),
+         named("edge@fff000", "device", 0x10fff000, 0x1000), "0x10210000 0xdf0000 rw", *RAM_LINES,
+         OUT + named("clint@200000", "machine mode's", 0x10200000, 0x10000, MACHINE)[2:],
+         lost("edge@fff000", 0x1000000, 0x2000), lost("past@1800000", 0x1800000, 0x1000)]),
+    "a device in two windows, and windows that are one at the root": (
+        tree(nested("<0 0x10000000 0x1000>, <0x1000 0x10001000 0x1000>, <0x3000 0x20000000 0x1000>", "<0 0 0x8000>", "",
+                    "one@0 { reg = <0 0x2000>; }; two@1000 { reg = <0x1000 0x3000>; };")), [],
+        [named("one@0", "device", 0x10000000, 0x2000), named("two@1000", "device", 0x10001000, 0x1000), "0x10000000 0x2000 rw",
+         named("two@1000", "device", 0x20000000, 0x1000), "0x20000000 0x1000 rw", *RAM_LINES, lost("two@1000", 0x2000, 0x1000)]),
+    "a bus with three address cells and an empty ranges": (
+        tree("bus@0 { #address-cells = <3>; #size-cells = <1>; ranges; in@0 { reg = <0 0 0x5000 0x1000>; }; };"), [], RAM_LINES),
+    "registers in more windows than are counted": (
+        tree(nested(", ".join(f"<{0x1000 * n:#x} {0x20000000 - 0x2000 * n:#x} 0x1000>" for n in range(70)), "<0 0 0x80000>", "",
+                    "wide@0 { reg = <0 0x46000>; };")), ["2147483648", "4096"],
+        ["registers in too many ranges, in the node at byte 1504"]),
+    "more devices of machine mode": (
+        tree(node("plmt@1000", (0x1000, 0x1000), more='compatible = "andestech,plmt0";')
+             + node("plicsw@2000", (0x2000, 0x1000), more='compatible = "vendor,x", "andestech,plicsw";')
+             + node("aplic@3000", (0x3000, 0x1000), more='compatible = "riscv,aplic"; riscv,children = <1>;')
+             + node("aplic@4000", (0x4000, 0x1000), more='compatible = "riscv,aplic"; interrupts-extended = <2 9 1 11>;')
+             + node("imsics@5000", (0x5000, 0x1000), more='compatible = "riscv,imsics"; interrupts-extended = <1 11>;')
+             + node("imsics@6000", (0x6000, 0x1000), more='compatible = "riscv,imsics"; interrupts-extended = <11 9>;')), [],
+        [named("imsics@6000", "device", 0x6000, 0x1000), "0x6000 0x1000 rw", *RAM_LINES,
+         *(OUT + named(name, "machine mode's", base, 0x1000, MACHINE)[2:] for name, base in (
+             ("plmt@1000", 0x1000), ("plicsw@2000", 0x2000), ("aplic@3000", 0x3000), ("aplic@4000", 0x4000), ("imsics@5000", 0x5000)))]),
     "memory of no whole pages": (
         tree("", ram=node("m@1", (0x80000800, 0x2000), (0x90000800, 0x700), (0xa0000000, 0x800), (0xa0000800, 0x800),
                           more='device_type = "memory";')), [],

@@ -3,7 +3,7 @@
 #
 #   tests/scripts/run.sh
 #
-# What is not installed is left out, and said. The last line is 'N passed, M failed'. On Debian:
+# Those that need rt are run without it, too. What is not installed is left out, and said. The last line is 'N passed, M failed'. On Debian:
 #   apt-get install --no-install-recommends shellcheck python3-pyflakes
 set -u
 cd "$(dirname "$(realpath "$0")")/../.." || exit 1
@@ -53,6 +53,27 @@ elif /usr/bin/python3 -m pyflakes --version >/dev/null 2>&1; then
     over '/usr/bin/python3 -m pyflakes' "${python[@]}"
 else
     echo 'left out: neither ruff nor pyflakes is installed'
+fi
+
+# Runs a script where rt is not on the PATH: one line says so.
+without_rt() {
+    local said
+    said=$(PATH=/usr/bin:/bin "$@" 2>&1)
+    if [ $? = 70 ] && [ "$(wc -l <<<"$said")" = 1 ] && [[ $said == *"rt is not on the PATH"* ]]; then
+        passed=$((passed + 1))
+        echo "ok: $1 without rt"
+    else
+        failed=$((failed + 1))
+        echo "FAILED: $1 without rt: $said"
+    fi
+}
+
+if PATH=/usr/bin:/bin command -v rt >/dev/null; then
+    echo 'left out: scripts without rt, which is in /usr/bin'
+else
+    for tool in library module_of module_unproved prove retarget unproved unproved_program; do
+        without_rt "tools/$tool" crates/pmpmon /dev/null
+    done
 fi
 echo "$passed passed, $failed failed"
 [ "$failed" = 0 ]

@@ -10,7 +10,7 @@ use Rattle.device_tree.specs.declared.reservations.Reservation.{Reservation}
 use Rattle.device_tree.specs.declared.rows.Extent.{Extent}
 use Rattle.device_tree.specs.declared.kinds.Kind.{Kind}
 use Rattle.device_tree.specs.declared.kinds.Kind.TheVariants.{Memory, Device, Machine}
-use Rattle.device_tree.specs.declared.kinds.Kind.TheVariants.{Reserved, Hart}
+use Rattle.device_tree.specs.declared.kinds.Kind.TheVariants.{Reserved, Hart, Untranslated}
 use Rattle.device_tree.specs.Meaning.{Range}
 use Rattle.text_lines.specs.Pieces.{address_text}
 use Rattle.board_texts.specs.Pages.{pages_of}
@@ -31,6 +31,7 @@ kind_text Device = codes "device"
 kind_text Machine = codes "machine mode's"
 kind_text Reserved = codes "no-map"
 kind_text Hart = codes "hart"
+kind_text Untranslated = codes "on its bus"
 
 -- an extent begins and ends where pages do
 abbrev pub is_paged : Extent → Bool
@@ -43,6 +44,7 @@ rest_text Device = codes ", with the rest of its pages"
 rest_text Machine = codes ", with the rest of its pages"
 rest_text Reserved = codes ", with the rest of its pages"
 rest_text Hart = []
+rest_text Untranslated = []
 
 -- what is said of the pages of a range
 abbrev pub pages_text : Range → List ℕ
@@ -92,6 +94,7 @@ left_reason Device = codes "; it has no page that is neither memory nor denied\n
 left_reason Machine = codes "; it is the timer of harts or interrupts them\n"
 left_reason Reserved = codes "; nothing else is to map it\n"
 left_reason Hart = codes "\n"
+left_reason Untranslated = codes "; no bus translates it to an address of the root\n"
 
 -- the runs have no page of a range, which is no hart
 abbrev pub is_left : List Run → Kind → Range → Bool
@@ -100,6 +103,7 @@ is_left runs Memory range = not (list_any (λ run. is_from run range) runs)
 is_left runs Device range = not (list_any (λ run. is_from run range) runs)
 is_left runs Machine range = true
 is_left runs Reserved range = true
+is_left runs Untranslated range = true
 
 -- what is left out, and why
 abbrev pub left_out_text : Range → List ℕ

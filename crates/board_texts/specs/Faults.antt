@@ -41,6 +41,7 @@ abbrev pub ranges_text : BoardReason → List ℕ
 ranges_text BadCells = codes "cells are no number from 0 to 4"
 ranges_text (BadRows rows.BadLength) = codes "reg or ranges has no whole rows"
 ranges_text (BadRows rows.LargeNumber) = codes "an address or a size is above 64 bits"
+ranges_text (BadRows rows.TooMany) = codes "registers in too many ranges"
 ranges_text (BadRows rows.Memory) = codes "memory was refused"
 
 -- why ranges are no platform

@@ -6,7 +6,7 @@ use Rattle.device_tree.specs.declared.rows.Extent.{Extent}
 use Rattle.device_tree.specs.declared.registers.Found.{Found}
 use Rattle.device_tree.specs.declared.kinds.Kind.{Kind}
 use Rattle.device_tree.specs.declared.kinds.Kind.TheVariants.{Memory, Device, Machine}
-use Rattle.device_tree.specs.declared.kinds.Kind.TheVariants.{Reserved, Hart}
+use Rattle.device_tree.specs.declared.kinds.Kind.TheVariants.{Reserved, Hart, Untranslated}
 use Rattle.device_tree.specs.Meaning.{Range}
 
 -- what is said by one that the program found
@@ -41,6 +41,7 @@ pages_by Device extent = outer extent
 pages_by Machine extent = outer extent
 pages_by Reserved extent = outer extent
 pages_by Hart extent = span 0 0
+pages_by Untranslated extent = span 0 0
 
 -- the pages that a range of a board stands for
 abbrev pub pages_of : Range → PageRange

@@ -65,6 +65,7 @@ fn kind_text(kind: Kind) -> &'static str
         Kind::Machine => "machine mode's",
         Kind::Reserved => "no-map",
         Kind::Hart => "hart",
+        Kind::Untranslated => "on its bus",
     }
 }
 
@@ -85,6 +86,7 @@ fn rest_text(kind: Kind) -> &'static str
         Kind::Machine => ", with the rest of its pages",
         Kind::Reserved => ", with the rest of its pages",
         Kind::Hart => "",
+        Kind::Untranslated => "",
     }
 }
 
@@ -193,6 +195,7 @@ fn left_reason(kind: Kind) -> &'static str
         Kind::Machine => "; it is the timer of harts or interrupts them\n",
         Kind::Reserved => "; nothing else is to map it\n",
         Kind::Hart => "\n",
+        Kind::Untranslated => "; no bus translates it to an address of the root\n",
     }
 }
 
@@ -218,6 +221,7 @@ fn is_left<'a>(runs: &[Run], found: &Found<'a>) -> bool
         Kind::Device => !is_in_runs(runs, found),
         Kind::Machine => true,
         Kind::Reserved => true,
+        Kind::Untranslated => true,
     }
 }
 

@@ -65,6 +65,7 @@ fn ranges_text(reason: BoardReason) -> &'static [u8]
         BoardReason::BadRows(RowFault::LargeNumber) => {
             b"an address or a size is above 64 bits".as_slice()
         }
+        BoardReason::BadRows(RowFault::TooMany) => b"registers in too many ranges".as_slice(),
         BoardReason::BadRows(RowFault::Memory) => b"memory was refused".as_slice(),
     }
 }

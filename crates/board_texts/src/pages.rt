@@ -89,6 +89,7 @@ pub(crate) fn pages_of<'a>(found: &Found<'a>) -> PageRange
         Kind::Machine => outer(found.extent),
         Kind::Reserved => outer(found.extent),
         Kind::Hart => span(0, 0),
+        Kind::Untranslated => span(0, 0),
     }
 }
 

@@ -13,3 +13,4 @@ mod Uneven
 mod NoRanges
 mod Places
 mod OneList
+mod Pieces

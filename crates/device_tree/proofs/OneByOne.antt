@@ -1,19 +1,13 @@
 -- Rows one after another.
-use Rattle.std.proofs.Common.{◌≡◌, ℕ, ◌+◌, ◌*◌, ◌<◌, ◌≤◌, List, [], ◌∷◌, ◌++◌, Option, None, Some, drop, length, append_assoc, sym, subst, refl}
-use Rattle.std.specs.List.{filter_map}
+use Rattle.std.proofs.Common.{◌≡◌, ℕ, ◌+◌, ◌*◌, ◌<◌, ◌≤◌, List, [], ◌∷◌, ◌++◌, add-one, drop, drop-cons, get_or, length, append_assoc, ap, refl, suc, sym, subst, ◌∙◌}
 use Rattle.std.proofs.lemmas.List.{drop-drop}
 use Rattle.device_tree.specs.declared.cells.Cells.{Cells}
 use Rattle.device_tree.specs.declared.ways.Window.{Window}
 use Rattle.device_tree.specs.declared.rows.Extent.{Extent}
 use Rattle.device_tree.specs.Cells.{AreRows, number_of, row_len}
-use Rattle.device_tree.specs.Windows.{AreWindows, Path, as_list, behind_way, carried, window_len}
-
-kept : (seen : Option Window) → filter_map (λ (x : Option Window). x) (seen ∷ []) ≡ as_list seen
-kept None = refl
-kept (Some w) = refl
-
-pub one_window : (way : Path) (w : Window) → behind_way way (w ∷ []) ≡ as_list (carried way w)
-one_window way w = kept (carried way w)
+use Rattle.device_tree.specs.Windows.{AreWindows, Path, window_len}
+use Rattle.device_tree.specs.declared.kinds.Kind.{Kind}
+use Rattle.device_tree.specs.Meaning.{AreRanges, AreRowRanges, Range, is_plain}
 
 pub and_window : (cells : Cells) (outer : ℕ) (bytes : List ℕ) (at : ℕ) (before : List Window) (w : Window)
     → 0 < window_len cells outer → window_len cells outer ≤ length (drop at bytes)
@@ -41,3 +35,15 @@ and_row cells bytes at before w some long base size whole later are =
     subst (λ (x : List ℕ). AreRows cells x later) (sym (drop-drop (row_len cells) at bytes)) are in
     subst (λ (x : List Extent). AreRows cells bytes x) (sym (append_assoc before (w ∷ []) later))
     (whole (w ∷ later) (some, long, base, size, next))
+
+row_at : (rows : List Extent) (i : ℕ) (row d : Extent) → i < length rows → row ≡ get_or rows i d → drop i rows ≡ row ∷ drop (i + 1) rows
+row_at rows i row d inside is = rw add-one (drop-cons rows i d inside ∙ ap (λ x. x ∷ drop (suc i) rows) (sym is))
+
+pub and_ranges : (way : Path) (kind : Kind) (name : List ℕ) (rows : List Extent) (i : ℕ) (row d : Extent) → i < length rows → row ≡ get_or rows i d
+    → (before first : List Range) → ((later : List Range) → AreRanges way kind name (drop i rows) later → AreRanges way kind name rows (before ++ later))
+    → AreRowRanges (is_plain way kind) way kind name row first
+    → (later : List Range) → AreRanges way kind name (drop (i + 1) rows) later → AreRanges way kind name rows ((before ++ first) ++ later)
+and_ranges way kind name rows i row d inside is before first whole one later are =
+    let here : AreRanges way kind name (row ∷ drop (i + 1) rows) (first ++ later) = (first, later, one, are, refl) in
+    subst (λ (x : List Range). AreRanges way kind name rows x) (sym (append_assoc before first later))
+    (whole (first ++ later) (subst (λ (x : List Extent). AreRanges way kind name x (first ++ later)) (sym (row_at rows i row d inside is)) here))

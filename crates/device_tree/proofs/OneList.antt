@@ -1,19 +1,20 @@
 -- A tree says one list of ranges at most.
-use Rattle.std.proofs.Common.{◌≡◌, ℕ, ◌+◌, ◌*◌, List, [], ◌∷◌, ◌++◌, Option, None, Some, inl, inr, codes, drop, length, map, ap, ap₂, sym, subst, refl, ◌∙◌, arith}
+use Rattle.std.proofs.Common.{◌≡◌, ℕ, ◌+◌, ◌*◌, List, [], ◌∷◌, ◌++◌, Option, None, Some, Bool, true, false, inl, inr, codes, drop, length, map, ap, ap₂, sym, subst, refl, ◌∙◌, arith}
 use Rattle.std.proofs.lemmas.Option.{same_Some}
-use Rattle.std.specs.List.{filter_map}
 use Rattle.device_tree.specs.Pieces.{Part, has}
 use Rattle.device_tree.specs.Nodes.{Nodes, no_nodes, node, Tree}
 use Rattle.device_tree.specs.declared.cells.Cells.{Cells}
 use Rattle.device_tree.specs.declared.rows.Extent.{Extent}
+use Rattle.device_tree.specs.declared.ways.RowPart.{RowPart}
 use Rattle.device_tree.specs.declared.ways.Window.{Window}
 use Rattle.device_tree.specs.declared.kinds.Kind.{Kind}
 use Rattle.device_tree.specs.declared.kinds.Place.{Place}
 use Rattle.device_tree.specs.declared.kinds.Place.TheVariants.{BelowRoot}
 use Rattle.device_tree.specs.Cells.{AreRows, number_of, row_len}
-use Rattle.device_tree.specs.Windows.{AreWindows, Path, behind_way, by, same, window_len}
+use Rattle.device_tree.specs.Windows.{AreWindows, Path, bus_size, root_address, same, window_len}
 use Rattle.device_tree.specs.Properties.{value_in}
-use Rattle.device_tree.specs.Meaning.{AreCells, AreOwn, IsInnerWay, Range, Say, TreeSays, a_node, inner_place, live_kind, nothing, path_or, range_of}
+use Rattle.device_tree.proofs.Pieces.{same_parts}
+use Rattle.device_tree.specs.Meaning.{AreCells, AreOwn, AreRanges, AreRowRanges, IsInnerWay, IsPassedOn, Range, Say, TreeSays, a_node, inner_place, is_plain, live_kind, nothing, part_ranges, path_or}
 
 -- buses whose addresses and sizes have as many cells
 pub record SameCells (c d : Cells) : Type 0 where
@@ -60,22 +61,41 @@ same_windows c d o p bytes (x ∷ xs) (y ∷ ys) are e h w =
     let later = subst (λ n. AreWindows d p (drop n bytes) ys) row w.5 in
     ap₂ (λ (r : Window) (q : List Window). r ∷ q) (same_window x y child parent size) (same_windows c d o p (drop (window_len c o) bytes) xs ys are e h.5 later)
 
+same_row_ranges : (plain : Bool) (way : Path) (kind : Kind) (name : List ℕ) (row : Extent) (a b : List Range)
+    → AreRowRanges plain way kind name row a → AreRowRanges plain way kind name row b → a ≡ b
+same_row_ranges true way kind name row a b h w = h ∙ sym w
+same_row_ranges false way kind name row a b h w =
+    h.2 ∙ ap (λ (x : List RowPart). part_ranges kind name x) (same_parts (root_address way) row.base (bus_size row) h.0 w.0 h.1 w.1) ∙ sym w.2
+
+same_ranges : (way : Path) (kind : Kind) (name : List ℕ) (rows : List Extent) (a b : List Range)
+    → AreRanges way kind name rows a → AreRanges way kind name rows b → a ≡ b
+same_ranges way kind name [] a b h w = h ∙ sym w
+same_ranges way kind name (row ∷ rows) a b h w =
+    let first = same_row_ranges (is_plain way kind) way kind name row h.0 w.0 h.2 w.2 in
+    let later = same_ranges way kind name rows h.1 w.1 h.3 w.3 in
+    h.4 ∙ ap₂ (λ (x : List Range) (y : List Range). x ++ y) first later ∙ sym w.4
+
 same_own : (kind : Option Kind) (reg : Option (List ℕ)) (c d : Cells) (way : Path) (name : List ℕ) (a b : List Range) → SameCells c d
     → AreOwn kind reg c way name a → AreOwn kind reg d way name b → a ≡ b
 same_own None reg c d way name a b are h w = h ∙ sym w
 same_own (Some kind) None c d way name a b are h w = h ∙ sym w
 same_own (Some kind) (Some reg) c d way name a b are h w =
-    h.2 ∙ ap (λ (x : List Extent). filter_map (range_of way kind name) x) (same_rows c d reg h.0 w.0 are h.1 w.1) ∙ sym w.2
+    let rows : w.0 ≡ h.0 = same_rows d c reg w.0 h.0 (record { address = sym are.address; size = sym are.size }) w.1 h.1 in
+    same_ranges way kind name h.0 a b h.2 (subst (λ (x : List Extent). AreRanges way kind name x b) rows w.2)
+
+same_passed : (bytes : List ℕ) (c d : Cells) (o p : ℕ) (way : Path) (f g : Option Path) → SameCells c d → o ≡ p
+    → IsPassedOn bytes c o way f → IsPassedOn bytes d p way g → f ≡ g
+same_passed [] c d o p way f g are e h w = h ∙ sym w
+same_passed (byte ∷ bytes) c d o p way f g are e h w =
+    h.2 ∙ ap (λ (x : List Window). Some (x ∷ way)) (same_windows c d o p (byte ∷ bytes) h.0 w.0 are e h.1 w.1) ∙ sym w.2
 
 same_way : (ranges : Option (List ℕ)) (c d : Cells) (o p : ℕ) (way : Path) (f g : Option Path) → SameCells c d → o ≡ p
     → IsInnerWay ranges c o way f → IsInnerWay ranges d p way g → f ≡ g
 same_way None c d o p way f g are e h w = h ∙ sym w
-same_way (Some []) c d o p way f g are e h w = h ∙ sym w
-same_way (Some (byte ∷ bytes)) c d o p way f g are e (inl h) (inl w) = h.1 ∙ sym w.1
-same_way (Some (byte ∷ bytes)) c d o p way f g are e (inl h) (inr w) = absurd (omega (arith, h.0, w.0, are.address))
-same_way (Some (byte ∷ bytes)) c d o p way f g are e (inr h) (inl w) = absurd (omega (arith, h.0, w.0, are.address))
-same_way (Some (byte ∷ bytes)) c d o p way f g are e (inr h) (inr w) =
-    h.3 ∙ ap (λ (x : List Window). Some (by (behind_way way x))) (same_windows c d o p (byte ∷ bytes) h.1 w.1 are e h.2 w.2) ∙ sym w.3
+same_way (Some bytes) c d o p way f g are e (inl h) (inl w) = h.1 ∙ sym w.1
+same_way (Some bytes) c d o p way f g are e (inl h) (inr w) = absurd (omega (arith, h.0, w.0, are.address))
+same_way (Some bytes) c d o p way f g are e (inr h) (inl w) = absurd (omega (arith, h.0, w.0, are.address))
+same_way (Some bytes) c d o p way f g are e (inr h) (inr w) = same_passed bytes c d o p way f g are e h.1 w.1
 
 same_cells : (P : List Part) (c d : Cells) → AreCells P c → AreCells P d → SameCells c d
 same_cells P c d h w = record {

@@ -35,11 +35,19 @@ abbrev pub IsLargeRow : Cells → List ℕ → Type 0
 IsLargeRow cells bytes = (2 ^ 64 ≤ number_of cells.address bytes)
     ⊎ (2 ^ 64 ≤ number_of cells.size (drop (4 * cells.address) bytes))
 
--- why bytes are no rows of an address and a size. Of memory nothing is said
+-- why bytes are no rows of an address and a size. Of memory and of too many nothing is said
 abbrev pub IsRowFault : Cells → List ℕ → RowFault → Type 0
 IsRowFault cells bytes BadLength = IsUneven (row_len cells) bytes
 IsRowFault cells bytes LargeNumber = HasRow (row_len cells) bytes (IsLargeRow cells)
+IsRowFault cells bytes rows.TooMany = ⊤
 IsRowFault cells bytes rows.Memory = ⊤
+
+-- a fault of which nothing is said
+abbrev pub IsRefusal : RowFault → Type 0
+IsRefusal BadLength = ⊥
+IsRefusal LargeNumber = ⊥
+IsRefusal rows.TooMany = ⊤
+IsRefusal rows.Memory = ⊤
 
 -- one of the numbers of a row of `ranges` in front has more than 64 bits
 abbrev pub IsLargeWindow : Cells → ℕ → List ℕ → Type 0
@@ -52,6 +60,7 @@ abbrev pub IsWindowFault : Cells → ℕ → List ℕ → RowFault → Type 0
 IsWindowFault cells outer bytes BadLength = IsUneven (window_len cells outer) bytes
 IsWindowFault cells outer bytes LargeNumber =
     HasRow (window_len cells outer) bytes (IsLargeWindow cells outer)
+IsWindowFault cells outer bytes rows.TooMany = ⊥
 IsWindowFault cells outer bytes rows.Memory = ⊤
 
 -- the registers of a node count, and its `reg` has no rows
@@ -60,13 +69,16 @@ IsOwnFault None reg cells fault = ⊥
 IsOwnFault (Some kind) None cells fault = ⊥
 IsOwnFault (Some kind) (Some reg) cells fault = IsRowFault cells reg fault
 
--- the addresses of its children have at most two cells, and its `ranges` has no rows. An empty one
--- lacks memory alone
+-- a `ranges` has no rows. An empty one lacks memory alone
+abbrev pub IsPassFault : List ℕ → Cells → ℕ → RowFault → Type 0
+IsPassFault [] inner outer fault = fault ≡ rows.Memory
+IsPassFault (byte ∷ bytes) inner outer fault = IsWindowFault inner outer (byte ∷ bytes) fault
+
+-- the addresses of its children have at most two cells, and its `ranges` has no rows
 abbrev pub IsWayFault : Option (List ℕ) → Cells → ℕ → RowFault → Type 0
 IsWayFault None inner outer fault = ⊥
-IsWayFault (Some []) inner outer fault = fault ≡ rows.Memory
-IsWayFault (Some (byte ∷ bytes)) inner outer fault = (inner.address ≤ 2)
-    × IsWindowFault inner outer (byte ∷ bytes) fault
+IsWayFault (Some bytes) inner outer fault = (inner.address ≤ 2)
+    × IsPassFault bytes inner outer fault
 
 -- its cells are no numbers from 0 to 4
 abbrev pub HasNoCells : List Part → Type 0

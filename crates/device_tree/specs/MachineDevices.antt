@@ -1,7 +1,8 @@
 -- Devices that are machine mode's, by their property `compatible`. Devicetree Specification 0.4,
 -- section 2.3.1, and the bindings of the Linux kernel.
-use Rattle.std.specs.Prelude.{ℕ, Bool, false, ◌&&◌, ◌||◌, leb, ◌==◌, bytes_eq}
-use Rattle.std.specs.Prelude.{List, [], ◌∷◌, ◌++◌, Option, None, Some, length, take, codes}
+use Rattle.std.specs.Prelude.{ℕ, zero, suc, ◌/◌, Bool, false, ◌&&◌, ◌||◌, leb, ◌==◌, bytes_eq}
+use Rattle.std.specs.Prelude.{List, [], ◌∷◌, ◌++◌, Option, None, Some, length, take, drop, codes}
+use Rattle.byteorder.specs.Endian.{big_number}
 
 -- the bytes begin with the text
 abbrev pub is_front : List ℕ → List ℕ → Bool
@@ -41,8 +42,33 @@ abbrev pub is_sender : List ℕ → Bool
 is_sender bytes = is_listed (codes "riscv,aclint-mswi") bytes
     || is_listed (codes "thead,c900-aclint-mswi") bytes
 
--- the property `compatible` says that a device is machine mode's
-abbrev pub is_machine : Option (List ℕ) → Bool
-is_machine None = false
-is_machine (Some bytes) = is_clint bytes
-    || (is_sifive_clint bytes || (is_timer bytes || is_sender bytes))
+-- the device is the timer of harts, or what sends them software interrupts, of Andes
+abbrev pub is_andes : List ℕ → Bool
+is_andes bytes = is_listed (codes "andestech,plmt0") bytes
+    || is_listed (codes "andestech,plicsw") bytes
+
+-- the device is an interrupt controller of the Advanced Interrupt Architecture, of one privilege
+abbrev pub is_controller : List ℕ → Bool
+is_controller bytes = is_listed (codes "riscv,aplic") bytes
+    || is_listed (codes "riscv,imsics") bytes
+
+-- one of these pairs of cells, a hart's controller and the number of an interrupt of the hart, has
+-- the external interrupt of machine mode
+abbrev pub has_machine_interrupt : ℕ → List ℕ → Bool
+has_machine_interrupt zero bytes = false
+has_machine_interrupt (suc pairs) bytes = (leb 8 (length bytes)
+    && big_number 4 (drop 4 bytes) == 11)
+    || has_machine_interrupt pairs (drop 8 bytes)
+
+-- `interrupts-extended` says that a device interrupts harts in machine mode
+abbrev pub interrupts_machine : Option (List ℕ) → Bool
+interrupts_machine None = false
+interrupts_machine (Some bytes) = has_machine_interrupt (length bytes / 8) bytes
+
+-- a device of this `compatible` is machine mode's: by it alone, or as a controller that interrupts
+-- harts in machine mode or delegates to others
+abbrev pub is_machine : Option (List ℕ) → Option (List ℕ) → Bool → Bool
+is_machine None interrupts delegates = false
+is_machine (Some bytes) interrupts delegates = (is_clint bytes || is_sifive_clint bytes)
+    || ((is_timer bytes || is_sender bytes)
+    || (is_andes bytes || (is_controller bytes && (delegates || interrupts_machine interrupts))))

@@ -1,22 +1,22 @@
 -- What the nodes of a tree say of memory and devices.
 use Rattle.std.specs.Prelude.{◌≡◌, ◌⊎◌, ℕ, ◌<◌, ◌≤◌, Bool, true, false, cond, ◌&&◌, bytes_eq}
 use Rattle.std.specs.Prelude.{List, [], ◌∷◌, ◌++◌}
-use Rattle.std.specs.Prelude.{Option, None, Some, option_map, codes, map}
-use Rattle.std.specs.List.{filter_map}
+use Rattle.std.specs.Prelude.{Option, None, Some, codes, map}
 use Rattle.device_tree.specs.Pieces.{Part, Setting, has}
 use Rattle.device_tree.specs.Nodes.{Nodes, no_nodes, node, Tree}
 use Rattle.device_tree.specs.declared.cells.Cells.{Cells}
 use Rattle.device_tree.specs.declared.rows.Extent.{Extent}
 use Rattle.device_tree.specs.declared.kinds.Kind.{Kind}
 use Rattle.device_tree.specs.declared.kinds.Kind.TheVariants.{Memory, Device, Machine}
-use Rattle.device_tree.specs.declared.kinds.Kind.TheVariants.{Reserved, Hart}
+use Rattle.device_tree.specs.declared.kinds.Kind.TheVariants.{Reserved, Hart, Untranslated}
 use Rattle.device_tree.specs.declared.kinds.Place.{Place}
 use Rattle.device_tree.specs.declared.kinds.Place.TheVariants.{BelowRoot, InReserved}
 use Rattle.device_tree.specs.declared.kinds.Place.TheVariants.{OnBus, Elsewhere}
+use Rattle.device_tree.specs.declared.ways.RowPart.{RowPart}
 use Rattle.device_tree.specs.declared.ways.Window.{Window}
 use Rattle.device_tree.specs.declared.registers.Found.{Found}
 use Rattle.device_tree.specs.Cells.{AreRows}
-use Rattle.device_tree.specs.Windows.{AreWindows, Path, by, same, at_root, behind_way}
+use Rattle.device_tree.specs.Windows.{AreParts, AreWindows, Path, bus_size, root_address, same}
 use Rattle.device_tree.specs.Properties.{value_in, cells_in, is_okay}
 use Rattle.device_tree.specs.MachineDevices.{is_machine}
 
@@ -59,39 +59,88 @@ kind_by OnBus hart memory unmapped machine = cond hart (Some Hart)
 abbrev pub kind_of : Place → List Part → Option Kind
 kind_of place properties = kind_by place (has_type (codes "cpu") properties)
     (has_type (codes "memory") properties) (is_there (value_in (codes "no-map") properties))
-    (is_machine (value_in (codes "compatible") properties))
+    (is_machine (value_in (codes "compatible") properties)
+    (value_in (codes "interrupts-extended") properties)
+    (is_there (value_in (codes "riscv,children") properties)))
 
 -- the same, and nothing if the node is not in use
 abbrev pub live_kind : Place → List Part → Option Kind
 live_kind place properties = cond (is_okay properties) (kind_of place properties) None
 
--- a row of registers as a range, where the root has its addresses
-abbrev pub range_of : Path → Kind → List ℕ → Extent → Option Range
-range_of way kind name row = option_map
-    (λ (extent : Extent). record { kind = kind; extent = extent; name = name }) (at_root way row)
+-- a range of a node
+abbrev pub range_of : Kind → List ℕ → ℕ → ℕ → Range
+range_of kind name base size = record {
+  kind = kind;
+  extent = record { base = base; size = size };
+  name = name;
+}
+
+-- a part of a row of registers as a range, by its address at the root, or by that on its bus where
+-- the root has none
+abbrev pub part_range : Kind → List ℕ → RowPart → Option ℕ → Range
+part_range kind name part None = range_of Untranslated name part.base part.size
+part_range kind name part (Some base) = range_of kind name base part.size
+
+-- the parts of a row of registers as ranges
+abbrev pub part_ranges : Kind → List ℕ → List RowPart → List Range
+part_ranges kind name parts = map (λ (part : RowPart). part_range kind name part part.root) parts
+
+-- the numbers of harts are translated by no bus
+abbrev pub is_number : Kind → Bool
+is_number Hart = true
+is_number Memory = false
+is_number Device = false
+is_number Machine = false
+is_number Reserved = false
+is_number Untranslated = false
+
+-- a row needs no translation: it has addresses of the root, or it is the number of a hart
+abbrev pub is_plain : Path → Kind → Bool
+is_plain [] kind = true
+is_plain (bus ∷ outer) kind = is_number kind
+
+-- the ranges that a row of registers is: itself, or else its parts, as the buses translate them
+abbrev pub AreRowRanges : Bool → Path → Kind → List ℕ → Extent → List Range → Type 0
+AreRowRanges true way kind name row ranges = ranges
+    ≡ range_of kind name row.base row.size ∷ []
+AreRowRanges false way kind name row ranges = (parts : List RowPart)
+    × AreParts (root_address way) row.base (bus_size row) parts
+    × (ranges ≡ part_ranges kind name parts)
+
+-- the ranges that rows of registers are, one row after the other
+abbrev pub AreRanges : Path → Kind → List ℕ → List Extent → List Range → Type 0
+AreRanges way kind name [] ranges = ranges ≡ []
+AreRanges way kind name (row ∷ rows) ranges = (first : List Range) × (later : List Range)
+    × AreRowRanges (is_plain way kind) way kind name row first
+    × AreRanges way kind name rows later
+    × (ranges ≡ first ++ later)
 
 -- the ranges that a node's own registers are
 abbrev pub AreOwn : Option Kind → Option (List ℕ) → Cells → Path → List ℕ → List Range → Type 0
 AreOwn None reg cells way name ranges = ranges ≡ []
 AreOwn (Some kind) None cells way name ranges = ranges ≡ []
 AreOwn (Some kind) (Some reg) cells way name ranges = (rows : List Extent) × AreRows cells reg rows
-    × (ranges ≡ filter_map (range_of way kind name) rows)
+    × AreRanges way kind name rows ranges
 
 -- the cells that the properties of a node give its children
 pub record AreCells (properties : List Part) (cells : Cells) : Type 0 where
   pub address : cells_in 2 (value_in (codes "#address-cells") properties) ≡ Some cells.address
   pub size : cells_in 1 (value_in (codes "#size-cells") properties) ≡ Some cells.size
 
--- how the addresses of its children come to the root: not at all without `ranges`; as its own
--- where it is empty; else by its rows, but not where an address has more than two cells
+-- how a bus with this `ranges` hands addresses on: an empty one changes nothing
+abbrev pub IsPassedOn : List ℕ → Cells → ℕ → Path → Option Path → Type 0
+IsPassedOn [] inner outer way found = found ≡ Some way
+IsPassedOn (byte ∷ bytes) inner outer way found = (windows : List Window)
+    × AreWindows inner outer (byte ∷ bytes) windows
+    × (found ≡ Some (windows ∷ way))
+
+-- how the addresses of its children become those of the root: not at all without `ranges`, nor
+-- where an address has more than two cells, the first of which is no part of it; as its own where
+-- `ranges` is empty; else by its rows
 abbrev pub IsInnerWay : Option (List ℕ) → Cells → ℕ → Path → Option Path → Type 0
 IsInnerWay None inner outer way found = found ≡ None
-IsInnerWay (Some []) inner outer way found = found ≡ Some way
-IsInnerWay (Some (byte ∷ bytes)) inner outer way found =
-    ((2 < inner.address) × (found ≡ None))
-    ⊎ ((inner.address ≤ 2) × (windows : List Window)
-    × AreWindows inner outer (byte ∷ bytes) windows
-    × (found ≡ Some (by (behind_way way windows))))
+IsInnerWay (Some bytes) inner outer way found = ((2 < inner.address) × (found ≡ None))
+    ⊎ ((inner.address ≤ 2) × IsPassedOn bytes inner outer way found)
 
 -- what is said by what the program found
 abbrev pub said_of : List Found → List Range
@@ -100,11 +149,6 @@ said_of found = map (λ (one : Found). record {
   extent = one.extent;
   name = one.name.now;
 }) found
-
--- the range, if there is one
-abbrev pub as_ranges : Option Range → List Range
-as_ranges None = []
-as_ranges (Some range) = range ∷ []
 
 -- where the children of a node are, by its own place and by whether it is `/reserved-memory`, is in
 -- use, and hands its children's addresses on

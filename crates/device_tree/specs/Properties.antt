@@ -18,11 +18,14 @@ cells_in default None = Some default
 cells_in default (Some value) = cond (eqb (length value) 4 && leb (big_number 4 value) 4)
     (Some (big_number 4 value)) None
 
+-- a value is this text, with the zero that ends it or without
+abbrev pub is_text : List ℕ → List ℕ → Bool
+is_text text value = bytes_eq value (text ++ 0 ∷ []) || bytes_eq value text
+
 -- the node is in use: nothing is said of it, or that it is okay
 abbrev pub is_okay_value : Option (List ℕ) → Bool
 is_okay_value None = true
-is_okay_value (Some value) = bytes_eq value (codes "okay" ++ 0 ∷ [])
-    || bytes_eq value (codes "ok" ++ 0 ∷ [])
+is_okay_value (Some value) = is_text (codes "okay") value || is_text (codes "ok") value
 
 -- a node is in use: it has no status, or `okay` or `ok`
 abbrev pub is_okay : List Part → Bool

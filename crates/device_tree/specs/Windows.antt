@@ -1,13 +1,14 @@
--- How a bus hands addresses on: its `ranges`. Devicetree Specification 0.4, section 2.3.8.
-use Rattle.std.specs.Prelude.{◌≡◌, ℕ, ◌+◌, ◌-◌, ◌*◌, ◌<◌, ◌≤◌, ◌&&◌, Bool, cond, leb, ltb, ◌^◌}
-use Rattle.std.specs.Prelude.{List, [], ◌∷◌}
-use Rattle.std.specs.Prelude.{Option, None, Some, option_map, length, drop}
-use Rattle.std.specs.List.{filter_map}
+-- How a bus translates addresses: its `ranges`. Devicetree Specification 0.4, section 2.3.8.
+use Rattle.std.specs.Prelude.{◌≡◌, ◌≢◌, ◌⊎◌, ℕ, zero, suc, ◌+◌, ◌-◌, ◌*◌, ◌<◌, ◌≤◌, ◌^◌, min}
+use Rattle.std.specs.Prelude.{Bool, true, false, cond, leb, ltb, eqb, ◌&&◌}
+use Rattle.std.specs.Prelude.{List, [], ◌∷◌, Option, None, Some, option_map, length, drop}
+use Rattle.std.specs.Option.{option_and_then}
 use Rattle.device_tree.specs.declared.cells.Cells.{Cells}
 use Rattle.device_tree.specs.declared.rows.Extent.{Extent}
+use Rattle.device_tree.specs.declared.ways.RowPart.{RowPart}
+use Rattle.device_tree.specs.declared.ways.Step.{Step}
 use Rattle.device_tree.specs.declared.ways.Window.{Window}
-use Rattle.device_tree.specs.declared.ways.Way.{Way}
-use Rattle.device_tree.specs.declared.ways.Way.TheVariants.{Same, By}
+use Rattle.device_tree.specs.declared.ways.Way.{Way, Same, Bus'}
 use Rattle.device_tree.specs.Cells.{number_of}
 
 -- how many bytes a row of `ranges` has: an address of the bus, one of its parent, and a size
@@ -24,52 +25,97 @@ AreWindows cells outer bytes (first ∷ later) = (0 < window_len cells outer)
     × (first.size ≡ number_of cells.size (drop (4 * (cells.address + outer)) bytes))
     × AreWindows cells outer (drop (window_len cells outer) bytes) later
 
--- all bytes of the extent are the window's, and where it shows them they have addresses of 64 bits
-abbrev pub is_inside : Window → Extent → Bool
-is_inside window extent = leb window.child extent.base
-    && leb (extent.base - window.child + extent.size) window.size
-    && ltb (window.parent + (extent.base - window.child) + extent.size) (2 ^ 64)
+-- a window translates an address of the bus: it contains the address, and the address that it
+-- becomes has 64 bits
+abbrev pub has_address : Window → ℕ → Bool
+has_address window address = leb window.child address
+    && (ltb (address - window.child) window.size
+    && ltb (window.parent + (address - window.child)) (2 ^ 64))
 
--- where a window shows an extent
-abbrev pub shown : Window → Extent → Extent
-shown window extent = record {
-  base = window.parent + (extent.base - window.child);
-  size = extent.size;
-}
+-- the address of the parent that an address of the bus is, by the first window that translates it
+abbrev pub parent_address : List Window → ℕ → Option ℕ
+parent_address [] address = None
+parent_address (first ∷ later) address = cond (has_address first address)
+    (Some (first.parent + (address - first.child))) (parent_address later address)
 
--- where the first window around the extent shows it
-abbrev pub through : List Window → Extent → Option Extent
-through [] extent = None
-through (first ∷ later) extent = cond (is_inside first extent) (Some (shown first extent))
-    (through later extent)
+-- the buses between some nodes and the root, the nearest first, each by its windows
+abbrev pub Path : Type 0
+Path = List (List Window)
 
--- where the root has the addresses of a bus: at the same ones, or where the first window around
--- them shows them
-pub data Path : Type 0 where
-  same : Path
-  by : List Window → Path
+-- addresses that are the root's own
+abbrev pub same : Path
+same = []
 
--- what the program's way says
+-- the address of the root that an address of the bus is, level by level
+abbrev pub root_address : Path → ℕ → Option ℕ
+root_address [] address = Some address
+root_address (bus ∷ outer) address = option_and_then (root_address outer)
+    (parent_address bus address)
+
+-- what the program's way means
 abbrev pub path_of : Way → Path
-path_of Same = same
-path_of (By windows) = by windows.items
+path_of Same = []
+path_of (Bus' p windows outer) = windows.items ∷ path_of outer
 
--- where the root has an extent: at the same addresses, or where a window shows it
+-- so many bytes further on, if it is an address at all
+abbrev pub moved : ℕ → Option ℕ → Option ℕ
+moved bytes address = option_map (λ (a : ℕ). a + bytes) address
+
+-- from an address on, so many bytes of a bus are as many of the root, in one piece, or all of them
+-- are none of it
+abbrev pub IsPiece : (ℕ → Option ℕ) → ℕ → ℕ → Type 0
+IsPiece root address size = (k : ℕ) → k < size → root (address + k) ≡ moved k (root address)
+
+-- bytes from an address on are these parts, one behind the other: each is a piece that ends where
+-- the bytes do or could not be longer
+abbrev pub AreParts : (ℕ → Option ℕ) → ℕ → ℕ → List RowPart → Type 0
+AreParts root address size [] = size ≡ 0
+AreParts root address size (first ∷ later) = (first.base ≡ address)
+    × (0 < first.size) × (first.size ≤ size)
+    × (first.root ≡ root address)
+    × IsPiece root address first.size
+    × ((first.size ≡ size) ⊎ (root (address + first.size) ≢ moved first.size (root address)))
+    × AreParts root (address + first.size) (size - first.size) later
+
+-- how many bytes of an extent have addresses of 64 bits
+abbrev pub bus_size : Extent → ℕ
+bus_size extent = min extent.size (2 ^ 64 - extent.base)
+
+-- the same address, or none twice
+abbrev pub is_same_address : Option ℕ → Option ℕ → Bool
+is_same_address None None = true
+is_same_address None (Some b) = false
+is_same_address (Some a) None = false
+is_same_address (Some a) (Some b) = eqb a b
+
+-- so many bytes from an address on are a piece
+abbrev pub is_piece : (ℕ → Option ℕ) → ℕ → ℕ → Bool
+is_piece root address zero = true
+is_piece root address (suc size) = is_piece root address size
+    && is_same_address (root (address + size)) (moved size (root address))
+
+-- where these addresses have an extent of a bus, all of it and in one piece
+abbrev pub in_one_piece : (ℕ → Option ℕ) → Extent → Option Extent
+in_one_piece root extent = cond
+    (leb (extent.base + extent.size) (2 ^ 64) && is_piece root extent.base extent.size)
+    (option_map (λ (base : ℕ). record { base = base; size = extent.size }) (root extent.base))
+    None
+
+-- where the root has an extent of a bus, all of it and in one piece
 abbrev pub at_root : Path → Extent → Option Extent
-at_root same extent = Some extent
-at_root (by windows) extent = through windows extent
+at_root [] extent = Some extent
+at_root (bus ∷ outer) extent = in_one_piece (root_address (bus ∷ outer)) extent
 
--- a window of a bus inside another: where the root has it, if the other bus shows all of it
-abbrev pub carried : Path → Window → Option Window
-carried way window = option_map
-    (λ (seen : Extent). record { child = window.child; parent = seen.base; size = window.size })
-    (at_root way (record { base = window.parent; size = window.size }))
+-- a step tells where the root has an address, and of how many bytes it tells so
+pub record IsStep (root : ℕ → Option ℕ) (address : ℕ) (step : Step) : Type 0 where
+  pub some : 0 < step.len
+  pub is_root : step.root ≡ root address
+  pub piece : IsPiece root address step.len
 
--- the windows of a bus inside another
-abbrev pub behind_way : Path → List Window → List Window
-behind_way way windows = filter_map (carried way) windows
-
--- the window, if there is one
-abbrev pub as_list : Option Window → List Window
-as_list None = []
-as_list (Some window) = window ∷ []
+-- the part begins at the address, is a piece, and has at most so many bytes
+pub record IsPart (root : ℕ → Option ℕ) (address most : ℕ) (part : RowPart) : Type 0 where
+  pub base : part.base ≡ address
+  pub some : 0 < part.size
+  pub within : part.size ≤ most
+  pub is_root : part.root ≡ root address
+  pub piece : IsPiece root address part.size

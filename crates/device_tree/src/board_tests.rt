@@ -7,7 +7,7 @@ use std::alloc::Global;
 use std::process::Abort;
 
 /// Memory of 4 KiB at 0x80000000. A bus, whose first 4 KiB are at 0x10000000, with a UART at 0x100 of eight bytes, a device that is
-/// disabled, and one that its window has not whole. Each has addresses and sizes of one cell. `dtc` made it.
+/// disabled, and one of which its window has the first half. Each has addresses and sizes of one cell. `dtc` made it.
 #[rattlefmt::skip]
 const SMALL: [u8; 433] = [
     0xd0, 0x0d, 0xfe, 0xed, 0, 0, 0x01, 0xb1, 0, 0, 0, 0x38, 0, 0, 0x01, 0x78, 0, 0, 0, 0x28, 0, 0,
@@ -38,18 +38,21 @@ fn expect_range(rt: &impl Abort, found: Found, kind: Kind, base: u64, size: u64)
     assert!(rt; found.extent == Extent { base, size });
 }
 
-fn expect_two<'a>(rt: &impl Abort, alloc: Global, pieces: &'a [PlacedPiece<'a>]) {
+fn expect_four<'a>(rt: &impl Abort, alloc: Global, pieces: &'a [PlacedPiece<'a>]) {
     let found = ranges_of(alloc, pieces).expect(rt, "ranges");
-    assert!(rt; found.len() == 2);
+    assert!(rt; found.len() == 4);
     expect_range(rt, found[0], Kind::Memory, 0x8000_0000, 0x1000);
     assert!(rt; found[0].name == b"memory@80000000".as_slice());
     expect_range(rt, found[1], Kind::Device, 0x1000_0100, 8);
     assert!(rt; found[1].name == b"uart@100".as_slice());
+    expect_range(rt, found[2], Kind::Device, 0x1000_0ff0, 0x10);
+    expect_range(rt, found[3], Kind::Untranslated, 0x1000, 0x10);
+    assert!(rt; found[3].name == b"edge@ff0".as_slice());
 }
 
 fn expect_small(rt: &impl Abort, alloc: Global) {
     let tree = read_tree(alloc, SMALL.as_slice()).expect(rt, "a tree");
-    expect_two(rt, alloc, tree.pieces.as_slice());
+    expect_four(rt, alloc, tree.pieces.as_slice());
 }
 
 #[test]

@@ -7,12 +7,15 @@ pub enum Kind {
     Memory,
     /// Registers of a device.
     Device,
-    /// Registers of a device that is machine mode's: the timer or the software interrupts of harts.
+    /// Registers of a device that is machine mode's: the timer or the software interrupts of harts, or an interrupt controller of
+    /// machine mode.
     Machine,
     /// Memory that is not to be mapped.
     Reserved,
     /// A hart: its numbers, each with a size of no cells.
     Hart,
+    /// Registers at addresses of their bus that are no addresses of the root.
+    Untranslated,
 }
 
 /// Where a node is.

@@ -1,9 +1,11 @@
 //! Devices that are machine mode's.
 
-ghost use Rattle.std.specs.Prelude.{◌≡◌, ◌+◌, ◌≤◌, option_map};
-ghost use Rattle.device_tree.specs.MachineDevices.{follows_zero, has_text, is_clint, is_front, is_machine, is_sender, is_sifive_clint, is_timer};
+ghost use Rattle.std.specs.Prelude.{◌≡◌, ◌+◌, ◌≤◌, ◌/◌, ◌&&◌, ◌==◌, drop, leb, length, option_map};
+ghost use Rattle.byteorder.specs.Endian.{big_number};
+ghost use Rattle.device_tree.specs.MachineDevices.{follows_zero, has_machine_interrupt, has_text, interrupts_machine, is_andes, is_clint, is_controller, is_front, is_machine, is_sender, is_sifive_clint, is_timer};
 
 use crate::bytes::after;
+use byteorder::{BigEndian, ByteOrder};
 
 /// Whether the bytes begin with the text.
 fn is_front(bytes: &[u8], text: &[u8]) -> bool
@@ -74,15 +76,76 @@ fn is_sender(bytes: &[u8]) -> bool
     has_text(bytes, b"thead,c900-aclint-mswi\0".as_slice())
 }
 
-/// Whether a device is machine mode's, by its `compatible`.
-pub(crate) fn is_machine(compatible: Option<&[u8]>) -> bool
-    ensures { result ≡ is_machine (option_map (λ bytes. bytes.now) compatible.entry) }
+/// Whether a device is the timer of harts, or what sends them software interrupts, of Andes.
+fn is_andes(bytes: &[u8]) -> bool
+    ensures { result ≡ is_andes bytes.now }
+{
+    if has_text(bytes, b"andestech,plmt0\0".as_slice()) {
+        return true;
+    }
+    has_text(bytes, b"andestech,plicsw\0".as_slice())
+}
+
+/// Whether a device is an interrupt controller of the Advanced Interrupt Architecture.
+fn is_controller(bytes: &[u8]) -> bool
+    ensures { result ≡ is_controller bytes.now }
+{
+    if has_text(bytes, b"riscv,aplic\0".as_slice()) {
+        return true;
+    }
+    has_text(bytes, b"riscv,imsics\0".as_slice())
+}
+
+/// The external interrupt of machine mode.
+const MACHINE_INTERRUPT: u32 = 11;
+
+/// Whether a pair of cells in front has the external interrupt of machine mode.
+fn is_machine_pair(bytes: &[u8]) -> bool
+    requires { 8 ≤ length bytes.now }
+    ensures { result ≡ (leb 8 (length bytes.now) && big_number 4 (drop 4 bytes.now) == 11) }
+{
+    BigEndian::read_u32(after(bytes, 4)) == MACHINE_INTERRUPT
+}
+
+/// Whether one of the pairs of cells has that interrupt.
+fn has_machine_interrupt(bytes: &[u8]) -> bool
+    ensures { result ≡ has_machine_interrupt (length bytes.now / 8) bytes.now }
+{
+    let mut rest = bytes;
+    'pairs: while rest.len() >= 8 {
+        if is_machine_pair(rest) {
+            return true;
+        }
+        rest = after(rest, 8);
+    }
+    false
+}
+
+/// Whether a device interrupts harts in machine mode.
+fn interrupts_machine(interrupts: Option<&[u8]>) -> bool
+    ensures { result ≡ interrupts_machine (option_map (λ bytes. bytes.now) interrupts.entry) }
+{
+    match interrupts {
+        Some(bytes) => has_machine_interrupt(bytes),
+        None => false,
+    }
+}
+
+/// Whether a device is machine mode's, by its `compatible`, or as a controller that interrupts harts in machine mode or delegates
+/// to others.
+pub(crate) fn is_machine(
+    compatible: Option<&[u8]>,
+    interrupts: Option<&[u8]>,
+    delegates: bool,
+) -> bool
+    ensures { result ≡ is_machine (option_map (λ bytes. bytes.now) compatible.entry)
+        (option_map (λ bytes. bytes.now) interrupts.entry) delegates }
 {
     match compatible {
-        Some(bytes) => is_clint(bytes)
-            || is_sifive_clint(bytes)
-            || is_timer(bytes)
-            || is_sender(bytes),
+        Some(bytes) => (is_clint(bytes) || is_sifive_clint(bytes))
+            || ((is_timer(bytes) || is_sender(bytes))
+                || (is_andes(bytes)
+                    || (is_controller(bytes) && (delegates || interrupts_machine(interrupts))))),
         None => false,
     }
 }

@@ -2,8 +2,8 @@
 
 ghost use Rattle.std.specs.Prelude.{◌≡◌, ◌≤◌, ◌++◌, ℕ, List, Some, IfErr, IfOk, OnOk, option_map};
 ghost use Rattle.device_tree.specs.Windows.{path_of};
-ghost use Rattle.device_tree.specs.Meaning.{AreOwn, IsInnerWay, Range, place_by, said_of};
-ghost use Rattle.device_tree.specs.BoardRefusals.{IsOwnFault, IsRowFault, IsWayFault};
+ghost use Rattle.device_tree.specs.Meaning.{AreOwn, IsInnerWay, IsPassedOn, Range, place_by, said_of};
+ghost use Rattle.device_tree.specs.BoardRefusals.{IsOwnFault, IsPassFault, IsRowFault, IsWayFault};
 
 use crate::cells::Cells;
 use crate::kinds::{Kind, Place};
@@ -31,7 +31,7 @@ fn note_registers<'a>(
         Ok(rows) => rows,
         Err(fault) => return Err(fault),
     };
-    note_rows(rows.as_slice(), way, node, found)
+    note_rows(alloc, rows.as_slice(), way, node, found)
 }
 
 /// Notes the registers of a node, if they are of a kind.
@@ -59,7 +59,29 @@ pub(crate) fn note_own<'a>(
     note_registers(alloc, reg, bus, (kind, name, offset), found)
 }
 
-/// How the addresses of a node's children come to the root, by its `ranges`; none where they do not.
+/// How a bus with this `ranges` hands addresses on.
+fn passed_on(
+    alloc: Global,
+    ranges: &[u8],
+    inner: &Cells,
+    outer: usize,
+    way: &Way,
+) -> Result<Way, RowFault>
+    requires { outer ≤ 4 }
+    ensures found { IfOk result (λ found. IsPassedOn ranges.now inner.now outer
+        (path_of way.now) (Some (path_of found))) }
+    ensures refused { IfErr result (IsPassFault ranges.now inner.now outer) }
+{
+    if ranges.is_empty() {
+        return way.copied();
+    }
+    match windows_of(alloc, ranges, inner, outer) {
+        Ok(windows) => way.behind(alloc, windows),
+        Err(fault) => Err(fault),
+    }
+}
+
+/// How the addresses of a node's children become those of the root, by its `ranges`; none where they do not.
 pub(crate) fn inner_way(
     alloc: Global,
     ranges: Option<&[u8]>,
@@ -77,17 +99,11 @@ pub(crate) fn inner_way(
     let Some(ranges) = ranges else {
         return Ok(None);
     };
-    if ranges.is_empty() {
-        return match way.copied(alloc) {
-            Ok(same) => Ok(Some(same)),
-            Err(fault) => Err(fault),
-        };
-    }
     if inner.address > 2 {
         return Ok(None);
     }
-    match windows_of(alloc, ranges, inner, outer, way) {
-        Ok(windows) => Ok(Some(Way::By(windows))),
+    match passed_on(alloc, ranges, inner, outer, way) {
+        Ok(way) => Ok(Some(way)),
         Err(fault) => Err(fault),
     }
 }

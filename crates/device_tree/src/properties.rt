@@ -44,7 +44,10 @@ fn is_okay_value(status: Option<&[u8]>) -> bool
     ensures { result ≡ is_okay_value (option_map (λ bytes. bytes.now) status.entry) }
 {
     match status {
-        Some(status) => status == b"okay\0".as_slice() || status == b"ok\0".as_slice(),
+        Some(status) => {
+            (status == b"okay\0".as_slice() || status == b"okay".as_slice())
+                || (status == b"ok\0".as_slice() || status == b"ok".as_slice())
+        }
         None => true,
     }
 }

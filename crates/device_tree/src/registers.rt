@@ -1,21 +1,20 @@
 //! The ranges that a node's own registers are.
 
-ghost use Rattle.std.specs.Prelude.{◌≡◌, ◌<◌, ◌≤◌, ◌++◌, ℕ, List, Option, IfErr, MatchOption, OnOk, option_map, codes, map};
-ghost use Rattle.std.specs.List.{filter_map};
+ghost use Rattle.std.specs.Prelude.{◌≡◌, ◌<◌, ◌≤◌, ◌++◌, ◌∷◌, [], ℕ, List, Option, IfErr, MatchOption, OnOk, option_map, codes, map};
 ghost use Rattle.device_tree.specs.Pieces.{parts_of};
-ghost use Rattle.device_tree.specs.Cells.{AreRows};
 ghost use Rattle.device_tree.specs.Windows.{path_of};
 ghost use Rattle.device_tree.specs.Properties.{value_in};
-ghost use Rattle.device_tree.specs.BoardRefusals.{HasNoCells};
-ghost use Rattle.device_tree.specs.Meaning.{AreCells, AreOwn, IsInnerWay, as_ranges, Range, device_by, has_type, is_there, is_value, kind_by, kind_of, live_kind, range_of, said_of};
+ghost use Rattle.device_tree.specs.BoardRefusals.{HasNoCells, IsRefusal};
+ghost use Rattle.device_tree.specs.Meaning.{AreCells, AreRanges, AreRowRanges, Range, device_by, has_type, is_plain, is_there, is_value, kind_by, kind_of, live_kind, part_range, part_ranges, range_of, said_of};
 
 use crate::PlacedPiece;
 use crate::cells::Cells;
 use crate::kinds::{Kind, Place};
 use crate::machine_devices::is_machine;
+use crate::parts::parts_of;
 use crate::properties::{cells_in, is_okay, value_of};
-use crate::rows::{Extent, RowFault, rows_of};
-use crate::ways::{Way, windows_of};
+use crate::rows::{Extent, RowFault};
+use crate::ways::{RowPart, Way};
 use std::alloc::Global;
 
 /// A range of addresses, and the node that says so: its name, and the offset at which it begins.
@@ -112,7 +111,12 @@ pub fn kind_of<'a>(place: Place, properties: &'a [PlacedPiece<'a>]) -> Option<Ki
     let is_hart = is_value(device_type, b"cpu\0".as_slice());
     let is_memory = is_value(device_type, b"memory\0".as_slice());
     let is_unmapped = is_there(value_of(properties, b"no-map".as_slice()));
-    let is_machine = is_machine(value_of(properties, b"compatible".as_slice()));
+    let delegates = is_there(value_of(properties, b"riscv,children".as_slice()));
+    let is_machine = is_machine(
+        value_of(properties, b"compatible".as_slice()),
+        value_of(properties, b"interrupts-extended".as_slice()),
+        delegates,
+    );
     kind_by(place, is_hart, is_memory, is_unmapped, is_machine)
 }
 
@@ -136,21 +140,24 @@ pub fn cells_of<'a>(properties: &'a [PlacedPiece<'a>]) -> Option<Cells>
     Some(Cells { address, size })
 }
 
-/// Notes a row of registers, where the root has it.
-fn note_row<'a>(
-    row: Extent,
-    way: &Way,
+/// The number of ranges that a tree has at most.
+const MOST_RANGES: usize = 1 << 18;
+
+/// Notes a range.
+fn note<'a>(
+    kind: Kind,
+    extent: Extent,
     node: (Kind, &'a [u8], usize),
     found: &mut Vec<Found<'a>>,
 ) -> Result<(), RowFault>
     ensures noted { OnOk result (said_of found.new.items ≡ said_of found.old.items
-        ++ as_ranges (range_of (path_of way.now) node.entry.0 node.entry.1.now row)) }
-    ensures refused { IfErr result (λ fault. fault ≡ RowFault.Memory) }
+        ++ (range_of kind node.entry.1.now extent.base extent.size ∷ [])) }
+    ensures refused { IfErr result IsRefusal }
 {
-    let Some(extent) = way.at_root(row) else {
-        return Ok(());
-    };
-    let (kind, name, offset) = node;
+    let (_, name, offset) = node;
+    if found.len() >= MOST_RANGES {
+        return Err(RowFault::TooMany);
+    }
     let one = Found {
         kind,
         extent,
@@ -163,19 +170,97 @@ fn note_row<'a>(
     Ok(())
 }
 
-/// Notes the rows of registers that the root has.
+/// Notes a part of a row of registers.
+fn note_part<'a>(
+    part: &RowPart,
+    node: (Kind, &'a [u8], usize),
+    found: &mut Vec<Found<'a>>,
+) -> Result<(), RowFault>
+    ensures noted { OnOk result (said_of found.new.items ≡ said_of found.old.items
+        ++ (part_range node.entry.0 node.entry.1.now part.now part.now.root ∷ [])) }
+    ensures refused { IfErr result IsRefusal }
+{
+    let size = part.size;
+    match part.root {
+        Some(base) => note(node.0, Extent { base, size }, node, found),
+        None => {
+            let base = part.base;
+            note(Kind::Untranslated, Extent { base, size }, node, found)
+        }
+    }
+}
+
+/// Notes the parts of a row of registers.
+fn note_parts<'a>(
+    parts: &[RowPart],
+    node: (Kind, &'a [u8], usize),
+    found: &mut Vec<Found<'a>>,
+) -> Result<(), RowFault>
+    ensures noted { OnOk result (said_of found.new.items ≡ said_of found.old.items
+        ++ part_ranges node.entry.0 node.entry.1.now parts.now) }
+    ensures refused { IfErr result IsRefusal }
+{
+    for part in parts {
+        match note_part(part, node, found) {
+            Ok(()) => {}
+            Err(fault) => return Err(fault),
+        }
+    }
+    Ok(())
+}
+
+/// Whether a row needs no translation: it has addresses of the root, or it is the number of a hart.
+fn is_plain(way: &Way, kind: Kind) -> bool
+    ensures { result ≡ is_plain (path_of way.now) kind }
+{
+    match way {
+        Way::Same => true,
+        Way::Bus(_) => match kind {
+            Kind::Hart => true,
+            _ => false,
+        },
+    }
+}
+
+/// Notes a row of registers, as the buses translate it.
+fn note_row<'a>(
+    alloc: Global,
+    row: Extent,
+    way: &Way,
+    node: (Kind, &'a [u8], usize),
+    found: &mut Vec<Found<'a>>,
+) -> Result<(), RowFault>
+    ensures noted { OnOk result ((ranges : List Range)
+        × AreRowRanges (is_plain (path_of way.now) node.entry.0) (path_of way.now)
+        node.entry.0 node.entry.1.now row ranges
+        × (said_of found.new.items ≡ said_of found.old.items ++ ranges)) }
+    ensures refused { IfErr result IsRefusal }
+{
+    if is_plain(way, node.0) {
+        return note(node.0, row, node, found);
+    }
+    let parts = match parts_of(alloc, way, row) {
+        Ok(parts) => parts,
+        Err(fault) => return Err(fault),
+    };
+    note_parts(parts.as_slice(), node, found)
+}
+
+/// Notes rows of registers, as the buses translate them.
 pub(crate) fn note_rows<'a>(
+    alloc: Global,
     rows: &[Extent],
     way: &Way,
     node: (Kind, &'a [u8], usize),
     found: &mut Vec<Found<'a>>,
 ) -> Result<(), RowFault>
-    ensures noted { OnOk result (said_of found.new.items ≡ said_of found.old.items
-        ++ filter_map (range_of (path_of way.now) node.entry.0 node.entry.1.now) rows.now) }
-    ensures refused { IfErr result (λ fault. fault ≡ RowFault.Memory) }
+    ensures noted { OnOk result ((ranges : List Range)
+        × AreRanges (path_of way.now) node.entry.0 node.entry.1.now rows.now ranges
+        × (said_of found.new.items ≡ said_of found.old.items ++ ranges)) }
+    ensures refused { IfErr result IsRefusal }
 {
     for row in rows {
-        match note_row(*row, way, node, found) {
+        match note_row(alloc, *row, way, node, found) {
             Ok(()) => {}
             Err(fault) => return Err(fault),
         }

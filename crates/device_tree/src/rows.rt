@@ -22,6 +22,8 @@ pub enum RowFault {
     BadLength,
     /// An address or a size has more than 64 bits.
     LargeNumber,
+    /// It goes through more windows than registers do, or the tree has more ranges than are counted.
+    TooMany,
     /// Memory was refused.
     Memory,
 }

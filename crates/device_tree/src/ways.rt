@@ -1,15 +1,16 @@
-//! How a bus hands addresses on to the root.
+//! How a bus translates addresses to those of the root.
 
-ghost use Rattle.std.specs.Prelude.{◌≡◌, ◌+◌, ◌*◌, ◌<◌, ◌≤◌, ◌^◌, ℕ, List, [], ◌∷◌, ◌++◌, ⊤, IfErr, IfOk, IfSome, MatchOption, OnOk, length, drop};
+ghost use Rattle.std.specs.Prelude.{◌≡◌, ◌+◌, ◌*◌, ◌<◌, ◌≤◌, ◌^◌, ℕ, false, [], ◌∷◌, None, Some, ⊤, IfErr, IfOk, IfSome, MatchOption, OnOk, length, drop};
 ghost use Rattle.device_tree.specs.declared.ways.Window.{Window};
 ghost use Rattle.device_tree.specs.Cells.{number_of};
 ghost use Rattle.device_tree.specs.BoardRefusals.{IsLargeWindow, IsWindowFault};
-ghost use Rattle.device_tree.specs.Windows.{AreWindows, as_list, at_root, behind_way, carried, is_inside, path_of, shown, through, window_len};
+ghost use Rattle.device_tree.specs.Windows.{AreWindows, IsStep, at_root, has_address, parent_address, path_of, root_address, window_len};
 
 use crate::bytes::{after, number_of};
 use crate::cells::Cells;
 use crate::rows::{Extent, RowFault};
 use std::alloc::Global;
+use std::rc::Rc;
 
 /// A row of `ranges`: addresses of the bus, and where its parent has them.
 #[derive(Clone, Copy)]
@@ -19,51 +20,104 @@ pub struct Window {
     pub size: u64,
 }
 
-/// Where the root has the addresses of a bus.
+/// How the addresses of a bus become those of the root.
 #[derive(Drop)]
 pub enum Way {
-    /// At the same addresses.
+    /// They are the root's own.
     Same,
-    /// Where the first window around them shows them, and nowhere if none does.
-    By(Vec<Window>),
+    /// By the windows of the bus, and then as its parent's do.
+    Bus(Rc<(Vec<Window>, Way)>),
 }
 
-/// Whether all bytes of the extent are the window's.
-fn is_inside(window: &Window, extent: Extent) -> bool
-    ensures { result ≡ is_inside window.now extent }
-{
-    window.child <= extent.base
-        && u128::from(extent.base - window.child) + u128::from(extent.size)
-            <= u128::from(window.size)
-        && u128::from(window.parent)
-            + u128::from(extent.base - window.child)
-            + u128::from(extent.size)
-            < 1 << 64
+/// A part of a row of registers: its address on the bus, its size, and its address at the root, if it has one.
+#[derive(Clone, Copy)]
+pub struct RowPart {
+    pub base: u64,
+    pub size: u64,
+    pub root: Option<u64>,
 }
 
-/// Where the first window around the extent shows it.
-fn through(windows: &[Window], extent: Extent) -> Option<Extent>
-    ensures { result ≡ through windows.now extent }
+/// Where an address is at the root, and for how many bytes from it on the addresses there rise alike.
+#[derive(Clone, Copy)]
+pub struct Step {
+    pub root: Option<u64>,
+    pub len: u64,
+}
+
+/// Where the parent has an address of the bus, by this window, and for how many bytes.
+fn translated(window: &Window, address: u64) -> Option<Step>
+    ensures here { IfSome result (λ step.
+        IsStep (parent_address (window.now ∷ [])) address step) }
+    ensures some { IfSome result (λ step. (parent : ℕ) × (step.root ≡ Some parent)) }
+    ensures none { result ≡ None → has_address window.now address ≡ false }
 {
+    if address < window.child || address - window.child >= window.size {
+        return None;
+    }
+    let offset = address - window.child;
+    if offset > u64::MAX - window.parent {
+        return None;
+    }
+    let parent = window.parent + offset;
+    let len = (window.size - offset).min((u64::MAX - parent).saturating_add(1));
+    Some(Step {
+        root: Some(parent),
+        len,
+    })
+}
+
+/// How many bytes from an address on are not the window's, where it does not translate the address.
+fn gap_before(window: &Window, address: u64) -> u64
+    requires { has_address window.now address ≡ false }
+    ensures some { 0 < result }
+    ensures none { (k : ℕ) → k < result → has_address window.now (address + k) ≡ false }
+{
+    if window.child > address {
+        return window.child - address;
+    }
+    u64::MAX
+}
+
+/// Where the parent has an address of the bus, and for how many bytes.
+fn step_to_parent(windows: &[Window], address: u64) -> Step
+    ensures { IsStep (parent_address windows.now) address result }
+{
+    let mut len = u64::MAX;
     for window in windows {
-        if is_inside(window, extent) {
-            return Some(Extent {
-                base: window.parent + (extent.base - window.child),
-                size: extent.size,
-            });
+        match translated(window, address) {
+            Some(step) => {
+                return Step {
+                    root: step.root,
+                    len: len.min(step.len),
+                };
+            }
+            None => len = len.min(gap_before(window, address)),
         }
     }
-    None
+    Step { root: None, len }
 }
 
 impl Way {
-    /// Where the root has the extent.
-    pub fn at_root(&self, extent: Extent) -> Option<Extent>
-        ensures { result ≡ at_root (path_of self.now) extent }
+    /// Where the root has an address of the bus, and for how many bytes.
+    pub(crate) fn step(&self, address: u64) -> Step
+        ensures { IsStep (root_address (path_of self.now)) address result }
     {
         match self {
-            Way::Same => Some(extent),
-            Way::By(windows) => through(windows.as_slice(), extent),
+            Way::Same => Step {
+                root: Some(address),
+                len: u64::MAX,
+            },
+            Way::Bus(bus) => {
+                let near = step_to_parent(bus.0.as_slice(), address);
+                let Some(parent) = near.root else {
+                    return near;
+                };
+                let far = bus.1.step(parent);
+                Step {
+                    root: far.root,
+                    len: near.len.min(far.len),
+                }
+            }
         }
     }
 }
@@ -89,47 +143,15 @@ fn window_in(bytes: &[u8], cells: &Cells, outer: usize) -> Option<Window>
     })
 }
 
-/// Where the root has a window of a bus.
-fn carried(way: &Way, window: Window) -> Option<Window>
-    ensures { result ≡ carried (path_of way.now) window }
-{
-    let seen = way.at_root(Extent {
-        base: window.parent,
-        size: window.size,
-    })?;
-    Some(Window {
-        child: window.child,
-        parent: seen.base,
-        size: window.size,
-    })
-}
-
-/// Keeps the window, if there is one.
-fn keep(windows: &mut Vec<Window>, window: Option<Window>) -> Result<(), RowFault>
-    ensures kept { OnOk result (windows.new.items ≡ windows.old.items ++ as_list window) }
-    ensures refused { IfErr result (λ fault. fault ≡ RowFault.Memory) }
-{
-    let Some(window) = window else {
-        return Ok(());
-    };
-    let Ok(()) = windows.push(window) else {
-        return Err(RowFault::Memory);
-    };
-    Ok(())
-}
-
-/// The windows of a bus inside another, by its `ranges`.
+/// The windows of a bus, by its `ranges`.
 pub(crate) fn windows_of(
     alloc: Global,
     ranges: &[u8],
     cells: &Cells,
     outer: usize,
-    way: &Way,
 ) -> Result<Vec<Window>, RowFault>
     requires { outer ≤ 4 }
-    ensures ok { IfOk result (λ seen. (windows : List Window)
-        × AreWindows cells.now outer ranges.now windows
-        × (seen.items ≡ behind_way (path_of way.now) windows)) }
+    ensures ok { IfOk result (λ windows. AreWindows cells.now outer ranges.now windows.items) }
     ensures refused { IfErr result (IsWindowFault cells.now outer ranges.now) }
 {
     let len = 4 * (cells.address + outer + cells.size);
@@ -142,10 +164,9 @@ pub(crate) fn windows_of(
         let Some(window) = window_in(after(ranges, at), cells, outer) else {
             return Err(RowFault::LargeNumber);
         };
-        match keep(&mut windows, carried(way, window)) {
-            Ok(()) => {}
-            Err(fault) => return Err(fault),
-        }
+        let Ok(()) = windows.push(window) else {
+            return Err(RowFault::Memory);
+        };
         at += len;
     }
     Ok(windows)
@@ -153,18 +174,30 @@ pub(crate) fn windows_of(
 
 impl Way {
     /// The same way again.
-    pub(crate) fn copied(&self, alloc: Global) -> Result<Way, RowFault>
+    pub(crate) fn copied(&self) -> Result<Way, RowFault>
         ensures same { IfOk result (λ way. path_of way ≡ path_of self.now) }
         ensures refused { IfErr result (λ fault. fault ≡ RowFault.Memory) }
     {
         match self {
             Way::Same => Ok(Way::Same),
-            Way::By(windows) => {
-                let Ok(same) = windows.clone() else {
+            Way::Bus(bus) => {
+                let Ok(bus) = bus.clone() else {
                     return Err(RowFault::Memory);
                 };
-                Ok(Way::By(same))
+                Ok(Way::Bus(bus))
             }
         }
+    }
+
+    /// The way of the children of a bus with these windows, whose own addresses come this way.
+    pub(crate) fn behind(&self, alloc: Global, windows: Vec<Window>) -> Result<Way, RowFault>
+        ensures behind { IfOk result (λ way. path_of way ≡ windows.items ∷ path_of self.now) }
+        ensures refused { IfErr result (λ fault. fault ≡ RowFault.Memory) }
+    {
+        let outer = self.copied()?;
+        let Ok(bus) = Rc::new(alloc, (windows, outer)) else {
+            return Err(RowFault::Memory);
+        };
+        Ok(Way::Bus(bus))
     }
 }

@@ -3,7 +3,7 @@ use Rattle.std.specs.Prelude.{◌≡◌, ◌⊎◌, ℕ, ◌+◌, ◌%◌, ◌<�
 use Rattle.std.specs.Prelude.{Bool, false, not, cond, List, [], ◌∷◌, ◌++◌}
 use Rattle.device_tree.specs.declared.kinds.Kind.{Kind}
 use Rattle.device_tree.specs.declared.kinds.Kind.TheVariants.{Memory, Device, Machine}
-use Rattle.device_tree.specs.declared.kinds.Kind.TheVariants.{Reserved, Hart}
+use Rattle.device_tree.specs.declared.kinds.Kind.TheVariants.{Reserved, Hart, Untranslated}
 use Rattle.device_tree.specs.declared.rows.Extent.{Extent}
 use Rattle.device_tree.specs.Meaning.{Range}
 
@@ -14,6 +14,7 @@ is_kind Memory hart = not hart
 is_kind Device hart = false
 is_kind Machine hart = false
 is_kind Reserved hart = false
+is_kind Untranslated hart = false
 
 -- the extent of a range, if it is of that kind
 abbrev pub one_extent : Bool → Kind → Extent → List Extent

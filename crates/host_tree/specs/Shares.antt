@@ -4,7 +4,7 @@ use Rattle.std.specs.Prelude.{List, [], ◌∷◌, Option, None, Some, codes}
 use Rattle.device_tree.specs.Pieces.{Part}
 use Rattle.device_tree.specs.declared.kinds.Kind.{Kind}
 use Rattle.device_tree.specs.declared.kinds.Kind.TheVariants.{Memory, Device, Machine}
-use Rattle.device_tree.specs.declared.kinds.Kind.TheVariants.{Reserved, Hart}
+use Rattle.device_tree.specs.declared.kinds.Kind.TheVariants.{Reserved, Hart, Untranslated}
 use Rattle.device_tree.specs.declared.rows.Extent.{Extent}
 use Rattle.device_tree.specs.Windows.{Path, at_root}
 use Rattle.device_tree.specs.Properties.{value_in}
@@ -46,6 +46,7 @@ abbrev pub is_kept : ℕ → List Extent → Path → Option Kind → List Exten
 is_kept harts ranges way None rows = true
 is_kept harts ranges way (Some Memory) rows = true
 is_kept harts ranges way (Some Reserved) rows = true
+is_kept harts ranges way (Some Untranslated) rows = true
 is_kept harts ranges way (Some Hart) rows = has_hart harts rows
 is_kept harts ranges way (Some Device) rows = are_hosts ranges way rows
 is_kept harts ranges way (Some Machine) rows = are_hosts ranges way rows

@@ -48,6 +48,7 @@ fn is_kept(share: &Share<'_>, way: &Way, kind: Option<Kind>, rows: &[Extent]) ->
         None => true,
         Some(Kind::Memory) => true,
         Some(Kind::Reserved) => true,
+        Some(Kind::Untranslated) => true,
         Some(Kind::Hart) => has_hart(share, rows),
         Some(Kind::Device) => are_hosts(share, way, rows),
         Some(Kind::Machine) => are_hosts(share, way, rows),
