@@ -270,7 +270,7 @@ module _ (law : FirmwareHolds) (steps : StepsPromise) (layout : PlatformLayout) 
       ap (λ (m : MonitorState). host_control (record board { monitor = m }) hart) x.monitor in
       headline [] board (booted board x) served
       (λ hart low up. subst (λ bytes. HasFewest bytes layout.limit (current_view board.monitor.table (board.monitor.worlds hart)))
-      (x.lists 0 ∙ sym (x.loaded hart))
+      (x.lists 0 ∙ sym (x.loaded hart up))
       (subst (λ w. HasFewest (board.lists 0) layout.limit (current_view board.monitor.table w)) (sym (in_host hart))
       (lists_right [] [] board served Host tt)))
       is_control (λ hart. subst (CanHold (board.csrs hart)) (sym (is_control hart)) (x.control hart))

@@ -94,7 +94,7 @@ module _ (law : BoardHolds) (layout : PlatformLayout) (opened : List ℕ) (rules
           (λ hart. no_words) (λ hart. no_words)) (record {
             monitor = refl;
             lists = λ world. refl;
-            loaded = λ hart. refl;
+            loaded = λ hart up. refl;
             control = λ hart. refl;
           });
       waits = λ who off. refl;

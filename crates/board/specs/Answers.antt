@@ -1,4 +1,4 @@
--- What the code around the loop may rely on in each answer.
+-- Facts about the words of each answer on which the code around the loop may rely.
 use Rattle.std.specs.Prelude.{◌≡◌, ◌⊎◌, ℕ, ◌+◌, ◌*◌, ◌≤◌, List, length, ⊤}
 use Rattle.pmp_encoding.specs.Limits.{limit_number}
 use Rattle.platforms.specs.Platform.{IsLayout, PlatformLayout}
@@ -20,12 +20,12 @@ pub record IsWellFormed (layout : PlatformLayout) (old : MonitorState) (trap : T
   pub world : word_at answered 2 ≤ 64
   -- a hart has as many entries as that world needs
   pub used : word_at answered 5 ≤ limit_number layout.limit
-  -- where there are two lists, the value is the id of an enclave
+  -- if there are two lists, the value is the id of an enclave
   pub made : word_at answered 9 ≡ 2 → (1 ≤ word_at answered 4) × (word_at answered 4 ≤ 64)
-  -- where there is no list, no page is to be made zero, and no hart is woken
+  -- an answer without lists zeroes no page and wakes no hart
   pub cleared : word_at answered 9 ≡ 0 → word_at answered 7 ≡ 0
   pub woken : word_at answered 9 ≡ 0 → word_at answered 8 ≡ 0
-  -- there are nine control words where a host enters an enclave, and otherwise none
+  -- there are nine control words if a host enters an enclave, and otherwise none
   pub control : ((word_at answered 10 ≡ 9) × (old.worlds trap.hart ≡ Host)
       × ((id : ℕ) × (new.worlds trap.hart ≡ InEnclave id)))
       ⊎ (word_at answered 10 ≡ 0)

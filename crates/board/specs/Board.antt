@@ -45,7 +45,8 @@ no_floats n = 0
 
 -- a board at one moment
 pub record Board : Type 0 where
-  -- the state of the monitor, whose register sets lie with the harts
+  -- the state of the monitor, whose register sets lie with the harts. What is kept of the registers
+  -- of a world that runs means nothing until its next trap
   pub monitor : MonitorState
   -- the byte at each address
   pub memory : ℕ → ℕ
@@ -66,13 +67,13 @@ pub record Board : Type 0 where
   pub hosts : ℕ → ControlWords
   pub csrs : ℕ → ControlRegisters
 
--- a byte of the board's memory: its page is RAM, and not the monitor's. Device registers are no
--- memory, since devices change them, and the code around the loop writes the monitor's pages
+-- a byte of the board's memory: its page is RAM and not the monitor's. Devices change their own
+-- registers, and the code around the loop writes the monitor's pages, so neither is memory
 pub record IsMemoryByte (layout : PlatformLayout) (byte : ℕ) : Type 0 where
   pub in_ram : is_ram layout (byte / 4096) ≡ true
   pub not_monitor : has_page layout.monitor (byte / 4096) ≡ false
 
--- the memory of a board has these bytes. Bytes that are no memory may be anything
+-- the memory of a board has these bytes; every other byte may have any value
 abbrev pub HasMemory : Board → (ℕ → ℕ) → Type 0
 HasMemory board bytes = (byte : ℕ) → IsMemoryByte board.monitor.table.layout byte
     → board.memory byte ≡ bytes byte
@@ -87,15 +88,15 @@ abbrev pub HasEntries : Board → ℕ → List Entry → Type 0
 HasEntries board hart entries = MeansList
     (loaded_pairs (board.loaded hart) 0 (limit_number board.monitor.table.layout.limit)) entries
 
--- how a world goes on after a trap that its hart serves without the loop
+-- how a world resumes after a trap that its hart serves without the loop
 pub data Resumption : Type 0 where
-  -- a host, after its call by SBI, with these words in a0 and a1: of its timer, of an interrupt or
-  -- a fence for another hart, of what there is, or in error
+  -- a host resumes after an SBI call, with these words in a0 and a1: the call set its timer, asked
+  -- for an interrupt or a fence on another hart, queried the SBI, or failed
   replied : (first second : ℕ) → Resumption
-  -- a host, in the handler of its own to which the trap was forwarded or delegated
+  -- a host resumes in its own handler, to which the trap was forwarded or delegated
   handled : (pc : ℕ) → Resumption
-  -- any world, after an interrupt for machine mode: another hart asks for a fence, or for an
-  -- interrupt of the host, or the host's timer is due
+  -- any world resumes after an interrupt for machine mode: another hart asked for a fence or for an
+  -- interrupt of this hart's host, or the host's timer expired
   resumed : Resumption
 
 -- what happens on a board
@@ -168,20 +169,20 @@ pub record DoesWrite (old : Board) (hart : ℕ) (words : ControlWords) (new : Bo
     control = λ h. if h == hart then words else old.control h;
   }
 
--- the registers with which a world goes on after a trap that is served without the loop
+-- the registers with which a world resumes after a trap that is served without the loop
 abbrev pub gone_on : Resumption → RegisterFile → RegisterFile
 gone_on (replied first second) file = with_x (with_x (past_call file) 10 first) 11 second
 gone_on (handled pc) file = record file { pc = pc }
 gone_on resumed file = file
 
--- which world can go on like that: an enclave only after an interrupt
+-- which worlds can resume like that: an enclave only after an interrupt
 abbrev pub MayGoOn : World → Resumption → Type 0
 MayGoOn Host on = ⊤
 MayGoOn (InEnclave id) on = on ≡ resumed
 
 -- a hart serves a trap without the loop. It changes a0, a1 and the program counter of the host that
--- called, or enters the host's handler, and nothing else. A host's control words change as it
--- enters its handler, which is a write of its own
+-- called, or enters the host's handler, and nothing else. The control words that change as a host
+-- enters its handler are an event of their own
 pub record DoesAside (old : Board) (hart : ℕ) (on : Resumption) (new : Board) : Type 0 where
   pub up : IsUp old hart
   pub may : MayGoOn (old.monitor.worlds hart) on
@@ -191,7 +192,7 @@ pub record DoesAside (old : Board) (hart : ℕ) (on : Resumption) (new : Board) 
     running = λ h. if h == hart then gone_on on (old.running h) else old.running h;
   }
 
--- a host stops its hart, on which no world runs then
+-- a host stops its hart, and no world runs there any more
 pub record DoesPark (old : Board) (hart : ℕ) (new : Board) : Type 0 where
   pub up : IsUp old hart
   pub host : old.monitor.worlds hart ≡ Host
@@ -201,8 +202,8 @@ pub record DoesPark (old : Board) (hart : ℕ) (new : Board) : Type 0 where
     parked = λ h. if h == hart then true else old.parked h;
   }
 
--- a hart that is parked is started. It loads the list of the host, and its host begins with any
--- integer registers and control words, and with zero in its floating-point registers
+-- a parked hart is started. It loads the host's list. Its host begins with any integer registers
+-- and control words, and with zero in its floating-point registers
 pub record DoesStart (old : Board) (hart : ℕ) (file : RegisterFile) (words : ControlWords)
     (new : Board) : Type 0 where
   pub known : hart < old.monitor.table.layout.harts
@@ -233,10 +234,10 @@ abbrev pub HasEnded : MonitorState → MonitorState → Runner → Type 0
 HasEnded old new who = (id : ℕ) × (who ≡ EnclaveOf id)
     × (IsGone old new id ⊎ HasExited old new id)
 
--- floating-point registers over a trap of who runs on a hart. Where the answer says in its word 2
--- that another goes on, what the hart has is kept for the one, and it gets what is kept for the
--- other. For an enclave that was made zeros are kept, and for one that ended: its integer registers
--- are made zero too. Nothing else changes
+-- floating-point registers over a trap. If word 2 of the answer names another world, the hart's
+-- registers are kept for the world that trapped, and the hart gets those that are kept for the
+-- other. Zeros are kept for an enclave that was created, and for one that ended, whose integer
+-- registers are zeroed too. Nothing else changes
 pub record ChangesFloats (old : Board) (hart : ℕ) (who next : Runner)
     (question answered : List ℕ) (new : Board) : Type 0 where
   pub goes_on : next ≡ who → new.floats hart ≡ old.floats hart
@@ -250,10 +251,9 @@ pub record ChangesFloats (old : Board) (hart : ℕ) (who next : Runner)
   pub others : (other : Runner) → other ≢ who → (SaysMade question answered other → ⊥)
       → (HasEnded old.monitor new.monitor other → ⊥) → new.kept other ≡ old.kept other
 
--- control words over a trap of who runs on a hart, by those that the answer says. Where it says
--- some, they are written to the hart, and those that it has are kept for its host. Where it says
--- none, those that the hart has stay if the same goes on, and if another does those that are kept
--- are written to it. Those of other harts stay
+-- control words over a trap, by the answer. If it has some, they are written to the hart, and the
+-- hart's own are kept for its host. If it has none, the hart's stay while the same world resumes,
+-- and the kept ones are written to the hart when another does. Those of other harts stay
 pub record ChangesControl (old : Board) (hart : ℕ) (who next : Runner)
     (said : Option ControlWords) (new : Board) : Type 0 where
   pub gets : (words : ControlWords) → said ≡ Some words
@@ -266,8 +266,8 @@ pub record ChangesControl (old : Board) (hart : ℕ) (who next : Runner)
   pub harts : (other : ℕ) → other ≢ hart → new.control other ≡ old.control other
   pub others : (other : ℕ) → other ≢ hart → new.hosts other ≡ old.hosts other
 
--- integer registers over a trap on a hart: the one that goes on has those of its set, and each
--- other hart those that it had
+-- integer registers over a trap on a hart: the world that resumes has those of its set, and each
+-- other hart keeps its own
 pub record ChangesRunning (old : Board) (hart : ℕ) (next : Runner) (new : Board) : Type 0 where
   pub resumes : new.running hart ≡ new.monitor.registers next
   pub others : (other : ℕ) → other ≢ hart → new.running other ≡ old.running other
@@ -287,28 +287,27 @@ ReadsMemory memory read =
 abbrev pub saved : Board → Trap → MonitorState
 saved old trap = with_running old.monitor trap.hart trap.registers
 
--- what the code around the loop has to do at a trap that the loop serves, but for the pages that it
--- reads
+-- the duties of the code around the loop at a trap that the loop serves, except reading pages
 pub record TrapDuties (old : Board) (trap : Trap) (frame read question answered : List ℕ)
     (new : Board) : Type 0 where
   -- the loop reads a frame of this trap, on a hart that runs a world
   pub size : length frame ≡ 96
   pub is_trap : IsTrapFrame frame old.monitor.table.layout.harts trap
   pub started : old.parked trap.hart ≡ false
-  -- the trap has the registers of the hart, and of a host two of its control words
+  -- the trap has the hart's registers, and two of the hart's control words if its host trapped
   pub came : trap.registers ≡ old.running trap.hart
   pub host : old.monitor.worlds trap.hart ≡ Host → trap.host ≡ framed (old.control trap.hart)
   -- the loop serves it, whatever the register sets are, and they change as the answer says
   pub changes : SetChanges
   pub served : ServesAll old.monitor trap changes read question answered new.monitor
   pub sets : new.monitor.registers ≡ changed trap.hart changes (saved old trap).registers
-  -- the pages that the answer names, in its words 6 and 7, are made zero, and no other byte of
-  -- memory changes
+  -- the pages that words 6 and 7 of the answer name are zeroed, and no other byte of memory
+  -- changes
   pub cleared : HasMemory new
       (zeroed old.memory (word_at answered 6) (word_at answered 7))
-  -- the lists that the answer has are kept for their worlds; the hart that it names loads the list
-  -- of the world that it names, and each other that it wakes the host's, before its world goes on.
-  -- A hart that is parked has any list
+  -- the answer's lists are kept for their worlds. The hart that the answer names loads the list
+  -- of the world that it names, and each hart that it wakes loads the host's, before its world
+  -- resumes. A parked hart may have any list
   pub keeps : (world : ℕ) → new.lists world ≡ list_after answered old.lists world
   pub loads : (hart : ℕ) → old.parked hart ≡ false → new.loaded hart
       ≡ loaded_after answered new.lists (old.loaded hart) hart
@@ -321,8 +320,7 @@ pub record TrapDuties (old : Board) (trap : Trap) (frame read question answered 
       (runner_by trap.hart (word_at answered 2)) (said_words answered) new
   pub csrs : new.csrs ≡ old.csrs
 
--- a trap is served by the loop: the code around it does its duties, and the pages that were read
--- are memory's
+-- the loop serves a trap: the code around it does its duties, and reads pages from memory
 pub record DoesTrap (old : Board) (trap : Trap) (frame read question answered : List ℕ)
     (new : Board) : Type 0 where
   pub duties : TrapDuties old trap frame read question answered new
@@ -339,13 +337,13 @@ HappensOn (starts hart file words) old new = DoesStart old hart file words new
 HappensOn (trapped trap frame read question answered) old new =
     DoesTrap old trap frame read question answered new
 
--- a board right after boot has the opening state, keeps for each world the list of the first
--- answer, and each hart has loaded it. It has any memory, any harts are parked, and registers have
--- any values that they can hold
+-- a board right after boot: the monitor is in its opening state, the list of the first answer is
+-- kept for each world, and each hart that is not parked has loaded it. Memory and registers have
+-- any values that they can hold, and any harts are parked
 pub record IsBooted (layout : PlatformLayout) (opened : List ℕ) (board : Board) : Type 0 where
   pub monitor : board.monitor ≡ opening_monitor layout
   pub lists : (world : ℕ) → board.lists world ≡ drop 184 opened
-  pub loaded : (hart : ℕ) → board.loaded hart ≡ drop 184 opened
+  pub loaded : (hart : ℕ) → board.parked hart ≡ false → board.loaded hart ≡ drop 184 opened
   pub control : (hart : ℕ) → CanHold (board.csrs hart) (board.control hart)
 
 -- events that happen one after another on a board, after boot

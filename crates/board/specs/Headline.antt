@@ -86,8 +86,8 @@ pub record KeepsAccess (old : Board) (hart : ℕ) (a : Access) (said : Result (U
   pub running : (other : ℕ) → new.running other ≡ old.running other
   pub floats : (who : Runner) → floats_of new who ≡ floats_of old who
 
--- what every event but an access and a trap of the loop leaves as it was: the state of the monitor
--- with its register sets, memory, and the registers of all that run elsewhere or wait
+-- an event other than an access or a trap of the loop leaves the state of the monitor with its
+-- register sets, memory, and the registers of every world that runs elsewhere or waits
 pub record LeavesOthers (old : Board) (hart : ℕ) (new : Board) : Type 0 where
   pub monitor : new.monitor ≡ old.monitor
   pub memory : HasMemory new old.memory
@@ -133,7 +133,7 @@ pub record KeepsMemory (old new : Board) : Type 0 where
 -- what holds of integer registers over each trap. The world that trapped is left with the registers
 -- that it had, if that was no exit: after a call the program counter is past it, and a0 and a1 may
 -- be an answer. Each other set is as it was, but for that of one who comes in, comes back or ends.
--- The world that goes on has its set, and each other hart the registers that it had
+-- The world that resumes has its set, and each other hart keeps its registers
 pub record KeepsSets (old : Board) (trap : Trap) (new : Board) : Type 0 where
   pub registers : KeepsRegisters (saved old trap) trap.hart new.monitor
   pub came :
@@ -157,8 +157,8 @@ pub record KeepsControl (old : Board) (trap : Trap) (new : Board) : Type 0 where
   pub stays : (hart : ℕ) → new.monitor.worlds hart ≡ old.monitor.worlds hart
       → new.control hart ≡ old.control hart
 
--- what holds of an event. Where a hart serves a trap without the loop, an enclave goes on with all
--- of its registers
+-- what holds of an event. After a trap that its hart serves without the loop, an enclave resumes
+-- with all of its registers
 abbrev pub Keeps : BoardEvent → Board → Board → Type 0
 Keeps (access hart a value said) old new = KeepsAccess old hart a said new
 Keeps (computed hart file floats) old new = LeavesOthers old hart new
@@ -226,8 +226,8 @@ HaveOwnControl board = (hart id : ℕ) → board.monitor.worlds hart ≡ InEncla
     })
     × Confines (board.control hart)
 
--- the control words of a host after an event: where it wrote some itself, these, and where its hart
--- was started, those with which it began
+-- the control words of a host after an event: those that it wrote, or those with which its hart was
+-- started, or else those that it had
 abbrev pub control_by : BoardEvent → Board → ℕ → ControlWords → ControlWords
 control_by (wrote at words) old hart had =
     if hart == at && is_host (old.monitor.worlds at) then words else had
@@ -244,10 +244,10 @@ wrote_last (happened {old = old} run event happens) hart =
 -- after any events: the traps among them are a run of the loop, by what was read and written. The
 -- table is sound, and the platform is the one that was booted. Each hart is in the host's world or
 -- in that of an enclave that is Running, and each of these runs on just one; none is to be woken.
--- The entries that each hart has loaded which is not parked mean the view of its world, by the
--- fewest that do, and in its floating-point registers it has what its world has. Each host has the
--- control words that it wrote last, and an enclave that runs those of an enclave. What was measured
--- of an enclave is what it will first run. And what each event kept
+-- The entries of each hart that is not parked mean the view of its world, and no fewer entries do.
+-- Each hart has the floating-point registers of its world. Each host has the control words that it
+-- wrote last, and its hart can hold them; an enclave that runs has those of an enclave. What was
+-- measured of an enclave is what it will first run. And what each event kept
 pub record BoardHeadline (layout : PlatformLayout) (opened : List ℕ) (events : List BoardEvent)
     (board : Board) (run : BoardRun layout opened events board) : Type 0 where
   pub served : IsServed layout opened (read_on run) (written_on run) board

@@ -14,8 +14,8 @@ use Rattle.board.specs.Held.{CanConfine}
 use Rattle.board.specs.Stays.{IsNoTrap}
 
 -- an event that needs no lock, on another hart: an access, a computation, a write of control words,
--- or a trap that is served without the loop. A trap of the loop, and the start or the stop of a
--- hart, wait for the lock: the hart makes no event meanwhile
+-- or a trap that is served without the loop. Other traps, and starts and stops of harts, wait for
+-- the lock: a hart that waits makes no event
 abbrev pub IsElsewhere : ℕ → BoardEvent → Type 0
 IsElsewhere hart (access other a value said) = other ≢ hart
 IsElsewhere hart (computed other file floats) = other ≢ hart
@@ -25,13 +25,13 @@ IsElsewhere hart (parks other) = ⊥
 IsElsewhere hart (starts other file words) = ⊥
 IsElsewhere hart (trapped trap frame read question answered) = ⊥
 
--- some bytes of these pages are made zero
+-- some bytes of these pages are zeroed
 pub record ZeroesSome (first count : ℕ) (old new : Board) : Type 0 where
   pub state : new ≡ record old { memory = new.memory }
   pub bytes : (byte : ℕ) → (new.memory byte ≡ old.memory byte)
       ⊎ ((new.memory byte ≡ 0) × (in_range first count (byte / 4096) ≡ true))
 
--- other harts run while the one with the lock makes pages zero, piece by piece
+-- other harts run while the hart with the lock zeroes pages, piece by piece
 pub data Zeroes (hart first count : ℕ) (old : Board) : List BoardEvent → Board → Type 0 where
   none_yet : Zeroes hart first count old [] old
   meanwhile : {events : List BoardEvent} {mid new : Board} → Zeroes hart first count old events mid
@@ -45,8 +45,7 @@ abbrev pub HasPage : (ℕ → ℕ) → List ℕ → Type 0
 HasPage memory frame = (page : ℕ) (bytes : List ℕ) → IsPageFrame frame page bytes
     → bytes ≡ bytes_at memory (page * 4096) 4096
 
--- other harts run while one has the lock: such events, one after another. In between the hart with
--- the lock reads pages, each as it is in memory at that moment
+-- other harts run while the hart with the lock reads pages, each as it is in memory at that moment
 pub data OthersRun (hart : ℕ) (old : Board) : List BoardEvent → List ℕ → Board → Type 0 where
   rests : OthersRun hart old [] [] old
   runs : {events : List BoardEvent} {read : List ℕ} {mid new : Board}
@@ -58,8 +57,8 @@ pub data OthersRun (hart : ℕ) (old : Board) : List BoardEvent → List ℕ →
       → (frame : List ℕ) → length frame ≡ 4112 → HasPage mid.memory frame
       → OthersRun hart old events (read ++ frame) mid
 
--- the first step of a trap, by what the whole trap does: pages are zero, lists of entries are kept,
--- and harts have loaded theirs. The harts whose entries change are stopped for this step alone
+-- the first part of what a trap does: pages are zero, lists of entries are kept, and harts have
+-- loaded theirs. Only during this step are the harts stopped whose entries change
 abbrev pub changed_lists : Board → Board → Board
 changed_lists old done = record old {
   memory = done.memory;
@@ -67,8 +66,8 @@ changed_lists old done = record old {
   loaded = done.loaded;
 }
 
--- the last step of a trap on a hart: the state of the monitor with its register sets, the registers
--- of that hart, and what it keeps for worlds that wait
+-- the last part of what a trap on a hart does: the monitor's state with its register sets, and the
+-- registers of that hart and of worlds that wait, change
 abbrev pub answered_on : ℕ → Board → Board → Board
 answered_on hart done board = record board {
   monitor = done.monitor;
@@ -83,20 +82,20 @@ answered_on hart done board = record board {
 pub record TakesTime (old : Board) (before : List BoardEvent) (trap : Trap)
     (frame read question answered : List ℕ) (others : List BoardEvent) (new : Board) :
     Type 0 where
-  -- the pages that the answer names are made zero while other harts run, by the old lists
+  -- the pages that the answer names are zeroed while other harts run with the old lists
   pub ready : Board
   pub zeroing : Zeroes trap.hart (word_at answered 6) (word_at answered 7) old before ready
-  -- the lists change at once, when all of these pages are zero. This and the last step do the
-  -- duties of a trap
+  -- the lists change in one step, and the pages are zero then. This step and the last one together
+  -- do the duties at a trap
   pub done : Board
   pub duties : TrapDuties ready trap frame read question answered done
-  -- other harts run, by the new lists, while the pages are read that were asked for
+  -- the pages that were asked for are read while other harts run with the new lists
   pub last : Board
   pub between : OthersRun trap.hart (changed_lists ready done) others read last
   -- the trap is answered
   pub answers : new ≡ answered_on trap.hart done last
 
--- events on such a board, after boot. A trap stands in the list where its lists change
+-- events on such a board, after boot. A trap is listed at the moment when its lists change
 pub data TimedRun (layout : PlatformLayout) (opened : List ℕ) : List BoardEvent → Board
     → Type 0 where
   boots : (board : Board) → IsBooted layout opened board → TimedRun layout opened [] board
@@ -110,8 +109,8 @@ pub data TimedRun (layout : PlatformLayout) (opened : List ℕ) : List BoardEven
       → TimedRun layout opened
       (((events ++ before) ++ trapped trap frame read question answered ∷ []) ++ others) new
 
--- each run of such a board is a run of a board whose traps take no time: with the same accesses,
--- the same verdicts and every other event, and the same board at the end
+-- each run of such a board is a run of a board whose traps take no time, with the same events, the
+-- same verdicts, and the same board at the end
 abbrev pub TimeIsUnseen : Type 0
 TimeIsUnseen =
     (layout : PlatformLayout) (opened : List ℕ) (events : List BoardEvent) (board : Board)

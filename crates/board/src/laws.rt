@@ -1,4 +1,4 @@
-//! The law of a board that the firmware runs on.
+//! The laws of a board that the firmware runs on.
 
 ghost use Rattle.std.specs.Prelude.{ℕ, List};
 ghost use Rattle.platforms.specs.Platform.{IsLayout, PlatformLayout};
@@ -24,15 +24,15 @@ use trap_server::firmware_law;
 ///   and no other byte of memory changed in any. An enclave that was created has the digest of its private pages as they were
 ///   in memory, and as they are until it is entered.
 /// - Over each trap that the loop serves, the set of integer registers of each world that waits stays, the world that trapped
-///   is left with those that it had, past its call and with its answer, and the world that goes on has its own: the host but
-///   for a0 and a1, and an enclave at first zeros but its number and where it begins. Over each other trap a host may get an
-///   answer in a0 and a1 or go on in its handler, and an enclave goes on with all of its registers.
-/// - Each host and each enclave finds in floating-point registers what it left there, on whichever hart it goes on. An enclave
-///   that was created finds zeros, and a host whose hart was started. An enclave that exited or was destroyed leaves zeros in
-///   its set and in these.
+///   is left with those that it had, past its call and with its answer, and the world that resumes has its own: the host
+///   except a0 and a1, and a new enclave zeros except its number and entry point. Over each other trap a host may get an
+///   answer in a0 and a1 or resume in its handler, and an enclave resumes with all of its registers.
+/// - Each host and each enclave finds in floating-point registers what it left there, on whichever hart it resumes. A new
+///   enclave finds zeros, as does a host whose hart was started. An enclave that exited or was destroyed leaves zeros in its
+///   set and in these.
 /// - Each host has the control words that it wrote last, whatever ran on its hart meanwhile. An enclave has words of its own,
-///   which two of its host's decide, as far as the hart can hold them: with them it runs in user mode, with no table of pages,
-///   and no exception and no interrupt of it goes to its host.
+///   which two of its host's decide, as far as the hart can hold them: it runs in user mode, without a table of pages, and none
+///   of its exceptions and enabled interrupts goes to its host.
 pub fn board_law()
     ensures { (layout : PlatformLayout) (opened : List ℕ) (events : List BoardEvent)
         (board : Board) (run : BoardRun layout opened events board)
@@ -65,9 +65,9 @@ pub fn pages_law()
     board_law();
 }
 
-/// What the code around the loop relies on in the bytes of each answer, after any traps that were served: its size, the hart,
-/// the world, the number of entries, an enclave's id, and the kinds of changes are in their bounds. Where an answer has no
-/// list of entries, no page is to be made zero and no hart is woken. It has control words where a host enters an enclave.
+/// States the facts about the bytes of each answer on which the code around the loop relies, after any traps that were served.
+/// Its size, the hart, the world, the number of entries, an enclave's id and the kinds of changes are in their bounds. An
+/// answer without lists zeroes no page and wakes no hart. It has control words iff a host enters an enclave.
 pub fn answers_law()
     ensures { AnswersWell }
 {

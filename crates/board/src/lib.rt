@@ -1,26 +1,22 @@
 //! A board that the firmware runs on, and what holds of it: memory, harts that load the PMP entries of the monitor's
 //! answers, and worlds that do what they like between traps.
 //!
-//! The firmware's theorem, `firmware_law` of `trap_server`, speaks of bytes: traps that came in, answers that went
-//! out. Here these bytes do something. Each world keeps the list of entries that an answer last had for it. A hart
-//! judges accesses by the list that it loaded last, and by nothing else; an answer makes pages zero; the pages of a
-//! creation are read from memory. The integer registers of the world that trapped are saved in its set, and sets change
-//! as the answer says and no other way. Registers of floating point are kept and loaded where the world of a hart changes.
-//! The control words of a host are kept where an answer gives those of an enclave, and written back where the host
-//! comes back. These are the duties of the code around the monitor (`firmware/README.md`), in one definition,
-//! `specs/Board`. An event is an access by a world below machine mode, of any kind, address and value, a computation in
-//! floating point, a write of control words, or a trap that is served while no world runs. A host may write any of its
-//! control words; an enclave, in user mode, none, but for status, which tells of registers of floating point. The pages
-//! of a new enclave may be read later than its trap, until the next: they stay ([`pages_law`]).
+//! The firmware's theorem, `firmware_law` of `trap_server`, is about bytes: frames of traps that came in, and answers that
+//! went out. Here these bytes have effects. `specs/Board` defines each event of a board, with what the code around the
+//! monitor has to do for it (`firmware/README.md`): a world's access, of any kind, address and value; a computation; a
+//! write of control words; a trap that a hart serves without the loop; the stop and the start of a hart; and a trap that
+//! the loop serves. A hart judges accesses by the list of entries that it loaded last, and by nothing else. The board's
+//! memory is RAM outside the monitor's pages; what matters of these pages is state of its own, such as register sets.
+//! `specs/Held` has the control registers, of which only some bits can be written.
 //!
-//! For the layer above: after boot and any list of events, on one to four harts, each access is allowed exactly as
-//! the view of its world allows it, and no world but an enclave itself reads or changes its private pages, or its
-//! registers of floating point ([`board_law`]). The set of integer registers of who waits stays, and who goes on has its
-//! own; so it is of control words. What a world does with its registers while it runs is anything, and so is what
-//! memory has at boot.
+//! For the layer above: after boot and any list of events, on one to four harts, each access is allowed exactly as the
+//! view of its world allows it, and no world except an enclave itself reads or changes its private pages or its registers
+//! ([`board_law`]). A trap may take time, while other harts run ([`time_law`]), and the pages of a new enclave stay until
+//! it is entered ([`pages_law`]). The code around the loop may rely on bounds of each answer's words ([`answers_law`]).
+//! Each run of the model is a run of a board ([`model_law`]).
 //!
-//! There is no code in this crate but its law. A hart is no more here than what `pmp_match` says of PMP entries:
-//! caches, devices that reach memory by themselves and time are not known to it.
+//! There is no code in this crate except its laws. A hart is no more here than what `pmp_match` says about PMP entries:
+//! caches, and devices that access memory by themselves, are not part of it.
 #![tactic(auto)]
 
 mod laws;
