@@ -130,10 +130,25 @@ void floats_at_start(struct world *self);
 struct harts {
     uint64_t count, started, pending;
 };
-/* The states as they are, which a hart without the lock may see while they change; and others in their place, with the lock. */
-struct harts seen_harts(void);
-void put_harts(const struct harts *states);
-int is_started(uint64_t hart);
+extern struct harts harts;
+static inline int is_started(uint64_t hart)
+{
+    return harts.started >> hart & 1;
+}
+/* The states, which a hart without the lock may read while they change, and others in their place, with the lock. A hart in `started` is
+   started, whatever `pending` says. So a reader of `started` first, and a writer of `pending` first, agree on a state that there was. */
+static inline struct harts seen_harts(void)
+{
+    struct harts seen = {.count = harts.count};
+    seen.started = __atomic_load_n(&harts.started, __ATOMIC_ACQUIRE);
+    seen.pending = harts.pending;
+    return seen;
+}
+static inline void put_harts(const struct harts *states)
+{
+    harts.pending = states->pending;
+    __atomic_store_n(&harts.started, states->started, __ATOMIC_RELEASE);
+}
 static inline uint64_t this_hart(void)
 {
     uint64_t hart;

@@ -11,28 +11,7 @@ static volatile uint32_t *const software_interrupt = (volatile uint32_t *)0x2000
 
 #define TEN_SECONDS 100000000ul
 
-static struct harts harts = {.started = 1};
-
-/* A hart that is in `started` is started, whatever `pending` says. So who reads `started` first finds no state that was none, if who stops a
-   hart takes it out of `pending` first. */
-struct harts seen_harts(void)
-{
-    struct harts seen = {.count = hart_count()};
-    seen.started = __atomic_load_n(&harts.started, __ATOMIC_ACQUIRE);
-    seen.pending = harts.pending;
-    return seen;
-}
-
-void put_harts(const struct harts *states)
-{
-    harts.pending = states->pending;
-    __atomic_store_n(&harts.started, states->started, __ATOMIC_RELEASE);
-}
-
-int is_started(uint64_t hart)
-{
-    return harts.started >> hart & 1;
-}
+struct harts harts = {.started = 1};
 
 /* What is asked of a hart (requests). Beside it is counted how often it was asked for fences, and how often before it last made
    them. */

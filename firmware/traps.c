@@ -212,4 +212,5 @@ void boot(uint64_t hart, uint64_t tree)
     device_tree = tree;
     forget_private();
     find_board(tree);
+    harts.count = hart_count();
 }

@@ -20,7 +20,7 @@ import resets  # noqa: E402
 from edits import edited  # noqa: E402
 
 MUTANTS = [
-    ("trap.S", "    sw      zero, IS_OUT(a0)\n", "", "race"),
+    ("trap.S", "    sw      zero, IS_OUT(a0)\n", "", "storm"),
     ("trap.S", "    forget_saved                # an enclave's\n", "", "saved"),
     ("trap.S", "    forget_saved\n", "", "busy"),
     ("trap.S", "    ld      x30, 8 * 30(x31)\n", "", "sets"),
@@ -71,7 +71,7 @@ MUTANTS = [
     ("harts.c", "    fence_here(__atomic_fetch_and(&self->requests, ~FENCES, __ATOMIC_SEQ_CST));\n", "    __atomic_fetch_and(&self->requests, ~FENCES, __ATOMIC_SEQ_CST);\n", "quartet"),
     ("harts.c", "            __atomic_fetch_or(&worlds[hart].requests, kinds, __ATOMIC_SEQ_CST);\n", "            if (hart < 3)\n                __atomic_fetch_or(&worlds[hart].requests, kinds, __ATOMIC_SEQ_CST);\n", "quartet"),
     ("harts.c", "        if (is_other(set, hart))\n            wait_for_halt(hart);\n", "        ;\n", "late"),
-    ("harts.c", "    harts.pending = states->pending;\n    __atomic_store_n(&harts.started, states->started, __ATOMIC_RELEASE);\n", "    harts.started = states->started;\n    __atomic_store_n(&harts.pending, states->pending, __ATOMIC_RELEASE);\n", "state"),
+    ("board.h", "    harts.pending = states->pending;\n    __atomic_store_n(&harts.started, states->started, __ATOMIC_RELEASE);\n", "    harts.started = states->started;\n    __atomic_store_n(&harts.pending, states->pending, __ATOMIC_RELEASE);\n", "state"),
     ("reset.c", "        tried = 0;\n", "", "slots"),
     ("reset.c", "range->first + tried++", "range->first", "slots"),
     ("reset.c", "&private_ranges[enclave - 1];\n    range->check", "&private_ranges[0];\n    range->check", "slots"),
@@ -158,10 +158,11 @@ class Bench:
 
     @staticmethod
     def injected(image):
-        """A few instructions of trap.S: where a ticket is drawn, where the lock has been let go of, and where an enclave's registers are loaded."""
+        """A few instructions of trap.S: where a ticket is drawn, where the lock has been let go of, and where an enclave's registers are loaded,
+        and where only an enclave's trap comes."""
         found = resets.instructions_of(image)
         left = [i for i, it in enumerate(found) if it[1] == "run_world" and it[2].startswith("fence")][1]
-        return [next(it for it in found if it[1] == "drawn"), found[left], next(it for it in found if it[1] == "wait_for_call"), next(it for it in found if it[2].startswith("mret"))]
+        return [next(it for it in found if it[2].startswith("li\ts1,")), next(it for it in found if it[1] == "drawn"), found[left], next(it for it in found if it[1] == "wait_for_call"), next(it for it in found if it[2].startswith("mret"))]
 
 
 LOOKS = ["host", "timer", "sets", "race", "two_hosts", "causes", "vectors", "closed", "exits", "saved", "off", "slots", "ends", "quartet", "zeros", "aliases", "types", "state", "hostile", "floats", "storm", "busy", "stages", "late", "steps"]

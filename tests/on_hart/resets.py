@@ -137,7 +137,7 @@ def each_instruction(image, payload, told):
     """Each instruction of trap.S, or one of EVERY (1: all; 8 if it is not given)."""
     every = int(os.environ.get("EVERY", "8"))
     always = ("drawn", "take_monitor", "wait_for_call", "wake_called")
-    found = [it for i, it in enumerate(instructions_of(image)) if i % every == 0 or it[1] in always or it[2].startswith(("fence", "jal", "csrrw"))]
+    found = [it for i, it in enumerate(instructions_of(image)) if i % every == 0 or it[1] in always or it[2].startswith(("fence", "jal", "csrrw", "li\ts1,"))]
     with ThreadPoolExecutor(max_workers=2) as boards:
         done = list(boards.map(lambda it: injected(image, payload, it[0]), found))
     wrong = [f"{it[1]}: {it[2]}: {why}" for it, (right, why) in zip(found, done) if not right]
