@@ -18,19 +18,12 @@ file_of text monitor ram devices harts platform is built = record {
     document = is.document;
     parsed = is.parsed;
     is_platform = record {
-      form = record {
-        keys = is.numbers.keys;
-        monitor = monitor;
-        ram = ram;
-        devices = devices;
-        harts = harts;
-        entries = 16;
-        monitor_is = is.numbers.monitor_is;
-        ram_is = is.ranges.ram_is;
-        devices_are = is.ranges.devices_are;
-        harts_are = is.numbers.harts_are;
-        entries_are = is.numbers.entries_are;
-      };
+      monitor = monitor;
+      ram = ram;
+      devices = devices;
+      harts = harts;
+      entries = 16;
+      form = is.form;
       built = built;
     };
   };

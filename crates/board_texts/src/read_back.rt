@@ -1,16 +1,14 @@
 //! What a text is, as its reader has it: what is printed is what was meant.
 
 ghost use Rattle.std.specs.Prelude.{◌≡◌, ◌-◌, ◌<◌, ◌^◌, Ok, length, true};
-ghost use Rattle.toml.specs.View.{table_view};
 ghost use Rattle.map_text.specs.MapFile.{Makes};
-ghost use Rattle.board_texts.specs.ReadBack.{HasNumbers, HasRanges, IsTextOf};
+ghost use Rattle.board_texts.specs.ReadBack.{IsTextOf};
 
-use input_files::{TextFault, devices_at, monitor_at, number_or, ram_at, unknown_key};
+use input_files::{DocumentFault, PlatformForm, TextFault, read_form};
 use map_text::{MapFileFault, map_of};
 use permission_map::{PermissionMap, Run};
 use pmp_encoding::Perm;
 use std::alloc::Global;
-use toml::Table;
 
 /// Whether two lists of runs are the same.
 fn are_same_runs(runs: &[Run], others: &[Run]) -> bool
@@ -81,58 +79,24 @@ fn are_same_devices(devices: &[(u64, u64, Perm)], others: &[(u64, u64, Perm)]) -
     true
 }
 
-/// Whether a document has these numbers.
-fn has_numbers(document: &Table, monitor: (u64, u64), harts: u64) -> bool
-    ensures { result ≡ true → HasNumbers (table_view document.now) monitor harts }
-{
-    let keys = ["monitor", "ram", "device", "harts", "entries"];
-    if unknown_key(document, keys.as_slice()).is_some() {
-        return false;
-    }
-    let Some(range) = monitor_at(document) else {
-        return false;
-    };
-    let Some(read_harts) = number_or(document, "harts", 1) else {
-        return false;
-    };
-    let Some(read_entries) = number_or(document, "entries", 16) else {
-        return false;
-    };
-    range.0 == monitor.0 && range.1 == monitor.1 && read_harts == harts && read_entries == 16
-}
-
-/// Whether a document has these ranges of memory and these devices.
-fn has_ranges(
-    alloc: Global,
-    document: &Table,
-    ram: &[(u64, u64)],
-    devices: &[(u64, u64, Perm)],
-) -> Result<bool, TextFault>
-    ensures { result ≡ Ok true → HasRanges (table_view document.now) ram.now devices.now }
-{
-    let read_ram = ram_at(alloc, document)?;
-    let read_devices = devices_at(alloc, document)?;
-    Ok(
-        are_same_ranges(read_ram.as_slice(), ram)
-            && are_same_devices(read_devices.as_slice(), devices),
-    )
-}
-
-/// Whether the text is a document of this platform.
-fn is_document_of(
-    alloc: Global,
-    document: &Table,
+/// Whether a form is of these numbers and ranges, and of sixteen entries.
+fn is_form_of(
+    form: &PlatformForm,
     numbers: ((u64, u64), u64),
     ram: &[(u64, u64)],
     devices: &[(u64, u64, Perm)],
-) -> Result<bool, TextFault>
-    ensures { result ≡ Ok true → HasNumbers (table_view document.now) numbers.0 numbers.1
-        × HasRanges (table_view document.now) ram.now devices.now }
+) -> bool
+    ensures { result ≡ true → (form.now.monitor ≡ numbers.0) × (form.now.harts ≡ numbers.1)
+        × (form.now.entries ≡ 16) × (form.now.ram.items ≡ ram.now)
+        × (form.now.devices.items ≡ devices.now) }
 {
-    if !has_numbers(document, numbers.0, numbers.1) {
-        return Ok(false);
-    }
-    has_ranges(alloc, document, ram, devices)
+    let (monitor, harts) = numbers;
+    form.monitor.0 == monitor.0
+        && form.monitor.1 == monitor.1
+        && form.harts == harts
+        && form.entries == 16
+        && are_same_ranges(form.ram.as_slice(), ram)
+        && are_same_devices(form.devices.as_slice(), devices)
 }
 
 /// Whether the text is the platform of these numbers and ranges, as far as its form goes.
@@ -145,13 +109,14 @@ pub(crate) fn is_platform(
 ) -> Result<bool, TextFault>
     ensures { result ≡ Ok true → IsTextOf text.now numbers.0 ram.now devices.now numbers.1 }
 {
-    match toml::table_from_slice(alloc, text) {
-        Ok(document) => is_document_of(alloc, &document, numbers, ram, devices),
-        Err(error) => {
-            if error.is_memory() {
-                return Err(TextFault::Memory);
-            }
-            Ok(false)
-        }
+    let document = match toml::table_from_slice(alloc, text) {
+        Ok(document) => document,
+        Err(error) if error.is_memory() => return Err(TextFault::Memory),
+        Err(_) => return Ok(false),
+    };
+    match read_form(alloc, &document) {
+        Ok(form) => Ok(is_form_of(&form, numbers, ram, devices)),
+        Err(DocumentFault::Memory) => Err(TextFault::Memory),
+        Err(DocumentFault::Breach(_)) => Ok(false),
     }
 }

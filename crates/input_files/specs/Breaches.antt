@@ -1,26 +1,26 @@
--- Why a document is no platform.
-use Rattle.std.specs.Prelude.{◌≡◌, ◌≢◌, ◌⊎◌, ℕ, zero, suc, ◌+◌, ◌<◌, ◌≤◌, false, true, List, []}
-use Rattle.std.specs.Prelude.{◌∷◌, ◌++◌, Option, Some, None, option_and_then, codes}
-use Rattle.toml.specs.Data.{Data, table, Items, Members, get_item, get_member, at, as_array}
-use Rattle.toml.specs.Data.{as_table}
+-- The checks of a platform's document in their order, and the first that fails.
+use Rattle.std.specs.Prelude.{◌≡◌, ◌≢◌, ◌⊎◌, ℕ, ◌+◌, ◌<◌, ◌≤◌, false, List, [], ◌∷◌, ◌++◌, Option}
+use Rattle.std.specs.Prelude.{Some, None, codes, ⊤}
+use Rattle.toml.specs.Data.{Data, Items, no_items, item, Members, get_member, as_array, as_table}
 use Rattle.pmp_encoding.specs.declared.perm.Perm.{Perm}
 use Rattle.platforms.specs.Platform.{platform_rules}
 use Rattle.platforms.specs.Ranges.{IsRange}
 use Rattle.platforms.specs.CheckLists.{FailsFirst}
 use Rattle.platforms.specs.declared.platform.PlatformFault.{PlatformFault}
 use Rattle.platforms.specs.declared.platform.PlatformFault.TheVariants.{BadHarts, BadEntries}
-use Rattle.platforms.specs.declared.platform.PlatformFault.TheVariants.{Overlap}
+use Rattle.platforms.specs.declared.platform.PlatformFault.TheVariants as rules
 use Rattle.input_files.specs.Document.{HasForm, is_known, known, number, perm_of, range_in}
 use Rattle.input_files.specs.declared.breach.Key.{Key}
 use Rattle.input_files.specs.declared.breach.Key.TheVariants as keys
 use Rattle.input_files.specs.declared.breach.TomlPath.{TomlPath}
 use Rattle.input_files.specs.declared.breach.TomlPath.TheVariants.{File, Monitor, Ram, Device}
 use Rattle.input_files.specs.declared.breach.Breach.{Breach}
-use Rattle.input_files.specs.declared.breach.Breach.TheVariants as breaches
-use Rattle.input_files.specs.Overlaps.{IsOverlap, placed_ranges}
 use Rattle.input_files.specs.declared.breach.Breach.TheVariants.{Unknown, Missing, NoNumber}
-use Rattle.input_files.specs.declared.breach.Breach.TheVariants.{NoPages}
-use Rattle.input_files.specs.declared.breach.Breach.TheVariants.{NoPerm, NoTable, NoTables, Rule}
+use Rattle.input_files.specs.declared.breach.Breach.TheVariants.{NoPages, NoPerm, NoTable}
+use Rattle.input_files.specs.declared.breach.Breach.TheVariants.{NoTables, Overlap, Rule}
+use Rattle.input_files.specs.declared.fault.DocumentFault.{DocumentFault}
+use Rattle.input_files.specs.declared.fault.DocumentFault.TheVariants as faults
+use Rattle.input_files.specs.Overlaps.{IsOverlap, placed_ranges}
 
 -- a key as it is written
 abbrev pub key_name : Key → List ℕ
@@ -33,62 +33,106 @@ key_name keys.Base = codes "base"
 key_name keys.Size = codes "size"
 key_name keys.Perm = codes "perm"
 
--- the keys that the table of a place may have
-abbrev pub keys_of : TomlPath → List (List ℕ)
-keys_of File = known
-keys_of Monitor = codes "base" ∷ codes "size" ∷ []
-keys_of (Ram n) = codes "base" ∷ codes "size" ∷ []
-keys_of (Device n) = codes "base" ∷ codes "size" ∷ codes "perm" ∷ []
+-- each check is given by the breaches that it finds. The first check that finds any finds this
+abbrev pub IsFirst : List (Breach → Type 0) → Breach → Type 0
+IsFirst [] breach = ⊥
+IsFirst (finds ∷ checks) breach = finds breach
+    ⊎ (((other : Breach) → finds other → ⊥) × IsFirst checks breach)
 
--- the keys that the table of a place must have
-abbrev pub needed_of : TomlPath → List (List ℕ)
-needed_of File = codes "monitor" ∷ codes "ram" ∷ []
-needed_of place = keys_of place
+-- a fault says what these checks find first, or that memory was refused
+abbrev pub IsFaultOf : List (Breach → Type 0) → DocumentFault → Type 0
+IsFaultOf checks (faults.Breach breach) = IsFirst checks breach
+IsFaultOf checks faults.Memory = ⊤
 
--- the keys of the table of a place whose values are numbers
-abbrev pub numbers_of : TomlPath → List (List ℕ)
-numbers_of File = codes "harts" ∷ codes "entries" ∷ []
-numbers_of place = codes "base" ∷ codes "size" ∷ []
+-- a table has a key outside this list
+abbrev pub HasUnknown : List (List ℕ) → TomlPath → Members → Breach → Type 0
+HasUnknown names place fields (Unknown spot key) = (spot ≡ place)
+    × (get_member key.now fields ≢ None) × (is_known key.now names ≡ false)
+HasUnknown names place fields _ = ⊥
 
--- the item of an array that has this number, counted from 1
-abbrev pub numbered : ℕ → Data → Option Data
-numbered zero value = None
-numbered (suc i) value = at i value
-
--- what is at a place of a document: a range of memory and a device are counted from 1
-abbrev pub value_of : Members → TomlPath → Option Data
-value_of document File = Some (table document)
-value_of document Monitor = get_member (codes "monitor") document
-value_of document (Ram n) = option_and_then (numbered n) (get_member (codes "ram") document)
-value_of document (Device n) = option_and_then (numbered n) (get_member (codes "device") document)
-
--- the table of a place breaks this: it has a key that it may not have, lacks one that it must have,
--- or has a value that will not do
-abbrev pub Breaks : Members → TomlPath → Breach → Type 0
-Breaks fields place (Unknown spot key) = (spot ≡ place) × (get_member key.now fields ≢ None)
-    × (is_known key.now (keys_of place) ≡ false)
-Breaks fields place (Missing spot key) = (spot ≡ place)
-    × (is_known (key_name key) (needed_of place) ≡ true) × (get_member (key_name key) fields ≡ None)
-Breaks fields place (NoNumber spot key) =
-    (spot ≡ place) × (is_known (key_name key) (numbers_of place) ≡ true) × (value : Data)
+-- the value at a key is not a whole number from 0
+abbrev pub HasNoNumber : TomlPath → Key → Members → Breach → Type 0
+HasNoNumber place key fields breach = (value : Data)
     × (get_member (key_name key) fields ≡ Some value) × (number value ≡ None)
-Breaks fields place (NoPages spot) = (spot ≡ place) × (place ≢ File) × (range : ℕ × ℕ)
-    × (range_in fields ≡ Some range) × (IsRange range → ⊥)
-Breaks fields place (NoPerm spot) =
-    (spot ≡ place) × (is_known (codes "perm") (needed_of place) ≡ true) × (value : Data)
+    × (breach ≡ NoNumber place key)
+
+-- a table lacks a key
+abbrev pub Lacks : TomlPath → Key → Members → Breach → Type 0
+Lacks place key fields breach = (get_member (key_name key) fields ≡ None)
+    × (breach ≡ Missing place key)
+
+-- the base and the size of a table do not give a range of whole pages
+abbrev pub HasNoPages : TomlPath → Members → Breach → Type 0
+HasNoPages place fields breach = (range : ℕ × ℕ) × (range_in fields ≡ Some range)
+    × (IsRange range → ⊥) × (breach ≡ NoPages place)
+
+-- the permission of a table is not one of the six
+abbrev pub HasNoPerm : TomlPath → Members → Breach → Type 0
+HasNoPerm place fields breach = (value : Data)
     × (get_member (codes "perm") fields ≡ Some value) × (perm_of value ≡ None)
-Breaks fields place _ = ⊥
+    × (breach ≡ NoPerm place)
 
--- what is at a place breaks this: it is no table, or one that breaks it
-abbrev pub BreaksAt : Data → TomlPath → Breach → Type 0
-BreaksAt value place breach =
-    ((as_table value ≡ None) × (breach ≡ NoTable place))
-    ⊎ ((fields : Members) × (as_table value ≡ Some fields) × Breaks fields place breach)
+-- the checks of a base and a size
+abbrev pub bounds_checks : TomlPath → Members → List (Breach → Type 0)
+bounds_checks place fields = Lacks place keys.Base fields ∷ HasNoNumber place keys.Base fields
+    ∷ Lacks place keys.Size fields ∷ HasNoNumber place keys.Size fields
+    ∷ HasNoPages place fields ∷ []
 
--- an item of an array breaks this, at the place of its number, counted from 1
-abbrev pub BreaksItem : Items → (ℕ → TomlPath) → Breach → Type 0
-BreaksItem items place breach = (i : ℕ) × (value : Data) × (get_item i items ≡ Some value)
-    × BreaksAt value (place (i + 1)) breach
+-- those of the table of the monitor, or of a range of memory
+abbrev pub range_checks : TomlPath → Members → List (Breach → Type 0)
+range_checks place fields = HasUnknown (codes "base" ∷ codes "size" ∷ []) place fields
+    ∷ bounds_checks place fields
+
+-- those of the table of a device
+abbrev pub device_checks : TomlPath → Members → List (Breach → Type 0)
+device_checks place fields =
+    HasUnknown (codes "base" ∷ codes "size" ∷ codes "perm" ∷ []) place fields
+    ∷ bounds_checks place fields
+    ++ Lacks place keys.Perm fields ∷ HasNoPerm place fields ∷ []
+
+-- those of a value that should be a table
+abbrev pub table_checks : (TomlPath → Members → List (Breach → Type 0)) → TomlPath → Option Members
+    → List (Breach → Type 0)
+table_checks checks place None = (λ breach. breach ≡ NoTable place) ∷ []
+table_checks checks place (Some fields) = checks place fields
+
+-- those of the items of an array from this number on, each of which should be a table
+abbrev pub item_checks : (TomlPath → Members → List (Breach → Type 0)) → (ℕ → TomlPath) → ℕ → Items
+    → List (Breach → Type 0)
+item_checks checks place n no_items = []
+item_checks checks place n (item value items) = table_checks checks (place n) (as_table value)
+    ++ item_checks checks place (n + 1) items
+
+-- those of a value that should be an array of tables
+abbrev pub array_checks : (TomlPath → Members → List (Breach → Type 0)) → (ℕ → TomlPath) → Key
+    → Option Items → List (Breach → Type 0)
+array_checks checks place key None = (λ breach. breach ≡ NoTables key) ∷ []
+array_checks checks place key (Some items) = item_checks checks place 1 items
+
+-- those of the monitor
+abbrev pub monitor_checks : Option Data → List (Breach → Type 0)
+monitor_checks None = (λ breach. breach ≡ Missing File keys.Monitor) ∷ []
+monitor_checks (Some value) = table_checks range_checks Monitor (as_table value)
+
+-- those of memory
+abbrev pub ram_checks : Option Data → List (Breach → Type 0)
+ram_checks None = (λ breach. breach ≡ Missing File keys.Ram) ∷ []
+ram_checks (Some value) = array_checks range_checks Ram keys.Ram (as_array value)
+
+-- those of the devices, which may be missing
+abbrev pub device_list_checks : Option Data → List (Breach → Type 0)
+device_list_checks None = []
+device_list_checks (Some value) = array_checks device_checks Device keys.Device (as_array value)
+
+-- those of the form of a document: its keys, the monitor, memory, the devices, and the numbers of
+-- harts and of entries
+abbrev pub form_checks : Members → List (Breach → Type 0)
+form_checks document =
+    HasUnknown known File document
+    ∷ (monitor_checks (get_member (codes "monitor") document)
+    ++ (ram_checks (get_member (codes "ram") document)
+    ++ (device_list_checks (get_member (codes "device") document)
+    ++ (HasNoNumber File keys.Harts document ∷ HasNoNumber File keys.Entries document ∷ []))))
 
 -- the first rule on platforms that ranges and numbers break: the rules on ranges come first, then
 -- how many harts and entries there are
@@ -101,22 +145,18 @@ BreaksRule monitor ram devices harts entries fault =
 
 -- a broken rule as what a document breaks: of two ranges that have a page in common, both
 abbrev pub IsBroken : PlatformFault → List (ℕ × ℕ) → List (ℕ × ℕ × Perm) → Breach → Type 0
-IsBroken fault ram devices (Rule told) = (told ≡ fault) × (fault ≢ Overlap)
-IsBroken fault ram devices (breaches.Overlap one other) = (fault ≡ Overlap)
+IsBroken fault ram devices (Rule told) = (told ≡ fault) × (fault ≢ rules.Overlap)
+IsBroken fault ram devices (Overlap one other) = (fault ≡ rules.Overlap)
     × IsOverlap (placed_ranges ram devices) one other
 IsBroken fault ram devices _ = ⊥
 
--- a document breaks this: what is at a place does, a value is no array, two ranges have a page
--- in common, or another rule is broken
-pub data IsBreach (document : Members) : Breach → Type 0 where
-  at_place : (place : TomlPath) (value : Data) (breach : Breach)
-      → value_of document place ≡ Some value → BreaksAt value place breach
-      → IsBreach document breach
-  no_array : (key : Key) (value : Data) → (key ≡ keys.Ram) ⊎ (key ≡ keys.Device)
-      → get_member (key_name key) document ≡ Some value → as_array value ≡ None
-      → IsBreach document (NoTables key)
-  rule :
-      (form : HasForm document) (fault : PlatformFault) (breach : Breach)
-      → BreaksRule form.monitor form.ram form.devices form.harts form.entries fault
-      → IsBroken fault form.ram form.devices breach
-      → IsBreach document breach
+-- the ranges and numbers of a document break a rule
+abbrev pub HasBrokenRule : Members → Breach → Type 0
+HasBrokenRule document breach =
+    (monitor : ℕ × ℕ) × (ram : List (ℕ × ℕ)) × (devices : List (ℕ × ℕ × Perm)) × (harts : ℕ)
+    × (entries : ℕ) × (fault : PlatformFault) × HasForm document monitor ram devices harts entries
+    × BreaksRule monitor ram devices harts entries fault × IsBroken fault ram devices breach
+
+-- all of them: the form, and last the rules
+abbrev pub document_checks : Members → List (Breach → Type 0)
+document_checks document = form_checks document ++ HasBrokenRule document ∷ []

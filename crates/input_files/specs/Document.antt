@@ -103,16 +103,12 @@ number_or usual key document = number_told usual (get_member key document)
 abbrev pub known : List (List ℕ)
 known = codes "monitor" ∷ codes "ram" ∷ codes "device" ∷ codes "harts" ∷ codes "entries" ∷ []
 
--- each part of a platform is there and has its form, and no key has another name: one hart where no
--- `harts` is given, and sixteen entries where no `entries` is. What is left are the rules on its
--- ranges and numbers
-pub record HasForm (document : Members) : Type 0 where
+-- each part of a document has its form, and no key has another name: one hart where no `harts` is
+-- given, and sixteen entries where no `entries` is. What is left are the rules on these ranges and
+-- numbers
+pub record HasForm (document : Members) (monitor : ℕ × ℕ) (ram : List (ℕ × ℕ))
+    (devices : List (ℕ × ℕ × Perm)) (harts entries : ℕ) : Type 0 where
   pub keys : has_only known document ≡ true
-  pub monitor : ℕ × ℕ
-  pub ram : List (ℕ × ℕ)
-  pub devices : List (ℕ × ℕ × Perm)
-  pub harts : ℕ
-  pub entries : ℕ
   pub monitor_is : monitor_at document ≡ Some monitor
   pub ram_is : ram_at document ≡ Some ram
   pub devices_are : devices_at document ≡ Some devices
@@ -137,8 +133,13 @@ pub record Builds (monitor : ℕ × ℕ) (ram : List (ℕ × ℕ)) (devices : Li
 -- a document is the platform: each part has its form, and the platform is that of its ranges and
 -- numbers
 pub record IsPlatformDocument (document : Members) (platform : PlatformLayout) : Type 0 where
-  pub form : HasForm document
-  pub built : Builds form.monitor form.ram form.devices form.harts form.entries platform
+  pub monitor : ℕ × ℕ
+  pub ram : List (ℕ × ℕ)
+  pub devices : List (ℕ × ℕ × Perm)
+  pub harts : ℕ
+  pub entries : ℕ
+  pub form : HasForm document monitor ram devices harts entries
+  pub built : Builds monitor ram devices harts entries platform
 
 -- a text is the platform: it is a TOML document that is
 pub record IsPlatformText (text : List ℕ) (platform : PlatformLayout) : Type 0 where

@@ -5,7 +5,6 @@ pub mod Faults
 pub mod KeyPlaces
 pub mod Maps
 pub mod Masters
-pub mod Order
 pub mod Overlaps
 pub mod Platforms
 pub mod Positions

@@ -3,7 +3,8 @@
 ghost use Rattle.std.specs.Prelude.{◌≡◌};
 ghost use Rattle.input_files.specs.Faults.{text_fault_number};
 
-use std::alloc::AllocFailed;
+use crate::breach::Breach;
+use std::alloc::{AllocError, AllocFailed};
 use thiserror::Error;
 
 /// Why a text is no platform.
@@ -29,13 +30,44 @@ impl TextFault {
     }
 }
 
-impl<T: Drop> From<AllocFailed<T>> for TextFault {
+/// The reason for which a document is not a platform.
+#[derive(Clone, Copy)]
+pub enum DocumentFault<'a> {
+    /// The document's first breach.
+    Breach(Breach<'a>),
+    /// Memory was refused.
+    Memory,
+}
+
+impl<'a> From<Breach<'a>> for DocumentFault<'a> {
     ghost use Rattle.std.specs.Prelude.{◌≡◌};
-    ghost use Rattle.input_files.specs.declared.fault.TextFault.TheVariants.{Memory};
+    ghost use Rattle.input_files.specs.declared.fault.DocumentFault.TheVariants as faults;
 
-    ghost from_gives = { λ error result. result ≡ Memory };
+    ghost from_gives = { λ breach result. result ≡ faults.Breach breach };
 
-    fn from(_error: AllocFailed<T>) -> TextFault {
-        TextFault::Memory
+    fn from(breach: Breach<'a>) -> DocumentFault<'a> {
+        DocumentFault::Breach(breach)
+    }
+}
+
+impl<'a> From<AllocError> for DocumentFault<'a> {
+    ghost use Rattle.std.specs.Prelude.{◌≡◌};
+    ghost use Rattle.input_files.specs.declared.fault.DocumentFault.TheVariants as faults;
+
+    ghost from_gives = { λ error result. result ≡ faults.Memory };
+
+    fn from(_error: AllocError) -> DocumentFault<'a> {
+        DocumentFault::Memory
+    }
+}
+
+impl<'a, T: Drop> From<AllocFailed<T>> for DocumentFault<'a> {
+    ghost use Rattle.std.specs.Prelude.{◌≡◌};
+    ghost use Rattle.input_files.specs.declared.fault.DocumentFault.TheVariants as faults;
+
+    ghost from_gives = { λ error result. result ≡ faults.Memory };
+
+    fn from(_error: AllocFailed<T>) -> DocumentFault<'a> {
+        DocumentFault::Memory
     }
 }

@@ -1,8 +1,8 @@
 //! The input files: what a platform file says, and what is wrong with a map, a trace or a platform file, where, and what would fix it.
 //!
 //! - `platform`: [`platform_of`] answers the platform that a text is, and `NotAPlatform` exactly where the text is not one;
-//!   [`read_document`] answers it of a TOML document, or what the document breaks first, a [`Breach`]. `first_breach` finds what a part
-//!   of it breaks, `rules` which rule its ranges and numbers break, and `key_places` where the text has it.
+//!   [`read_form`] reads the ranges and numbers of a TOML document, or answers what it breaks first, a [`Breach`]. `tables` reads the
+//!   tables of ranges and devices, and `key_places` finds where the text has what is broken.
 //! - `platform_lint`: [`lint_platform`] answers whether a file is a platform, and writes one line where it is not one. Of a platform it
 //!   writes a warning for each master of memory that its devices hold, by the table of `masters`.
 //! - `map_lint`: [`lint_map`] writes a line for each line of a map file at fault, and a warning for each that changes nothing of the
@@ -24,7 +24,6 @@
 mod breach;
 mod document;
 mod fault;
-mod first_breach;
 mod held_masters;
 mod idle_lines;
 mod key_places;
@@ -43,19 +42,16 @@ mod platform;
 mod platform_lint;
 mod platform_words;
 mod positions;
-mod ranges;
 mod registers;
-mod rules;
 mod said_words;
+mod tables;
 mod taker;
 mod trace_lint;
 mod trace_words;
-mod values;
 mod warnings;
 
 pub use breach::{Breach, Key, PlacedRange, TomlPath};
-pub use document::{number_or, unknown_key};
-pub use fault::TextFault;
+pub use fault::{DocumentFault, TextFault};
 pub use held_masters::HeldMaster;
 pub use idle_lines::{IdleLine, MapRemark, Numbered, map_of_both};
 pub use line_costs::push_line_costs;
@@ -63,8 +59,7 @@ pub use lint_fault::LintFault;
 pub use map_faults::{MapFindings, UnknownLine, map_findings, push_map_findings};
 pub use map_lint::lint_map;
 pub use masters::{KnownBoard, Master, MasterKind};
-pub use platform::{DocumentFault, platform_of, read_document};
+pub use platform::{PlatformForm, platform_of, read_form};
 pub use platform_lint::lint_platform;
 pub use taker::Taker;
 pub use trace_lint::{TraceFinding, lint_trace, push_trace_finding, trace_findings};
-pub use values::{devices_at, monitor_at, ram_at};

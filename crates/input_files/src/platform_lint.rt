@@ -8,8 +8,9 @@ ghost use Rattle.input_files.specs.declared.lint_fault.LintFault as LintFault;
 
 use crate::LintFault;
 use crate::breach::Breach;
+use crate::fault::DocumentFault;
 use crate::key_places::place_of;
-use crate::platform::{DocumentFault, read_document};
+use crate::platform::read_platform;
 use crate::platform_words::push_breach;
 use crate::positions::{push_found, push_position};
 use crate::warnings::warnings;
@@ -79,8 +80,8 @@ fn lint_text(alloc: Global, name: &str, text: &str) -> Result<(bool, Vec<u8>), A
             return Ok((false, line));
         }
     };
-    match read_document(alloc, &document) {
-        Ok(_) => Ok((true, warnings(alloc, name, text, &document)?)),
+    match read_platform(alloc, &document) {
+        Ok((form, _)) => Ok((true, warnings(alloc, name, text, form.devices.as_slice())?)),
         Err(DocumentFault::Memory) => Err(AllocError),
         Err(DocumentFault::Breach(breach)) => Ok((false, breach_line(alloc, name, text, breach)?)),
     }

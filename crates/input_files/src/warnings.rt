@@ -1,37 +1,14 @@
 //! The warnings of a platform file: the masters of memory that its devices hold.
 
-ghost use Rattle.toml.specs.View.{table_view};
-ghost use Rattle.platforms.specs.Platform.{PlatformLayout};
-ghost use Rattle.std.specs.Prelude.{◌≡◌, IfOk};
-ghost use Rattle.input_files.specs.Document.{IsPlatformDocument};
-
 use crate::breach::TomlPath;
-use crate::fault::TextFault;
 use crate::held_masters::{HeldMaster, held_masters};
 use crate::key_places::header_of;
 use crate::masters::Master;
 use crate::platform_words::push_table;
 use crate::positions::push_found;
-use crate::values::devices_at;
 use pmp_encoding::Perm;
 use std::alloc::{AllocError, Global};
 use text_lines::{push, push_address};
-use toml::Table;
-
-/// The devices of a platform, as its document has them.
-fn devices_of(alloc: Global, document: &Table) -> Result<Vec<(u64, u64, Perm)>, AllocError>
-    requires { (platform : PlatformLayout)
-        × IsPlatformDocument (table_view document.now) platform }
-    ensures { IfOk result (λ devices. (platform : PlatformLayout)
-        × IsPlatformDocument (table_view document.now) platform
-        × (devices.items ≡ platform.devices)) }
-{
-    match devices_at(alloc, document) {
-        Ok(devices) => Ok(devices),
-        Err(TextFault::NotAPlatform) => unreachable!(),
-        Err(TextFault::Memory) => Err(AllocError),
-    }
-}
 
 /// Appends what a board has in which pages.
 fn push_master(text: &mut Vec<u8>, master: Master) -> Result<(), AllocError> {
@@ -69,13 +46,9 @@ pub(crate) fn warnings(
     alloc: Global,
     name: &str,
     text: &str,
-    document: &Table,
-) -> Result<Vec<u8>, AllocError>
-    requires { (platform : PlatformLayout)
-        × IsPlatformDocument (table_view document.now) platform }
-{
-    let devices = devices_of(alloc, document)?;
-    let found = held_masters(alloc, devices.as_slice())?;
+    devices: &[(u64, u64, Perm)],
+) -> Result<Vec<u8>, AllocError> {
+    let found = held_masters(alloc, devices)?;
     let mut said = Vec::new(alloc);
     for held in found.as_slice() {
         push_warning(&mut said, name, text, *held)?;

@@ -7,5 +7,4 @@ returns-then-not-is_known-clause-some c = (
   λ none. first_there _ c.in-Some.key.now c.in-Some._value.now c.next.new.self c.as_str-then-not-is_known.ensures.value
       (rw c.in-Some.ensures.steps at (c.keys.invariant.3 _ none)),
   search rules,
-  search rules,
 )

@@ -1,8 +1,0 @@
-use Rattle.std.proofs.Common.{◌≡◌, ◌++◌, drop, option_map}
-use Rattle.toml.specs.View.{items_view}
-use Rattle.input_files.specs.Document.{each, range_of}
-use Rattle.input_files.proofs.values.ranges_in.Given as goal
-
-abbrev pub invariant-loop-value : goal.invariant-loop-value
-invariant-loop-value l = each range_of (items_view l.values) ≡ option_map (λ rest. l.ranges.items ++ rest)
-    (each range_of (items_view (drop l.value-index l.values)))
