@@ -6,7 +6,8 @@ before, or it refuses the text, by its line.
 
 Each text is spoilt in each of these ways, by a fixed seed: a line is left out, two lines change places, a line comes twice, the
 text ends early, a letter of a name is lost or another one, a byte of noise comes into a line, and the first word of a line gets a
-colour of a terminal. Some changes leave another listing that is right, and so another answer, which is held to be one that the
+colour of a terminal. A digit is lost or another one in what gdb prints, and lost in what OpenOCD prints; a line of another hart
+comes between theirs; and an entry of a plan gets the number of another. Some changes leave another listing that is right, and so another answer, which is held to be one that the
 changed text means:
 
 - a register's line is left out, so that its register is zero: a listing says nothing of what it lacks, unless it counts its
@@ -47,7 +48,7 @@ Boot HART PMP Count       : 16
 """
 GDB = """pc             0x80200000       0x80200000
 mstatus        0xa00000000      SD:0 VM:00 MPRV:0
-pmpcfg0        0x1f1b0818       522914840
+pmpcfg0        0x1f1b0818       521865240
 pmpaddr0       0x200fff 2101247
 pmpaddr1       0x20080000       537395200
 pmpaddr2       0x200801ff       537395711
@@ -118,7 +119,40 @@ def coloured(lines, made):
     return at, [COLOUR + line if i == at else line for i, line in enumerate(lines)]
 
 
+def digits_of(lines, made):
+    """A line on a register of the protection, and the place of a digit of its value."""
+    at = made.choice([i for i, line in enumerate(lines) if b"pmp" in line])
+    value = lines[at].index(b"0x") + 2
+    return at, value + made.randrange(len(re.match(rb"[0-9a-f]+", lines[at][value:])[0]))
+
+
+def digit_lost(lines, made):
+    at, place = digits_of(lines, made)
+    return at, [it[:place] + it[place + 1 :] if i == at else it for i, it in enumerate(lines)]
+
+
+def digit_changed(lines, made):
+    at, place = digits_of(lines, made)
+    return at, [it[:place] + b"%x" % made.randrange(16) + it[place + 1 :] if i == at else it for i, it in enumerate(lines)]
+
+
+def renumbered(lines, made):
+    """An entry of a list with the number of another."""
+    entries = [i for i, line in enumerate(lines) if re.match(rb"\d", line)]
+    at, number = made.choice(entries), made.randrange(len(entries) + 1)
+    return at, [b"%d%s" % (number, it[it.index(b" ") :]) if i == at else it for i, it in enumerate(lines)]
+
+
+def second_hart(lines, made):
+    """A line that names another hart, and a register of it."""
+    at = made.randrange(1, len(lines))
+    line = made.choice([b"hart1=1", b"hart1: 0x0", b"cpu1 = 0", b"core1=0", b"thread 1", b"===== RISC-V Registers", b"mhartid 0x1"])
+    return at, [line if line.startswith(b"=") else b"mhartid 0x0", *lines[:at], line, b"pmpcfg0 0x18", *lines[at:]]
+
+
 CHANGES = [left_out, swapped, twice, cut, lost, another, noisy, coloured]
+# Changes of one kind of text, each of which has to be refused, or to leave the answer as it was.
+OWN_CHANGES = {"log": [], "gdb": [digit_lost, digit_changed, second_hart], "openocd": [digit_lost, second_hart], "plan": [renumbered]}
 
 
 def answer(program, lines):
@@ -169,7 +203,7 @@ def main():
             lines = text.split(b"\n")[:-1]
             right = answer(program, lines)
             count.note(right[1] == 0 and right[0] != [b""], f"{kind}: the right text is taken", right[2].decode())
-            for change in CHANGES:
+            for change in CHANGES + OWN_CHANGES[kind]:
                 seeds = [f"{kind} {change.__name__} {n}" for n in range(16)]
                 wrong = [it for it in pool.map(lambda seed: tried(program, kind, lines, right, change, seed), seeds) if it]
                 count.note(not wrong, f"{kind}: {change.__name__}", "; ".join(wrong[:3]))

@@ -11,7 +11,7 @@ use Rattle.device_tree.specs.declared.ways.Window.{Window}
 use Rattle.device_tree.specs.declared.ways.Way.{Way, Same, Bus'}
 use Rattle.device_tree.specs.Cells.{number_of}
 
--- how many bytes a row of `ranges` has: an address of the bus, one of its parent, and a size
+-- the size of a row of `ranges`: an address of the bus, one of its parent, and a size
 abbrev pub window_len : Cells → ℕ → ℕ
 window_len cells outer = 4 * (cells.address + outer + cells.size)
 
@@ -52,22 +52,22 @@ root_address [] address = Some address
 root_address (bus ∷ outer) address = option_and_then (root_address outer)
     (parent_address bus address)
 
--- what the program's way means
+-- the buses of the program's way
 abbrev pub path_of : Way → Path
 path_of Same = []
 path_of (Bus' p windows outer) = windows.items ∷ path_of outer
 
--- so many bytes further on, if it is an address at all
+-- the address that is some bytes higher, if there is an address
 abbrev pub moved : ℕ → Option ℕ → Option ℕ
 moved bytes address = option_map (λ (a : ℕ). a + bytes) address
 
--- from an address on, so many bytes of a bus are as many of the root, in one piece, or all of them
--- are none of it
+-- the bytes from an address on are one piece: they are consecutive at the root, or none has an
+-- address there
 abbrev pub IsPiece : (ℕ → Option ℕ) → ℕ → ℕ → Type 0
 IsPiece root address size = (k : ℕ) → k < size → root (address + k) ≡ moved k (root address)
 
--- bytes from an address on are these parts, one behind the other: each is a piece that ends where
--- the bytes do or could not be longer
+-- the bytes from an address on are these parts in order. Each is one piece, and as long as it can
+-- be
 abbrev pub AreParts : (ℕ → Option ℕ) → ℕ → ℕ → List RowPart → Type 0
 AreParts root address size [] = size ≡ 0
 AreParts root address size (first ∷ later) = (first.base ≡ address)
@@ -77,7 +77,7 @@ AreParts root address size (first ∷ later) = (first.base ≡ address)
     × ((first.size ≡ size) ⊎ (root (address + first.size) ≢ moved first.size (root address)))
     × AreParts root (address + first.size) (size - first.size) later
 
--- how many bytes of an extent have addresses of 64 bits
+-- the number of bytes of an extent whose addresses have 64 bits
 abbrev pub bus_size : Extent → ℕ
 bus_size extent = min extent.size (2 ^ 64 - extent.base)
 
@@ -88,31 +88,31 @@ is_same_address None (Some b) = false
 is_same_address (Some a) None = false
 is_same_address (Some a) (Some b) = eqb a b
 
--- so many bytes from an address on are a piece
+-- the bytes from an address on are one piece
 abbrev pub is_piece : (ℕ → Option ℕ) → ℕ → ℕ → Bool
 is_piece root address zero = true
 is_piece root address (suc size) = is_piece root address size
     && is_same_address (root (address + size)) (moved size (root address))
 
--- where these addresses have an extent of a bus, all of it and in one piece
+-- an extent of a bus by these addresses, if all of it is one piece
 abbrev pub in_one_piece : (ℕ → Option ℕ) → Extent → Option Extent
 in_one_piece root extent = cond
     (leb (extent.base + extent.size) (2 ^ 64) && is_piece root extent.base extent.size)
     (option_map (λ (base : ℕ). record { base = base; size = extent.size }) (root extent.base))
     None
 
--- where the root has an extent of a bus, all of it and in one piece
+-- an extent of a bus at the root, if all of it is one piece there
 abbrev pub at_root : Path → Extent → Option Extent
 at_root [] extent = Some extent
 at_root (bus ∷ outer) extent = in_one_piece (root_address (bus ∷ outer)) extent
 
--- a step tells where the root has an address, and of how many bytes it tells so
+-- a step has the address at the root, and a number of bytes that are one piece
 pub record IsStep (root : ℕ → Option ℕ) (address : ℕ) (step : Step) : Type 0 where
   pub some : 0 < step.len
   pub is_root : step.root ≡ root address
   pub piece : IsPiece root address step.len
 
--- the part begins at the address, is a piece, and has at most so many bytes
+-- the part begins at the address, is one piece, and has at most `most` bytes
 pub record IsPart (root : ℕ → Option ℕ) (address most : ℕ) (part : RowPart) : Type 0 where
   pub base : part.base ≡ address
   pub some : 0 < part.size

@@ -14,7 +14,7 @@ pub enum Kind {
     Reserved,
     /// A hart: its numbers, each with a size of no cells.
     Hart,
-    /// Registers at addresses of their bus that are no addresses of the root.
+    /// Registers at addresses that some bus does not translate to the root.
     Untranslated,
 }
 

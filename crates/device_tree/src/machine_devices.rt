@@ -76,7 +76,7 @@ fn is_sender(bytes: &[u8]) -> bool
     has_text(bytes, b"thead,c900-aclint-mswi\0".as_slice())
 }
 
-/// Whether a device is the timer of harts, or what sends them software interrupts, of Andes.
+/// Returns whether a device is Andes' timer of harts, or sends them software interrupts.
 fn is_andes(bytes: &[u8]) -> bool
     ensures { result ≡ is_andes bytes.now }
 {
@@ -86,7 +86,7 @@ fn is_andes(bytes: &[u8]) -> bool
     has_text(bytes, b"andestech,plicsw\0".as_slice())
 }
 
-/// Whether a device is an interrupt controller of the Advanced Interrupt Architecture.
+/// Returns whether a device is an interrupt controller of the Advanced Interrupt Architecture.
 fn is_controller(bytes: &[u8]) -> bool
     ensures { result ≡ is_controller bytes.now }
 {
@@ -99,7 +99,7 @@ fn is_controller(bytes: &[u8]) -> bool
 /// The external interrupt of machine mode.
 const MACHINE_INTERRUPT: u32 = 11;
 
-/// Whether a pair of cells in front has the external interrupt of machine mode.
+/// Returns whether the first pair of cells has the external interrupt of machine mode.
 fn is_machine_pair(bytes: &[u8]) -> bool
     requires { 8 ≤ length bytes.now }
     ensures { result ≡ (leb 8 (length bytes.now) && big_number 4 (drop 4 bytes.now) == 11) }
@@ -107,7 +107,7 @@ fn is_machine_pair(bytes: &[u8]) -> bool
     BigEndian::read_u32(after(bytes, 4)) == MACHINE_INTERRUPT
 }
 
-/// Whether one of the pairs of cells has that interrupt.
+/// Returns whether a pair of cells has the external interrupt of machine mode.
 fn has_machine_interrupt(bytes: &[u8]) -> bool
     ensures { result ≡ has_machine_interrupt (length bytes.now / 8) bytes.now }
 {
@@ -121,7 +121,7 @@ fn has_machine_interrupt(bytes: &[u8]) -> bool
     false
 }
 
-/// Whether a device interrupts harts in machine mode.
+/// Returns whether `interrupts-extended` says that a device interrupts harts in machine mode.
 fn interrupts_machine(interrupts: Option<&[u8]>) -> bool
     ensures { result ≡ interrupts_machine (option_map (λ bytes. bytes.now) interrupts.entry) }
 {
@@ -131,8 +131,8 @@ fn interrupts_machine(interrupts: Option<&[u8]>) -> bool
     }
 }
 
-/// Whether a device is machine mode's, by its `compatible`, or as a controller that interrupts harts in machine mode or delegates
-/// to others.
+/// Returns whether a device belongs to machine mode: by its `compatible` alone, or as an interrupt controller that interrupts harts
+/// in machine mode or delegates to others.
 pub(crate) fn is_machine(
     compatible: Option<&[u8]>,
     interrupts: Option<&[u8]>,

@@ -59,7 +59,7 @@ pub(crate) fn note_own<'a>(
     note_registers(alloc, reg, bus, (kind, name, offset), found)
 }
 
-/// How a bus with this `ranges` hands addresses on.
+/// Returns the translation for the children of a bus with this `ranges`.
 fn passed_on(
     alloc: Global,
     ranges: &[u8],
@@ -81,7 +81,7 @@ fn passed_on(
     }
 }
 
-/// How the addresses of a node's children become those of the root, by its `ranges`; none where they do not.
+/// Returns the translation for a node's children, or `None` if their addresses are not those of the root.
 pub(crate) fn inner_way(
     alloc: Global,
     ranges: Option<&[u8]>,

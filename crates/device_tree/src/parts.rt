@@ -1,4 +1,4 @@
-//! The parts of a row of registers, and where the root has them.
+//! The parts of a row of registers, each with its address at the root.
 
 ghost use Rattle.std.specs.Prelude.{◌≡◌, ◌+◌, ◌<◌, ◌≤◌, ◌^◌, IfErr, IfOk};
 ghost use Rattle.device_tree.specs.BoardRefusals.{IsRefusal};
@@ -8,10 +8,10 @@ use crate::rows::{Extent, RowFault};
 use crate::ways::{RowPart, Way};
 use std::alloc::Global;
 
-/// The number of steps, each through one window of each bus, in which a row is translated at most.
+/// The limit on the steps that translate a row. Each step goes through one window of each bus.
 const MOST_STEPS: u64 = 64;
 
-/// How many bytes of an extent have addresses of 64 bits.
+/// Returns the number of bytes of an extent whose addresses have 64 bits.
 fn bus_size(extent: Extent) -> u64
     ensures { result ≡ bus_size extent }
 {
@@ -21,7 +21,7 @@ fn bus_size(extent: Extent) -> u64
     extent.size.min(u64::MAX - extent.base + 1)
 }
 
-/// Whether the address after a part is the next one at the root too, or neither is an address there.
+/// Returns whether a part and the address `next` are consecutive at the root, or both have no address there.
 fn continues(part: &RowPart, next: Option<u64>) -> bool
     ensures { result ≡ is_same_address next (moved part.now.size part.now.root) }
 {
@@ -32,7 +32,7 @@ fn continues(part: &RowPart, next: Option<u64>) -> bool
     }
 }
 
-/// The part at an address, of at most so many bytes.
+/// Returns the part that begins at an address, with at most `most` bytes.
 fn part_at(way: &Way, address: u64, most: u64) -> RowPart
     requires { 0 < most }
     ensures { IsPart (root_address (path_of way.now)) address most result }
@@ -45,9 +45,9 @@ fn part_at(way: &Way, address: u64, most: u64) -> RowPart
     }
 }
 
-/// The parts of a row.
+/// Splits a row into its parts.
 ///
-/// Refused where there are more than a row of registers has reason to be in. Memory can be refused.
+/// Fails with `TooMany` after `MOST_STEPS` steps, and with `Memory` if an allocation fails.
 pub(crate) fn parts_of(alloc: Global, way: &Way, row: Extent) -> Result<Vec<RowPart>, RowFault>
     ensures ok { IfOk result (λ parts.
         AreParts (root_address (path_of way.now)) row.base (bus_size row) parts.items) }
@@ -83,7 +83,7 @@ pub(crate) fn parts_of(alloc: Global, way: &Way, row: Extent) -> Result<Vec<RowP
     Ok(parts)
 }
 
-/// Where the root has an extent that a bus translates, all of it and in one piece.
+/// Translates an extent of a bus to the root, if all of it is one piece there.
 fn in_one_piece(way: &Way, extent: Extent) -> Option<Extent>
     ensures { result ≡ in_one_piece (root_address (path_of way.now)) extent }
 {
@@ -111,7 +111,7 @@ fn in_one_piece(way: &Way, extent: Extent) -> Option<Extent>
 }
 
 impl Way {
-    /// Where the root has the extent, all of it and in one piece.
+    /// Translates the extent to the root, if all of it is one piece there.
     pub fn at_root(&self, extent: Extent) -> Option<Extent>
         ensures { result ≡ at_root (path_of self.now) extent }
     {

@@ -140,10 +140,10 @@ pub fn cells_of<'a>(properties: &'a [PlacedPiece<'a>]) -> Option<Cells>
     Some(Cells { address, size })
 }
 
-/// The number of ranges that a tree has at most.
+/// The limit on the ranges of a tree.
 const MOST_RANGES: usize = 1 << 18;
 
-/// Notes a range.
+/// Appends a range.
 fn note<'a>(
     kind: Kind,
     extent: Extent,
@@ -170,7 +170,7 @@ fn note<'a>(
     Ok(())
 }
 
-/// Notes a part of a row of registers.
+/// Appends a part of a row of registers.
 fn note_part<'a>(
     part: &RowPart,
     node: (Kind, &'a [u8], usize),
@@ -190,7 +190,7 @@ fn note_part<'a>(
     }
 }
 
-/// Notes the parts of a row of registers.
+/// Appends the parts of a row of registers.
 fn note_parts<'a>(
     parts: &[RowPart],
     node: (Kind, &'a [u8], usize),
@@ -209,7 +209,7 @@ fn note_parts<'a>(
     Ok(())
 }
 
-/// Whether a row needs no translation: it has addresses of the root, or it is the number of a hart.
+/// Returns whether a row needs no translation, because its addresses are those of the root or it is the number of a hart.
 fn is_plain(way: &Way, kind: Kind) -> bool
     ensures { result ≡ is_plain (path_of way.now) kind }
 {
@@ -222,7 +222,7 @@ fn is_plain(way: &Way, kind: Kind) -> bool
     }
 }
 
-/// Notes a row of registers, as the buses translate it.
+/// Appends a row of registers, as the buses translate it.
 fn note_row<'a>(
     alloc: Global,
     row: Extent,
@@ -246,7 +246,7 @@ fn note_row<'a>(
     note_parts(parts.as_slice(), node, found)
 }
 
-/// Notes rows of registers, as the buses translate them.
+/// Appends rows of registers, as the buses translate them.
 pub(crate) fn note_rows<'a>(
     alloc: Global,
     rows: &[Extent],

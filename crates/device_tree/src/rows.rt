@@ -22,7 +22,7 @@ pub enum RowFault {
     BadLength,
     /// An address or a size has more than 64 bits.
     LargeNumber,
-    /// It goes through more windows than registers do, or the tree has more ranges than are counted.
+    /// Translating a row takes too many steps, or the tree has too many ranges.
     TooMany,
     /// Memory was refused.
     Memory,

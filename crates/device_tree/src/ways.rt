@@ -1,4 +1,4 @@
-//! How a bus translates addresses to those of the root.
+//! The translation of addresses of a bus to those of the root.
 
 ghost use Rattle.std.specs.Prelude.{◌≡◌, ◌+◌, ◌*◌, ◌<◌, ◌≤◌, ◌^◌, ℕ, false, [], ◌∷◌, None, Some, ⊤, IfErr, IfOk, IfSome, MatchOption, OnOk, length, drop};
 ghost use Rattle.device_tree.specs.declared.ways.Window.{Window};
@@ -12,7 +12,7 @@ use crate::rows::{Extent, RowFault};
 use std::alloc::Global;
 use std::rc::Rc;
 
-/// A row of `ranges`: addresses of the bus, and where its parent has them.
+/// A row of `ranges`: the first address on the bus, that on its parent, and the size.
 #[derive(Clone, Copy)]
 pub struct Window {
     pub child: u64,
@@ -20,12 +20,12 @@ pub struct Window {
     pub size: u64,
 }
 
-/// How the addresses of a bus become those of the root.
+/// The translation of the addresses of a bus to those of the root.
 #[derive(Drop)]
 pub enum Way {
-    /// They are the root's own.
+    /// The addresses are those of the root.
     Same,
-    /// By the windows of the bus, and then as its parent's do.
+    /// The windows of the bus, and the translation of its parent's addresses.
     Bus(Rc<(Vec<Window>, Way)>),
 }
 
@@ -37,14 +37,14 @@ pub struct RowPart {
     pub root: Option<u64>,
 }
 
-/// Where an address is at the root, and for how many bytes from it on the addresses there rise alike.
+/// The address at the root, if there is one, and the number of bytes from it on that are translated alike.
 #[derive(Clone, Copy)]
 pub struct Step {
     pub root: Option<u64>,
     pub len: u64,
 }
 
-/// Where the parent has an address of the bus, by this window, and for how many bytes.
+/// Translates an address of the bus to its parent by one window.
 fn translated(window: &Window, address: u64) -> Option<Step>
     ensures here { IfSome result (λ step.
         IsStep (parent_address (window.now ∷ [])) address step) }
@@ -66,7 +66,7 @@ fn translated(window: &Window, address: u64) -> Option<Step>
     })
 }
 
-/// How many bytes from an address on are not the window's, where it does not translate the address.
+/// Returns a number of bytes from an address on of which the window translates none.
 fn gap_before(window: &Window, address: u64) -> u64
     requires { has_address window.now address ≡ false }
     ensures some { 0 < result }
@@ -78,7 +78,7 @@ fn gap_before(window: &Window, address: u64) -> u64
     u64::MAX
 }
 
-/// Where the parent has an address of the bus, and for how many bytes.
+/// Translates an address of the bus to its parent.
 fn step_to_parent(windows: &[Window], address: u64) -> Step
     ensures { IsStep (parent_address windows.now) address result }
 {
@@ -98,7 +98,7 @@ fn step_to_parent(windows: &[Window], address: u64) -> Step
 }
 
 impl Way {
-    /// Where the root has an address of the bus, and for how many bytes.
+    /// Translates an address of the bus to the root.
     pub(crate) fn step(&self, address: u64) -> Step
         ensures { IsStep (root_address (path_of self.now)) address result }
     {
@@ -122,7 +122,7 @@ impl Way {
     }
 }
 
-/// The row of `ranges` in front, where its numbers have at most 64 bits.
+/// Reads the first row of `ranges`, if its numbers have at most 64 bits.
 fn window_in(bytes: &[u8], cells: &Cells, outer: usize) -> Option<Window>
     requires few { outer ≤ 4 }
     requires long { window_len cells.now outer ≤ length bytes.now }
@@ -143,7 +143,7 @@ fn window_in(bytes: &[u8], cells: &Cells, outer: usize) -> Option<Window>
     })
 }
 
-/// The windows of a bus, by its `ranges`.
+/// Reads the windows of a bus from its `ranges`.
 pub(crate) fn windows_of(
     alloc: Global,
     ranges: &[u8],
@@ -173,7 +173,7 @@ pub(crate) fn windows_of(
 }
 
 impl Way {
-    /// The same way again.
+    /// Copies the translation, in constant time.
     pub(crate) fn copied(&self) -> Result<Way, RowFault>
         ensures same { IfOk result (λ way. path_of way ≡ path_of self.now) }
         ensures refused { IfErr result (λ fault. fault ≡ RowFault.Memory) }
@@ -189,7 +189,7 @@ impl Way {
         }
     }
 
-    /// The way of the children of a bus with these windows, whose own addresses come this way.
+    /// Returns the translation for the children of a bus that has these windows.
     pub(crate) fn behind(&self, alloc: Global, windows: Vec<Window>) -> Result<Way, RowFault>
         ensures behind { IfOk result (λ way. path_of way ≡ windows.items ∷ path_of self.now) }
         ensures refused { IfErr result (λ fault. fault ≡ RowFault.Memory) }

@@ -98,9 +98,17 @@ pub(crate) fn push_rows(
     Ok(())
 }
 
-/// Appends the row of all stretches that no entry decides, if there are any. They have this permission.
-pub(crate) fn push_rest(text: &mut Vec<u8>, all: &[Stretch], perm: Perm) -> Result<(), Memory> {
-    if all.iter().all(|stretch| stretch.entry.is_some()) {
+/// Appends the row of all stretches that no entry decides, if one begins in the space before `end`. They have this permission.
+pub(crate) fn push_rest(
+    text: &mut Vec<u8>,
+    all: &[Stretch],
+    perm: Perm,
+    end: u64,
+) -> Result<(), Memory> {
+    if all
+        .iter()
+        .all(|stretch| stretch.entry.is_some() || stretch.first >= end)
+    {
         return Ok(());
     }
     text.extend_from_slice(b"all else                                       ")?;

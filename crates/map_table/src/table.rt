@@ -10,6 +10,9 @@ use pmp_encoding::{Entry, Limit, Perm};
 use pmp_match::Extent;
 use std::alloc::Global;
 
+/// The end of the space of physical addresses of RV64.
+const SPACE_END: u64 = 1 << 56;
+
 /// The names of the columns.
 const HEAD: &[u8] = b"from               to                 size    perm by\n";
 
@@ -26,17 +29,18 @@ pub fn table_of(
     let mut text = Vec::new(alloc);
     text.extend_from_slice(HEAD)?;
     push_rows(&mut text, &tree, all.as_slice(), false)?;
-    push_rest(&mut text, all.as_slice(), Perm::NoAccess)?;
+    push_rest(&mut text, all.as_slice(), Perm::NoAccess, SPACE_END)?;
     let count = count_line(entries.len(), limit);
     text.extend_from_slice(count.as_slice())?;
     Ok(text)
 }
 
-/// Makes the table of what extents give. Everything else has the permission `rest`, and `on` entries are not OFF. The only error
-/// is out of memory.
+/// Makes the table of what extents give in a space of that many bytes. Everything else has the permission `rest`, and `on` entries
+/// are not OFF. The only error is out of memory.
 pub fn extent_table(
     alloc: Global,
     extents: &[Extent],
+    space_end: u64,
     rest: Perm,
     on: usize,
 ) -> Result<Vec<u8>, Memory>
@@ -48,7 +52,7 @@ pub fn extent_table(
     let mut text = Vec::new(alloc);
     text.extend_from_slice(HEAD)?;
     push_rows(&mut text, &tree, all.as_slice(), true)?;
-    push_rest(&mut text, all.as_slice(), rest)?;
+    push_rest(&mut text, all.as_slice(), rest, space_end)?;
     let count = on_line(on);
     text.extend_from_slice(count.as_slice())?;
     Ok(text)

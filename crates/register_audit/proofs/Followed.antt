@@ -1,5 +1,5 @@
 -- Lines that are followed one after another.
-use Rattle.std.proofs.Common.{◌≡◌, ◌≤◌, ◌∙◌, ℕ, ◌+◌, List, [], ◌∷◌, ◌++◌, length, Option, None, Some, ap, refl, sym, arith}
+use Rattle.std.proofs.Common.{◌≡◌, ◌≤◌, ◌∙◌, ℕ, ◌+◌, List, [], ◌∷◌, ◌++◌, length, Option, None, Some, true, false, ap, refl, sym, arith}
 use Rattle.std.proofs.lemmas.Bool.{le-leb}
 use Rattle.std.proofs.lemmas.Option.{same_Some}
 use Rattle.std.specs.Option.{option_and_then}
@@ -9,7 +9,7 @@ use Rattle.register_audit.specs.declared.listing.Listing.{Listing}
 use Rattle.register_audit.specs.declared.setting.Setting.{Setting}
 use Rattle.register_audit.specs.declared.setting.Setting.TheVariants as settings
 use Rattle.register_audit.specs.Lines.{line_sets, raw_sets}
-use Rattle.register_audit.specs.RegisterListings.{IsFirstUnknown, line, end, listed, nothing_set, set_by, set_by_lines, sets_in, whole}
+use Rattle.register_audit.specs.RegisterListings.{IsFirstUnknown, agreed, agrees, line, end, listed, nothing_set, set_by, set_by_lines, sets_in, whole}
 
 pub short_sets : (xlen : Xlen) (raw text : List ℕ) → IsShortLine raw → text ≡ without_return raw → raw_sets xlen raw ≡ line_sets xlen text
 short_sets xlen raw text short is = rw (le-leb (length raw) 1023 short.1) (ap (line_sets xlen) (sym is))
@@ -39,6 +39,9 @@ pub set_width : (listing : Listing) (n : ℕ) (setting : Setting) → (set_by li
 set_width listing n settings.Nothing = refl
 set_width listing n (settings.Count entries) = refl
 set_width listing n settings.Other = refl
+set_width listing n (settings.Hart number) = refl
+set_width listing n settings.Heading = refl
+set_width listing n (settings.Limit entries) = refl
 set_width listing n (settings.Security value) = refl
 set_width listing n (settings.Pair place cfg address) = refl
 set_width listing n (settings.Address place value) = refl
@@ -49,6 +52,9 @@ pub set_pairs : (listing : Listing) (n : ℕ) (setting : Setting) → (set_by li
 set_pairs listing n settings.Nothing = omega arith
 set_pairs listing n (settings.Count entries) = omega arith
 set_pairs listing n settings.Other = omega arith
+set_pairs listing n (settings.Hart number) = omega arith
+set_pairs listing n settings.Heading = omega arith
+set_pairs listing n (settings.Limit entries) = omega arith
 set_pairs listing n (settings.Security value) = omega arith
 set_pairs listing n (settings.Pair place cfg address) = omega arith
 set_pairs listing n (settings.Address place value) = omega arith
@@ -77,3 +83,15 @@ unlisted xlen bytes n (line u) =
     (ap (λ raws. set_by_lines (sets_in xlen bytes) (nothing_set xlen) 1 raws) u.are_lines
     ∙ stopped (sets_in xlen bytes) (nothing_set xlen) u.listing 1 u.before u.raw u.rest u.understood u.unknown)
 unlisted xlen bytes n (end leaves is cut number) = ap (option_and_then whole) is ∙ rw cut refl
+
+-- a setting that agrees with the lines before it
+pub agreed_yes : (listing : Listing) (setting : Setting) (sets : Option Setting) → sets ≡ Some setting → agrees listing setting ≡ true
+    → option_and_then (agreed listing) sets ≡ Some setting
+agreed_yes listing setting sets is held = ap (option_and_then (agreed listing)) is ∙ rw held refl
+
+pub agreed_no : (listing : Listing) (setting : Setting) (sets : Option Setting) → sets ≡ Some setting → agrees listing setting ≡ false
+    → option_and_then (agreed listing) sets ≡ None
+agreed_no listing setting sets is failed = ap (option_and_then (agreed listing)) is ∙ rw failed refl
+
+pub none_agreed : (listing : Listing) (sets : Option Setting) → sets ≡ None → option_and_then (agreed listing) sets ≡ None
+none_agreed listing sets is = ap (option_and_then (agreed listing)) is

@@ -1,7 +1,8 @@
 -- What a line of a listing sets.
-use Rattle.std.specs.Prelude.{ℕ, ◌+◌, ◌*◌, ◌%◌, ◌/◌, ◌-◌, ◌<◌, ◌≤◌, ⊤, Bool, false, not, ◌&&◌, ◌||◌}
-use Rattle.std.specs.Prelude.{◌==◌, nat_lt, nat_le, if◌then◌else◌, List, [], ◌∷◌, length, take}
-use Rattle.std.specs.Prelude.{drop, Option, Some, None, codes, bytes_eq}
+use Rattle.std.specs.Prelude.{ℕ, ◌+◌, ◌*◌, ◌%◌, ◌/◌, ◌-◌, ◌^◌, ◌<◌, ◌≤◌, ⊤, Bool, false, not}
+use Rattle.std.specs.Prelude.{◌&&◌, ◌||◌, ◌==◌, nat_lt, nat_le, if◌then◌else◌}
+use Rattle.std.specs.Prelude.{List, [], ◌∷◌, length, take}
+use Rattle.std.specs.Prelude.{drop, Option, Some, None, option_map, codes, bytes_eq}
 use Rattle.std.specs.List.{list_all, position_or_len}
 use Rattle.std.specs.Option.{option_and_then}
 use Rattle.std.specs.Str.{str_eq_ignore_ascii_case}
@@ -13,7 +14,7 @@ use Rattle.text_lines.specs.Words.{words_of}
 use Rattle.text_lines.specs.Numbers.{numeral_of, number_of}
 use Rattle.text_lines.specs.Lines.{without_return}
 use Rattle.register_audit.specs.declared.entry.RegionEntry.{RegionEntry}
-use Rattle.register_audit.specs.LogLines.{log_says}
+use Rattle.register_audit.specs.LogLines.{count_of, log_says}
 use Rattle.register_audit.specs.Names.{is_about_pmp, names_hart, unpadded, value_of}
 use Rattle.register_audit.specs.declared.setting.Setting.{Setting}
 use Rattle.register_audit.specs.declared.setting.Setting.TheVariants as settings
@@ -23,6 +24,9 @@ abbrev pub IsInside : Xlen → Setting → Type 0
 IsInside xlen settings.Nothing = ⊤
 IsInside xlen (settings.Count entries) = ⊤
 IsInside xlen settings.Other = ⊤
+IsInside xlen (settings.Hart number) = ⊤
+IsInside xlen settings.Heading = ⊤
+IsInside xlen (settings.Limit entries) = ⊤
 IsInside xlen (settings.Security value) = ⊤
 IsInside xlen (settings.Pair place cfg address) = place < 64
 IsInside xlen (settings.Address place value) = place < 64
@@ -81,11 +85,16 @@ is_harmless name value = not (is_about_pmp name)
 abbrev pub is_other : List ℕ → ℕ → Bool
 is_other name value = is_foreign name && (not (names_hart name) && is_harmless name value)
 
+-- the setting of a register that is passed over: of `mhartid` its number counts
+abbrev pub passed_setting : List ℕ → ℕ → Setting
+passed_setting name value = if str_eq_ignore_ascii_case name (codes "mhartid")
+    then settings.Hart value else settings.Other
+
 -- mseccfg, whose bits change what the entries mean, or a register that is passed over
 abbrev pub other_setting : List ℕ → ℕ → Option Setting
 other_setting name value =
     if str_eq_ignore_ascii_case name (codes "mseccfg") then Some (settings.Security value)
-    else if is_other name value then Some settings.Other else None
+    else if is_other name value then Some (passed_setting name value) else None
 
 -- a name of a register and its value
 abbrev pub by_digits : Xlen → List ℕ → ℕ → Option (List ℕ) → Option (List ℕ) → Option Setting
@@ -150,6 +159,31 @@ is_between xlen word = bytes_eq word (codes ":") || bytes_eq word (codes "=")
 abbrev pub value_word : Xlen → List ℕ → List ℕ → List ℕ
 value_word xlen second third = if is_between xlen second then third else second
 
+-- a number is there, and is this one
+abbrev pub is_number : ℕ → Option ℕ → Bool
+is_number value None = false
+is_number value (Some n) = n == value
+
+-- a column says the number in decimal: as the bits of a register, or with their sign
+abbrev pub says_number : Xlen → ℕ → List ℕ → Bool
+says_number xlen value [] = false
+says_number xlen value (first ∷ rest) = if first == 45
+    then is_number (2 ^ xlen_bits xlen - value) (numeral_of 10 rest)
+    else is_number value (number_of (first ∷ rest))
+
+-- a column says the number that a word spells
+abbrev pub says_same : Xlen → Option ℕ → List ℕ → Bool
+says_same xlen None column = false
+says_same xlen (Some value) column = nat_lt 0 value && says_number xlen value column
+    || (value == 0 && is_number 0 (number_of column))
+
+-- what a tool prints twice of a register of the protection agrees: OpenOCD gives as many digits as
+-- its width has, and gdb's second column is the first in decimal
+abbrev pub agrees_twice : Xlen → List ℕ → List ℕ → List ℕ → Bool
+agrees_twice xlen name second third = not (is_about_pmp name)
+    || (if bytes_eq second (width_sign xlen) then length third == 2 + xlen_bits xlen / 4
+    else (is_between xlen second || says_same xlen (unpadded second) third))
+
 -- a word that could be about the protection can be the name of another of its registers
 abbrev pub is_no_name : List ℕ → Bool
 is_no_name word = not (is_about_pmp word)
@@ -162,7 +196,8 @@ register_by_word xlen name word = option_and_then (register_setting xlen name) (
 -- the value no other name
 abbrev pub set_by_three : Xlen → Option ℕ → List ℕ → List ℕ → List ℕ → Option Setting
 set_by_three xlen (Some place) first second third = pair_by_words xlen place second third
-set_by_three xlen None first second third = if is_no_name third
+set_by_three xlen None first second third =
+    if is_no_name third && agrees_twice xlen first second third
     then register_by_word xlen first (value_word xlen second third) else None
 
 -- another register with its fields after its value, as gdb prints mstatus; no word after the value
@@ -220,10 +255,16 @@ are_passed (first ∷ second ∷ rest) = list_all is_no_name (first ∷ second �
     && (is_other_name first && (has_no_number second || bytes_eq first (codes "=====")))
 are_passed _ = false
 
+-- the heading that OpenOCD prints above the registers of a hart
+abbrev pub is_heading : List (List ℕ) → Bool
+is_heading (sign ∷ first ∷ second ∷ []) = bytes_eq sign (codes "=====")
+    && (bytes_eq first (codes "RISC-V") && bytes_eq second (codes "Registers"))
+is_heading _ = false
+
 -- what words set, or that they are passed over
 abbrev pub set_or_passed : Xlen → List (List ℕ) → Option Setting
-set_or_passed xlen words = if are_passed words then Some settings.Other
-    else set_by_words xlen words
+set_or_passed xlen words = if is_heading words then Some settings.Heading
+    else if are_passed words then Some settings.Other else set_by_words xlen words
 
 -- what a line sets, where it is understood, by the width of the hart's registers
 abbrev pub line_sets : Xlen → List ℕ → Option Setting
@@ -234,12 +275,22 @@ line_sets xlen line = option_and_then (λ words. set_or_passed xlen (without_ind
 abbrev pub raw_sets : Xlen → List ℕ → Option Setting
 raw_sets xlen raw = if nat_le (length raw) 1023 then line_sets xlen (without_return raw) else None
 
+-- how many entries the hart has
+abbrev pub limit_setting : List ℕ → Option Setting
+limit_setting digits = option_map (λ n. settings.Limit n) (numeral_of 10 digits)
+
 -- what a line of a boot log sets: the pair of a region, which has the next number, or nothing
 abbrev pub region_setting : ℕ → Option RegionEntry → Option Setting
 region_setting next None = Some settings.Nothing
 region_setting next (Some entry) = if entry.place == next
     then Some (settings.Pair entry.place entry.cfg entry.address) else None
 
+-- what a line sets by its count of the hart's entries, where it has one, or else as another line
+abbrev pub log_sets_by : Option (List ℕ) → Option Setting → Option Setting
+log_sets_by None other = other
+log_sets_by (Some digits) other = limit_setting digits
+
 -- what it sets, where it is understood, after so many regions
 abbrev pub log_sets : Xlen → ℕ → List ℕ → Option Setting
-log_sets xlen next raw = option_and_then (region_setting next) (log_says xlen raw)
+log_sets xlen next raw = log_sets_by (count_of raw)
+    (option_and_then (region_setting next) (log_says xlen raw))

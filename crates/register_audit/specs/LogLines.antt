@@ -68,26 +68,55 @@ resembles_region raw = (mentions raw (codes "Domain") && mentions raw (codes "Re
     || ((mentions raw (codes "Domain") || mentions raw (codes "Region"))
     && mentions raw (codes "-0x"))
 
--- a line that could be on a region and is on none: it was damaged on its way
-abbrev pub is_damaged : List ℕ → Bool
-is_damaged raw = resembles_region raw
-    && not (is_region (words_in raw) || is_other_region (words_in raw))
+-- how many entries the hart has, in words that say so
+abbrev pub count_in : List (List ℕ) → Option (List ℕ)
+count_in (boot ∷ hart ∷ pmp ∷ count ∷ colon ∷ number ∷ rest) =
+    if bytes_eq pmp (codes "PMP") && bytes_eq count (codes "Count") then Some number else None
+count_in _ = None
 
--- words that say how many entries the hart has: none
-abbrev pub lacks_entries : List (List ℕ) → Bool
-lacks_entries (boot ∷ hart ∷ pmp ∷ count ∷ colon ∷ number ∷ rest) =
-    (bytes_eq pmp (codes "PMP") && bytes_eq count (codes "Count")) && bytes_eq number (codes "0")
-lacks_entries _ = false
+-- the same of a line
+abbrev pub count_of : List ℕ → Option (List ℕ)
+count_of raw = count_in (words_in raw)
 
 -- words about the hart that boots
 abbrev pub is_of_hart : List (List ℕ) → Bool
 is_of_hart (boot ∷ hart ∷ rest) = bytes_eq boot (codes "Boot") && bytes_eq hart (codes "HART")
 is_of_hart _ = false
 
--- words that say its domain, which is not the first
+-- words about a domain: `DomainN` comes first
+abbrev pub is_of_domain : List (List ℕ) → Bool
+is_of_domain (domain ∷ rest) =
+    is_some (option_and_then (numeral_of 10) (after_text domain (codes "Domain")))
+is_of_domain _ = false
+
+-- a line that could say the domain of the hart that boots: two of its three words are in it, and
+-- some of the third
+abbrev pub resembles_hart : List ℕ → Bool
+resembles_hart raw = (mentions raw (codes "Domain")
+    && (mentions raw (codes "Boot") || mentions raw (codes "HART")))
+    || ((mentions raw (codes "Boot") && mentions raw (codes "HART"))
+    && (mentions raw (codes "Dom") || mentions raw (codes "ain")))
+
+-- a line that could be on a region, or on the hart that boots, and is not: it was damaged on its
+-- way
+abbrev pub is_damaged : List ℕ → Bool
+is_damaged raw = (resembles_region raw
+    && not (is_region (words_in raw) || is_other_region (words_in raw)))
+    || (resembles_hart raw && not (is_of_hart (words_in raw) || is_of_domain (words_in raw)))
+
+-- words that name the first domain
+abbrev pub is_root : List (List ℕ) → Bool
+is_root (colon ∷ name ∷ []) = bytes_eq colon (codes ":") && bytes_eq name (codes "root")
+is_root _ = false
+
+-- a word is `Domain`, or could be with a letter of it lost or another one
+abbrev pub resembles_domain : List ℕ → Bool
+resembles_domain word = mentions word (codes "Dom") || mentions word (codes "ain")
+
+-- words of the hart that boots say its domain, and do not say that it is the first
 abbrev pub is_elsewhere : List (List ℕ) → Bool
-is_elsewhere (boot ∷ hart ∷ domain ∷ colon ∷ name ∷ rest) =
-    bytes_eq domain (codes "Domain") && not (bytes_eq name (codes "root"))
+is_elsewhere (boot ∷ hart ∷ domain ∷ rest) = resembles_domain domain
+    && not (bytes_eq domain (codes "Domain") && is_root rest)
 is_elsewhere _ = false
 
 -- a word names the instruction set of the other width
@@ -113,9 +142,19 @@ dash_at word = position_or_len (λ b. b == 45) word
 abbrev pub block_by : Xlen → Option ℕ → Option ℕ → Option (ℕ × ℕ)
 block_by xlen first last = option_and_then (λ f. option_and_then (block_from xlen f) last) first
 
+-- an address that is padded with zeros to eight digits, as those of RV32 are, on a hart of RV64
+abbrev pub is_narrow : Xlen → List ℕ → Bool
+is_narrow Rv32 word = false
+is_narrow Rv64 word = length word == 10 && is_some (after_text word (codes "0x0"))
+
+-- a block that a hart of this width can print
+abbrev pub is_of_width : Xlen → List ℕ → Bool
+is_of_width xlen word = nat_lt (dash_at word) (length word)
+    && not (is_narrow xlen (take (dash_at word) word))
+
 -- the block that `FIRST-LAST` names
 abbrev pub block_in : Xlen → List ℕ → Option (ℕ × ℕ)
-block_in xlen word = if nat_lt (dash_at word) (length word)
+block_in xlen word = if is_of_width xlen word
     then block_by xlen (number_of (take (dash_at word) word))
     (number_of (drop (dash_at word + 1) word)) else None
 
@@ -150,10 +189,10 @@ entry_in xlen (domain ∷ region ∷ colon ∷ block ∷ rest) =
 entry_in xlen _ = None
 
 -- what words say: the entry of a region, or nothing; words on a register are not understood, nor
--- are those of a hart without entries, or of another one
+-- are those of another hart
 abbrev pub said_by : Xlen → List (List ℕ) → Option (Option RegionEntry)
 said_by xlen words = if is_region words then option_map (λ e. Some e) (entry_in xlen words)
-    else if is_register words || (lacks_entries words || is_another_hart xlen words) then None
+    else if is_register words || is_another_hart xlen words then None
     else Some None
 
 -- what a line of a log of a hart of that width says, where it is understood

@@ -2,7 +2,7 @@
 use Rattle.std.specs.Prelude.{ℕ, ◌==◌, ◌||◌, ◌&&◌, Bool, false, nat_le, if◌then◌else◌}
 use Rattle.std.specs.Prelude.{List, [], ◌∷◌, Option, Some, None, codes}
 use Rattle.std.specs.Option.{option_and_then}
-use Rattle.std.specs.Str.{str_eq_ignore_ascii_case}
+use Rattle.std.specs.List.{list_all}
 use Rattle.text_lines.specs.Bytes.{after_name, begins_with}
 use Rattle.text_lines.specs.Numbers.{number_of}
 
@@ -35,11 +35,21 @@ resembles_pmp word = (mentions word (codes "mpaddr") || mentions word (codes "mp
 abbrev pub is_about_pmp : List ℕ → Bool
 is_about_pmp word = mentions word (codes "pmp") || (resembles_pmp word || numbers_csr word)
 
--- a word that names a hart where a number follows: what comes after it is of another one
+-- a decimal digit
+abbrev pub is_digit : ℕ → Bool
+is_digit b = nat_le 48 b && nat_le b 57
+
+-- there is a text, and it has no other bytes than decimal digits
+abbrev pub are_digits : Option (List ℕ) → Bool
+are_digits None = false
+are_digits (Some digits) = list_all is_digit digits
+
+-- a word that names a hart, its number behind it or as the next word: what comes after it is of
+-- another hart
 abbrev pub names_hart : List ℕ → Bool
-names_hart word = (str_eq_ignore_ascii_case word (codes "hart")
-    || str_eq_ignore_ascii_case word (codes "thread"))
-    || (str_eq_ignore_ascii_case word (codes "cpu") || str_eq_ignore_ascii_case word (codes "core"))
+names_hart word = (are_digits (after_name word (codes "hart"))
+    || are_digits (after_name word (codes "thread")))
+    || (are_digits (after_name word (codes "cpu")) || are_digits (after_name word (codes "core")))
 
 -- a decimal number of two digits or more that begins with zero: it could be meant as hexadecimal
 abbrev pub is_padded : List ℕ → Bool

@@ -1,7 +1,7 @@
 -- What a listing leaves.
 use Rattle.std.specs.Prelude.{◌≡◌, if◌then◌else◌, ℕ, zero, suc, ◌+◌, ◌/◌, ◌%◌, List, [], ◌∷◌, ◌++◌}
 use Rattle.std.specs.Prelude.{length, replicate, slice_set, Option, Some, None, Bool, true, false}
-use Rattle.std.specs.Prelude.{◌==◌, ◌&&◌, ◌||◌}
+use Rattle.std.specs.Prelude.{◌==◌, ◌&&◌, ◌||◌, nat_lt, nat_le, not}
 use Rattle.std.specs.Option.{option_and_then}
 use Rattle.pmp_encoding.specs.declared.xlen.Xlen.{Xlen}
 use Rattle.pmp_encoding.specs.Widths.{word_entries}
@@ -28,6 +28,10 @@ nothing_set xlen = record {
   passed = None;
   entries = None;
   pairs = 0;
+  last = None;
+  hart = None;
+  is_headed = false;
+  limit = None;
   is_set = false;
 }
 
@@ -84,6 +88,8 @@ security_by mseccfg setting = mseccfg
 -- the first line that is passed over after that of line n
 abbrev pub passed_by : Option ℕ → ℕ → Setting → Option ℕ
 passed_by passed n settings.Other = first_of passed n
+passed_by passed n (settings.Hart number) = first_of passed n
+passed_by passed n settings.Heading = first_of passed n
 passed_by passed n setting = passed
 
 -- how many entries should be listed
@@ -100,7 +106,62 @@ pairs_by pairs setting = pairs
 abbrev pub is_of_pmp : Setting → Bool
 is_of_pmp settings.Nothing = false
 is_of_pmp settings.Other = false
+is_of_pmp (settings.Hart number) = false
+is_of_pmp settings.Heading = false
+is_of_pmp (settings.Limit entries) = false
 is_of_pmp setting = true
+
+-- the entry of the last pair after a setting
+abbrev pub last_by : Option ℕ → Setting → Option ℕ
+last_by last (settings.Pair place cfg address) = Some place
+last_by last setting = last
+
+-- the hart's number after a setting
+abbrev pub hart_by : Option ℕ → Setting → Option ℕ
+hart_by hart (settings.Hart number) = Some number
+hart_by hart setting = hart
+
+-- OpenOCD's heading has come after a setting
+abbrev pub headed_by : Bool → Setting → Bool
+headed_by headed settings.Heading = true
+headed_by headed setting = headed
+
+-- how many entries the hart has, after a setting
+abbrev pub limit_by : Option ℕ → Setting → Option ℕ
+limit_by limit (settings.Limit n) = Some n
+limit_by limit setting = limit
+
+-- an entry is the first or the next of a counted list, or the list is not counted
+abbrev pub is_next : Option ℕ → Option ℕ → ℕ → Bool
+is_next None last place = true
+is_next (Some n) None place = true
+is_next (Some n) (Some last) place = place == last + 1
+
+-- a hart of so many entries has this one
+abbrev pub is_within : Option ℕ → ℕ → Bool
+is_within None place = true
+is_within (Some n) place = nat_lt place n
+
+-- no other hart was named before
+abbrev pub is_same_hart : Option ℕ → ℕ → Bool
+is_same_hart None number = true
+is_same_hart (Some first) number = first == number
+
+-- a setting agrees with the lines before it: a count comes before what it counts, the entries of a
+-- counted list rise by one, a log has no more regions than the hart has entries, and all lines are
+-- of one hart
+abbrev pub agrees : Listing → Setting → Bool
+agrees listing (settings.Count n) = listing.pairs == 0
+agrees listing (settings.Pair place cfg address) = is_next listing.entries listing.last place
+    && is_within listing.limit place
+agrees listing (settings.Hart number) = is_same_hart listing.hart number
+agrees listing settings.Heading = not listing.is_headed
+agrees listing (settings.Limit n) = nat_lt 0 n && nat_le listing.pairs n
+agrees listing setting = true
+
+-- a setting, if it agrees with the lines before it
+abbrev pub agreed : Listing → Setting → Option Setting
+agreed listing setting = if agrees listing setting then Some setting else None
 
 -- what the listing says after the setting of line n
 abbrev pub set_by : Listing → ℕ → Setting → Listing
@@ -110,6 +171,10 @@ set_by listing n setting = record {
   passed = passed_by listing.passed n setting;
   entries = count_by listing.entries setting;
   pairs = pairs_by listing.pairs setting;
+  last = last_by listing.last setting;
+  hart = hart_by listing.hart setting;
+  is_headed = headed_by listing.is_headed setting;
+  limit = limit_by listing.limit setting;
   is_set = listing.is_set || is_of_pmp setting;
 }
 
@@ -137,13 +202,13 @@ pub record IsFirstUnknownBy (xlen : Xlen) (sets : Listing → List ℕ
   pub understood : set_by_lines sets (nothing_set xlen) 1 before ≡ Some listing
   pub unknown : sets listing raw ≡ None
 
--- what a line of registers sets, whatever comes before it
+-- what a line of registers sets, if it agrees with the lines before it
 abbrev pub sets_alone : Xlen → Listing → List ℕ → Option Setting
-sets_alone xlen listing = raw_sets xlen
+sets_alone xlen listing raw = option_and_then (agreed listing) (raw_sets xlen raw)
 
 -- what a line of a boot log sets: a region the entry of its number, which is the next one
 abbrev pub sets_next : Xlen → Listing → List ℕ → Option Setting
-sets_next xlen listing = log_sets xlen listing.pairs
+sets_next xlen listing raw = option_and_then (agreed listing) (log_sets xlen listing.pairs raw)
 
 -- what a line sets: by the regions of a boot log, or as a line of registers
 abbrev pub sets_in : Xlen → List ℕ → Listing → List ℕ → Option Setting

@@ -8,7 +8,7 @@ ghost use Rattle.text_lines.specs.Bytes.{after_text};
 ghost use Rattle.text_lines.specs.Numbers.{numeral_of};
 ghost use Rattle.text_lines.specs.Words.{split_words};
 ghost use Rattle.register_audit.specs.Letters.{perm_of};
-ghost use Rattle.register_audit.specs.LogLines.{block_in, entry_by, entry_in, is_another_hart, is_boot_log, is_damaged, is_elsewhere, is_later, is_of_hart, is_of_time, is_other_region, is_other_width, is_region, is_region_line, is_register, is_time, lacks_entries, letters_in, log_says, number_in, resembles_region, said_by, without_times, words_in};
+ghost use Rattle.register_audit.specs.LogLines.{block_in, entry_by, entry_in, is_another_hart, is_boot_log, is_damaged, is_elsewhere, is_later, is_of_hart, is_of_time, is_other_region, is_other_width, is_region, is_region_line, is_register, is_time, is_narrow, is_of_domain, is_root, count_in, count_of, letters_in, log_says, number_in, resembles_domain, resembles_hart, resembles_region, said_by, without_times, words_in};
 
 use crate::block::block_from;
 use crate::entry::RegionEntry;
@@ -118,27 +118,32 @@ fn resembles_region(raw: &[u8]) -> bool
     (is_of_domain && is_of_region) || ((is_of_domain || is_of_region) && mentions(raw, b"-0x"))
 }
 
-/// Whether a line could be on a region and is on none: it was damaged on its way.
-fn is_damaged(raw: &[u8]) -> bool
-    ensures { result ≡ is_damaged raw.now }
-{
-    resembles_region(raw) && !(is_region(words_in(raw)) || is_other_region(words_in(raw)))
-}
-
-/// Whether words say that the hart has no entries.
-fn lacks_entries(mut words: Words<'_>) -> bool
-    ensures { result ≡ lacks_entries (split_words words.entry.rest.now) }
+/// How many entries the hart has, in words that say so.
+fn count_in_words(mut words: Words<'_>) -> Option<&[u8]>
+    ensures { option_map (λ digits. digits.now) result
+        ≡ count_in (split_words words.entry.rest.now) }
 {
     let (Some(_), Some(_)) = (words.next_word(), words.next_word()) else {
-        return false;
+        return None;
     };
     let (Some(pmp), Some(count)) = (words.next_word(), words.next_word()) else {
-        return false;
+        return None;
     };
     let (Some(_), Some(number)) = (words.next_word(), words.next_word()) else {
-        return false;
+        return None;
     };
-    (is_text(pmp, b"PMP") && is_text(count, b"Count")) && is_text(number, b"0")
+    if is_text(pmp, b"PMP") && is_text(count, b"Count") {
+        Some(number)
+    } else {
+        None
+    }
+}
+
+/// How many entries the hart has, in a line that says so.
+pub(crate) fn count_in(raw: &[u8]) -> Option<&[u8]>
+    ensures { option_map (λ digits. digits.now) result ≡ count_of raw.now }
+{
+    count_in_words(words_in(raw))
 }
 
 /// Whether words are about the hart that boots.
@@ -154,20 +159,69 @@ fn is_of_hart(mut words: Words<'_>) -> bool
     is_text(boot, b"Boot") && is_text(hart, b"HART")
 }
 
-/// Whether words say its domain, which is not the first.
+/// Whether words are about a domain.
+fn is_of_domain(mut words: Words<'_>) -> bool
+    ensures { result ≡ is_of_domain (split_words words.entry.rest.now) }
+{
+    let Some(domain) = words.next_word() else {
+        return false;
+    };
+    let Some(digits) = after_text(domain, b"Domain") else {
+        return false;
+    };
+    numeral(digits, 10).is_some()
+}
+
+/// Whether a line could say the domain of the hart that boots.
+fn resembles_hart(raw: &[u8]) -> bool
+    ensures { result ≡ resembles_hart raw.now }
+{
+    let is_of_domain = mentions(raw, b"Domain");
+    let is_of_boot = mentions(raw, b"Boot");
+    let is_of_hart = mentions(raw, b"HART");
+    (is_of_domain && (is_of_boot || is_of_hart))
+        || ((is_of_boot && is_of_hart) && (mentions(raw, b"Dom") || mentions(raw, b"ain")))
+}
+
+/// Whether a line could be on a region, or on the hart that boots, and is not: it was damaged on its way.
+fn is_damaged(raw: &[u8]) -> bool
+    ensures { result ≡ is_damaged raw.now }
+{
+    (resembles_region(raw) && !(is_region(words_in(raw)) || is_other_region(words_in(raw))))
+        || (resembles_hart(raw) && !(is_of_hart(words_in(raw)) || is_of_domain(words_in(raw))))
+}
+
+/// Whether words name the first domain.
+fn is_root(mut words: Words<'_>) -> bool
+    ensures { result ≡ is_root (split_words words.entry.rest.now) }
+{
+    let (Some(colon), Some(name)) = (words.next_word(), words.next_word()) else {
+        return false;
+    };
+    if let Some(_) = words.next_word() {
+        return false;
+    }
+    is_text(colon, b":") && is_text(name, b"root")
+}
+
+/// Whether a word is `Domain`, or could be with a letter of it lost or another one.
+fn resembles_domain(word: &[u8]) -> bool
+    ensures { result ≡ resembles_domain word.now }
+{
+    mentions(word, b"Dom") || mentions(word, b"ain")
+}
+
+/// Whether words of the hart that boots say its domain, and do not say that it is the first.
 fn is_elsewhere(mut words: Words<'_>) -> bool
     ensures { result ≡ is_elsewhere (split_words words.entry.rest.now) }
 {
     let (Some(_), Some(_)) = (words.next_word(), words.next_word()) else {
         return false;
     };
-    let (Some(domain), Some(_)) = (words.next_word(), words.next_word()) else {
+    let Some(domain) = words.next_word() else {
         return false;
     };
-    let Some(name) = words.next_word() else {
-        return false;
-    };
-    is_text(domain, b"Domain") && !is_text(name, b"root")
+    resembles_domain(domain) && !(is_text(domain, b"Domain") && is_root(words))
 }
 
 /// Whether a word names the instruction set of the other width.
@@ -209,12 +263,22 @@ fn number_in(region: &[u8]) -> Option<u64>
     numeral(digits, 10)
 }
 
+/// Whether an address is padded with zeros to eight digits, as those of RV32 are, on a hart of RV64.
+fn is_narrow(xlen: Xlen, word: &[u8]) -> bool
+    ensures { result ≡ is_narrow xlen word.now }
+{
+    match xlen {
+        Xlen::Rv32 => false,
+        Xlen::Rv64 => word.len() == 10 && after_text(word, b"0x0").is_some(),
+    }
+}
+
 /// The block from the first to the last address of a region.
 fn block_in(xlen: Xlen, word: &[u8]) -> Option<Region>
     ensures { option_map (λ r. (r.base, r.log2)) result ≡ block_in xlen word.now }
 {
     let dash = len_before(b'-', word);
-    if dash >= word.len() {
+    if dash >= word.len() || is_narrow(xlen, &word[..dash]) {
         return None;
     }
     let first = number(&word[..dash])?;
@@ -296,7 +360,7 @@ fn said_by(xlen: Xlen, words: Words<'_>) -> Result<Option<RegionEntry>, NotUnder
             None => Err(NotUnderstood),
         };
     }
-    if is_register(words) || (lacks_entries(words) || is_another_hart(xlen, words)) {
+    if is_register(words) || is_another_hart(xlen, words) {
         Err(NotUnderstood)
     } else {
         Ok(None)

@@ -27,6 +27,14 @@ pub struct Listing {
     pub entries: Option<u64>,
     /// How many lines set the pair of an entry.
     pub pairs: u64,
+    /// The entry of the last pair.
+    pub last: Option<u64>,
+    /// The number of the hart, where a line says it.
+    pub hart: Option<u64>,
+    /// Whether OpenOCD's heading has come.
+    pub is_headed: bool,
+    /// How many entries the hart has, where a line of a boot log says it.
+    pub limit: Option<u64>,
     /// Whether a line is about the protection.
     pub is_set: bool,
 }
@@ -77,6 +85,9 @@ fn register_listing(xlen: Xlen, bytes: &[u8]) -> Result<Left, u64>
         let Ok(setting) = line_sets(xlen, lines.line()) else {
             return Err(number);
         };
+        if !setting.agrees(&listing) {
+            return Err(number);
+        }
         listing = setting.of(&listing, number);
         count = number;
     }

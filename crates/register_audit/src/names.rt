@@ -1,9 +1,10 @@
 //! Which words could be about the protection, which name a hart, and the values of registers.
 
-ghost use Rattle.std.specs.Prelude.{◌≡◌};
-ghost use Rattle.register_audit.specs.Names.{is_about_pmp, is_csr_of_pmp, is_padded, mentions, names_hart, numbers_csr, resembles_pmp, unpadded, value_of};
+ghost use Rattle.std.specs.Prelude.{◌≡◌, option_map};
+ghost use Rattle.std.specs.List.{list_all};
+ghost use Rattle.register_audit.specs.Names.{are_digits, is_about_pmp, is_csr_of_pmp, is_digit, is_padded, mentions, names_hart, numbers_csr, resembles_pmp, unpadded, value_of};
 
-use text_lines::{after_name, begins_with, is_name, number};
+use text_lines::{after_name, begins_with, number};
 
 /// Whether a text has a name somewhere in it, in upper or lower case.
 pub(crate) fn mentions(text: &[u8], name: &[u8]) -> bool
@@ -54,12 +55,36 @@ pub(crate) fn is_about_pmp(word: &[u8]) -> bool
     mentions(word, b"pmp") || (resembles_pmp(word) || numbers_csr(word))
 }
 
-/// Whether a word names a hart where a number follows it.
+/// Whether a byte is a decimal digit.
+fn is_digit(b: u8) -> bool
+    ensures { result ≡ is_digit b }
+{
+    b >= 48 && b <= 57
+}
+
+/// Whether no byte is anything but a decimal digit.
+fn all_digits(bytes: &[u8]) -> bool
+    ensures { result ≡ list_all is_digit bytes.now }
+{
+    bytes.iter().all(|b| is_digit(*b))
+}
+
+/// Whether there is a text, and it has no other bytes than decimal digits.
+fn are_digits(text: Option<&[u8]>) -> bool
+    ensures { result ≡ are_digits (option_map (λ digits. digits.now) text.entry) }
+{
+    match text {
+        Some(digits) => all_digits(digits),
+        None => false,
+    }
+}
+
+/// Whether a word names a hart, its number behind it or as the next word.
 pub(crate) fn names_hart(word: &[u8]) -> bool
     ensures { result ≡ names_hart word.now }
 {
-    (is_name(word, b"hart") || is_name(word, b"thread"))
-        || (is_name(word, b"cpu") || is_name(word, b"core"))
+    (are_digits(after_name(word, b"hart")) || are_digits(after_name(word, b"thread")))
+        || (are_digits(after_name(word, b"cpu")) || are_digits(after_name(word, b"core")))
 }
 
 /// Whether a word is a decimal number that begins with zero, which could be meant as hexadecimal.

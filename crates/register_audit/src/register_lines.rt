@@ -1,13 +1,14 @@
 //! What one line of a listing sets, by its words.
 
-ghost use Rattle.std.specs.Prelude.{◌≡◌, ◌+◌, ◌*◌, ◌/◌, ◌≤◌, ◌==◌, ◌&&◌, true, [], ◌∷◌, length, None, IfOk, IfSome, bytes_eq};
+ghost use Rattle.std.specs.Prelude.{◌≡◌, ◌+◌, ◌*◌, ◌/◌, ◌-◌, ◌^◌, ◌<◌, ◌≤◌, ◌==◌, ◌&&◌, true, [], ◌∷◌, length, None, IfOk, IfSome, bytes_eq};
 ghost use Rattle.std.specs.Result.{result_ok};
 ghost use Rattle.pmp_encoding.specs.declared.xlen.Xlen.{Xlen};
+ghost use Rattle.pmp_encoding.specs.Widths.{xlen_bits};
 ghost use Rattle.text_lines.specs.Words.{split_words};
 ghost use Rattle.text_lines.specs.Numbers.{number_of};
 ghost use Rattle.std.specs.List.{list_all};
 ghost use Rattle.std.specs.Option.{option_and_then};
-ghost use Rattle.register_audit.specs.Lines.{IsInside, are_passed, equals_at, has_no_number, is_dirty, is_index, is_index_byte, is_other_name, set_or_passed, without_index, is_between, is_foreign, is_no_name, line_sets, named_setting, other_setting, pair_by_words, pair_setting, plain_setting, register_by_word, register_setting, set_by_many, set_by_three, set_by_words, value_word, width_sign, without_colon};
+ghost use Rattle.register_audit.specs.Lines.{IsInside, are_passed, equals_at, has_no_number, agrees_twice, is_dirty, is_heading, is_index, is_index_byte, is_number, says_number, says_same, is_other_name, set_or_passed, without_index, is_between, is_foreign, is_no_name, line_sets, named_setting, other_setting, pair_by_words, pair_setting, plain_setting, register_by_word, register_setting, set_by_many, set_by_three, set_by_words, value_word, width_sign, without_colon};
 
 use crate::names::{is_about_pmp, names_hart, unpadded, value_of};
 use crate::register_settings::{
@@ -16,7 +17,7 @@ use crate::register_settings::{
 };
 use crate::setting::Setting;
 use pmp_encoding::Xlen;
-use text_lines::{NotUnderstood, Words, begins_with, is_text, number};
+use text_lines::{NotUnderstood, Words, begins_with, is_text, number, numeral};
 
 /// What two words set.
 fn set_by_two(xlen: Xlen, name: &[u8], value: &[u8]) -> Option<Setting>
@@ -101,12 +102,84 @@ fn value_word<'a>(xlen: Xlen, second: &'a [u8], third: &'a [u8]) -> &'a [u8]
     }
 }
 
+/// Whether a column says the number of a register in decimal: its bits, or with their sign.
+fn says_number(xlen: Xlen, value: u64, column: &[u8]) -> bool
+    requires { 0 < value }
+    ensures { result ≡ says_number xlen value column.now }
+{
+    let [first, rest @ ..] = column else {
+        return false;
+    };
+    if *first != b'-' {
+        return is_number(value, number(column));
+    }
+    match numeral(rest, 10) {
+        Some(n) => n == negative(xlen, value),
+        None => false,
+    }
+}
+
+/// The number that gdb prints behind a minus sign for the bits of a register.
+fn negative(xlen: Xlen, value: u64) -> u64
+    requires { 0 < value }
+    ensures { result ≡ 2 ^ xlen_bits xlen - value }
+{
+    match xlen {
+        Xlen::Rv32 => (1u64 << 32).saturating_sub(value),
+        Xlen::Rv64 => u64::MAX - value + 1,
+    }
+}
+
+/// Whether a number is there, and is this one.
+fn is_number(value: u64, number: Option<u64>) -> bool
+    ensures { result ≡ is_number value number }
+{
+    match number {
+        Some(n) => n == value,
+        None => false,
+    }
+}
+
+/// Whether a column says the number that a word spells.
+fn says_same(xlen: Xlen, value: Option<u64>, column: &[u8]) -> bool
+    ensures { result ≡ says_same xlen value column.now }
+{
+    match value {
+        Some(0) => is_number(0, number(column)),
+        Some(value) => says_number(xlen, value, column),
+        None => false,
+    }
+}
+
+/// How many hexadecimal digits a register has, and the `0x` before them.
+fn full_len(xlen: Xlen) -> usize
+    ensures { result ≡ 2 + xlen_bits xlen / 4 }
+{
+    match xlen {
+        Xlen::Rv32 => 10,
+        Xlen::Rv64 => 18,
+    }
+}
+
+/// Whether what a tool prints twice of a register of the protection agrees.
+fn agrees_twice(xlen: Xlen, name: &[u8], second: &[u8], third: &[u8]) -> bool
+    ensures { result ≡ agrees_twice xlen name.now second.now third.now }
+{
+    if !is_about_pmp(name) {
+        return true;
+    }
+    if is_width_sign(xlen, second) {
+        return third.len() == full_len(xlen);
+    }
+    is_between(xlen, second) || says_same(xlen, unpadded(second), third)
+}
+
 /// What a register sets that has three words: after its value comes no name of another.
 fn register_alone(xlen: Xlen, first: &[u8], second: &[u8], third: &[u8]) -> Option<Setting>
     ensures value { result ≡ set_by_three xlen None first.now second.now third.now }
     ensures inside { IfSome result (IsInside xlen) }
 {
-    if is_no_name(third) {
+    if is_no_name(third) && agrees_twice(xlen, first, second, third) {
         register_by_word(xlen, first, value_word(xlen, second, third))
     } else {
         None
@@ -269,11 +342,30 @@ fn are_passed(words: Words<'_>) -> bool
         && (is_other_name(first) && (has_no_number(second) || is_text(first, b"=====")))
 }
 
+/// Whether words are the heading that OpenOCD prints above the registers of a hart.
+fn is_heading(mut words: Words<'_>) -> bool
+    ensures { result ≡ is_heading (split_words words.entry.rest.now) }
+{
+    let (Some(sign), Some(first)) = (words.next_word(), words.next_word()) else {
+        return false;
+    };
+    let Some(second) = words.next_word() else {
+        return false;
+    };
+    if let Some(_) = words.next_word() {
+        return false;
+    }
+    is_text(sign, b"=====") && (is_text(first, b"RISC-V") && is_text(second, b"Registers"))
+}
+
 /// What words set, or that they are passed over.
 fn set_or_passed(xlen: Xlen, words: Words<'_>) -> Option<Setting>
     ensures value { result ≡ set_or_passed xlen (split_words words.entry.rest.now) }
     ensures inside { IfSome result (IsInside xlen) }
 {
+    if is_heading(words) {
+        return Some(Setting::Heading);
+    }
     if are_passed(words) {
         return Some(Setting::Other);
     }

@@ -122,11 +122,13 @@ pub(crate) fn other_setting(name: &[u8], value: u64) -> Option<Setting>
     if is_name(name, b"mseccfg") {
         return Some(Setting::Security { value });
     }
-    if is_other(name, value) {
-        Some(Setting::Other)
-    } else {
-        None
+    if !is_other(name, value) {
+        return None;
     }
+    if is_name(name, b"mhartid") {
+        return Some(Setting::Hart { number: value });
+    }
+    Some(Setting::Other)
 }
 
 /// A name without the colon that may follow it.

@@ -3,7 +3,7 @@
 ghost use Rattle.std.specs.Prelude.{◌≡◌, ◌<◌, ◌≤◌, ◌+◌, ◌-◌, ◌^◌};
 ghost use Rattle.pmp_encoding.specs.Widths.{word_entries};
 ghost use Rattle.register_audit.specs.Lines.{IsInside};
-ghost use Rattle.register_audit.specs.RegisterListings.{count_by, first_of, is_of_pmp, nothing_set, pairs_by, passed_by, registers_by, security_by, set_by, set_bytes};
+ghost use Rattle.register_audit.specs.RegisterListings.{agrees, count_by, first_of, hart_by, headed_by, is_next, is_of_pmp, is_same_hart, is_within, last_by, limit_by, nothing_set, pairs_by, passed_by, registers_by, security_by, set_by, set_bytes};
 
 use crate::listing::Listing;
 use pmp_encoding::Xlen;
@@ -21,6 +21,18 @@ pub enum Setting {
     },
     /// Another register, which is passed over.
     Other,
+    /// `mhartid`, the number of the hart, which is passed over.
+    Hart {
+        /// The number.
+        number: u64,
+    },
+    /// The heading of OpenOCD above the registers of a hart, which is passed over.
+    Heading,
+    /// How many entries the hart has, as a boot log says.
+    Limit {
+        /// How many.
+        entries: u64,
+    },
     /// `mseccfg`, the register of Smepmp.
     Security {
         /// What it holds.
@@ -66,6 +78,10 @@ pub(crate) fn nothing_set(xlen: Xlen) -> Listing
         passed: None,
         entries: None,
         pairs: 0,
+        last: None,
+        hart: None,
+        is_headed: false,
+        limit: None,
         is_set: false,
     }
 }
@@ -94,6 +110,36 @@ fn with_word(cfgs: [u8; 64], place: usize, count: usize, value: u64) -> [u8; 64]
     bytes
 }
 
+/// Whether an entry is the first or the next of a counted list, or the list is not counted.
+fn is_next(entries: Option<u64>, last: Option<u64>, place: u64) -> bool
+    ensures { result ≡ is_next entries last place }
+{
+    match (entries, last) {
+        (Some(_), Some(last)) => place > last && place - last == 1,
+        _ => true,
+    }
+}
+
+/// Whether a hart of so many entries has this one.
+fn is_within(limit: Option<u64>, place: u64) -> bool
+    ensures { result ≡ is_within limit place }
+{
+    match limit {
+        Some(entries) => place < entries,
+        None => true,
+    }
+}
+
+/// Whether no other hart was named before.
+fn is_same_hart(hart: Option<u64>, number: u64) -> bool
+    ensures { result ≡ is_same_hart hart number }
+{
+    match hart {
+        Some(first) => first == number,
+        None => true,
+    }
+}
+
 impl Setting {
     /// The registers after the setting, where it sets one of the protection.
     fn registers(self, registers: &Registers) -> Registers
@@ -102,7 +148,12 @@ impl Setting {
     {
         let mut registers = *registers;
         match self {
-            Setting::Nothing | Setting::Count { .. } | Setting::Other => {}
+            Setting::Nothing
+            | Setting::Count { .. }
+            | Setting::Other
+            | Setting::Hart { .. }
+            | Setting::Heading
+            | Setting::Limit { .. } => {}
             Setting::Security { value } => registers.security = Security::of(value),
             Setting::Pair {
                 place,
@@ -136,7 +187,7 @@ impl Setting {
         ensures { result ≡ passed_by passed n self }
     {
         match self {
-            Setting::Other => first_of(passed, n),
+            Setting::Other | Setting::Hart { .. } | Setting::Heading => first_of(passed, n),
             _ => passed,
         }
     }
@@ -166,7 +217,71 @@ impl Setting {
     fn is_of_pmp(self) -> bool
         ensures { result ≡ is_of_pmp self }
     {
-        !matches!(self, Setting::Nothing | Setting::Other)
+        !matches!(
+            self,
+            Setting::Nothing
+                | Setting::Other
+                | Setting::Hart { .. }
+                | Setting::Heading
+                | Setting::Limit { .. }
+        )
+    }
+
+    /// The entry of the last pair after it.
+    fn last(self, last: Option<u64>) -> Option<u64>
+        ensures { result ≡ last_by last self }
+    {
+        match self {
+            Setting::Pair { place, .. } => Some(place as u64),
+            _ => last,
+        }
+    }
+
+    /// The hart's number after it.
+    fn hart(self, hart: Option<u64>) -> Option<u64>
+        ensures { result ≡ hart_by hart self }
+    {
+        match self {
+            Setting::Hart { number } => Some(number),
+            _ => hart,
+        }
+    }
+
+    /// Whether a heading has come after it.
+    fn is_headed(self, is_headed: bool) -> bool
+        ensures { result ≡ headed_by is_headed self }
+    {
+        match self {
+            Setting::Heading => true,
+            _ => is_headed,
+        }
+    }
+
+    /// How many entries the hart has, after it.
+    fn limit(self, limit: Option<u64>) -> Option<u64>
+        ensures { result ≡ limit_by limit self }
+    {
+        match self {
+            Setting::Limit { entries } => Some(entries),
+            _ => limit,
+        }
+    }
+
+    /// Whether it agrees with the lines before it.
+    pub(crate) fn agrees(self, listing: &Listing) -> bool
+        ensures { result ≡ agrees listing.now self }
+    {
+        match self {
+            Setting::Count { .. } => listing.pairs == 0,
+            Setting::Pair { place, .. } => {
+                is_next(listing.entries, listing.last, place as u64)
+                    && is_within(listing.limit, place as u64)
+            }
+            Setting::Hart { number } => is_same_hart(listing.hart, number),
+            Setting::Heading => !listing.is_headed,
+            Setting::Limit { entries } => entries > 0 && listing.pairs <= entries,
+            _ => true,
+        }
     }
 
     /// What the listing says after the setting of line n.
@@ -181,6 +296,10 @@ impl Setting {
             passed: self.passed(listing.passed, n),
             entries: self.count(listing.entries),
             pairs: self.pairs(listing.pairs),
+            last: self.last(listing.last),
+            hart: self.hart(listing.hart),
+            is_headed: self.is_headed(listing.is_headed),
+            limit: self.limit(listing.limit),
             is_set: listing.is_set || self.is_of_pmp(),
         }
     }

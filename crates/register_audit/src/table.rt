@@ -42,7 +42,8 @@ fn said_of(alloc: Global, mode: Mode, listing: &Listing) -> Result<Shown, Memory
     let given = entries_given(alloc, mode, registers, &extents)?;
     let rest = default_perm(registers, mode);
     let on = count_on(registers);
-    let text = extent_table(alloc, given.as_slice(), rest, on)?;
+    let end = registers.xlen.space_end();
+    let text = extent_table(alloc, given.as_slice(), end, rest, on)?;
     Ok(Shown { text, meant: true })
 }
 

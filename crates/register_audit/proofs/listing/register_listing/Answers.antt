@@ -3,7 +3,7 @@ use Rattle.text_lines.specs.WholeTexts.{left_of}
 use Rattle.text_lines.specs.Lines.{raw_lines}
 use Rattle.register_audit.specs.Lines.{raw_sets}
 use Rattle.register_audit.specs.RegisterListings.{sets_alone}
-use Rattle.register_audit.proofs.Followed.{set_by_more, set_pairs, set_width, short_sets}
+use Rattle.register_audit.proofs.Followed.{agreed_yes, set_by_more, set_pairs, set_width, short_sets}
 use Rattle.register_audit.proofs.listing.register_listing.Goals as goal
 
 pub loop-lines-preserved : goal.loop-lines-preserved
@@ -18,7 +18,8 @@ loop-lines-preserved c =
         f.1 ∙ ap (λ x. f.0 ++ x) first.1.lines ∙ sym (append_assoc f.0 (first.0 ∷ []) (raw_lines (left_of c.next_line.new.lines c.next_line.new.rest.now))),
         length-append f.0 (first.0 ∷ []) ∙ ap (λ n. n + 1) f.2 ∙ sym first.1.number,
         rw c.of-listing.ensures (set_by_more (sets_alone c.args.xlen) _ c.loop-lines.listing 1 c.number-number.result f.0 first.0 c.in-Ok.setting f.3
-            (omega (arith, f.2, first.1.number, c.number-number.ensures)) sets),
+            (omega (arith, f.2, first.1.number, c.number-number.ensures)) (agreed_yes c.loop-lines.listing c.in-Ok.setting _ sets
+            (sym c.agrees.ensures ∙ c.if-not-agrees.false))),
       );
       came = c.in_ok-next_line.ensures.came ∙ c.loop-lines.invariant.came;
       width = ap (λ x. x.registers.xlen) c.of-listing.ensures ∙ (set_width c.loop-lines.listing c.number-number.result c.in-Ok.setting
