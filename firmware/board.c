@@ -31,6 +31,7 @@ static uint64_t host_memory_at(uint64_t at)
     return 0;
 }
 
+#define NEEDS_MEMORY 3
 static void end_where(int64_t fault)
 {
     static const char *const words[] = {"", "cannot be read", "has no room", "needs more memory than the monitor has"};
@@ -52,14 +53,32 @@ static void find_pool(void)
     power_off(1);
 }
 
+/* What of the platform is there, and then the tree of the host, which comes last: after a fault the tree is as it was. */
+static int64_t read_tree(uint64_t tree, struct platform_frame *found)
+{
+    uint8_t *at = (uint8_t *)tree;
+    int64_t fault = pmpmon_find_platform(at, host_memory_at(tree), found);
+    return fault ? fault : pmpmon_put_host_tree(found, pool_base, pool_size, at, host_memory_at(tree));
+}
+
+/* A tree for which the heap is too small is read with the memory below it, which is the host's once it runs. */
+#define MORE_HEAP (16ul << 20)
 void find_board(uint64_t tree)
 {
     static struct platform_frame found;
-    uint8_t *at = (uint8_t *)tree;
-    found = *platform;
-    end_where(pmpmon_find_platform(at, host_memory_at(tree), &found));
+    const struct platform_frame *built = platform;
+    int64_t fault;
+    found = *built;
+    fault = read_tree(tree, &found);
+    if (fault == NEEDS_MEMORY && host_memory_at(tree - MORE_HEAP) >= MORE_HEAP) {
+        begin_heap((void *)(tree - MORE_HEAP), MORE_HEAP);
+        found = *built;
+        fault = read_tree(tree, &found);
+    }
+    if (heap_blocks)
+        fault = NEEDS_MEMORY;
+    end_where(fault);
+    begin_heap(0, 0);
     platform = &found;
     find_pool();
-    end_where(pmpmon_put_host_tree(platform, pool_base, pool_size, at, host_memory_at(tree)));
-    forget_heap();
 }

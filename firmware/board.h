@@ -32,12 +32,12 @@ struct registers {
 
 /* What there is of each hart. */
 struct world {
-    uint8_t stack[1808];         /* its own, which ends where the rest begins */
+    uint8_t stack[1792];         /* its own, which ends where the rest begins */
     struct registers *registers; /* of its world */
     uint64_t cause, value;       /* what the last trap told */
+    uint64_t ticket;             /* the last that it drew for the lock */
     volatile uint32_t is_out;    /* the hart is not halted: its world may run */
     volatile uint32_t is_wanted; /* it is to leave the place where it is parked */
-    uint32_t last_number;        /* of the lock */
     uint32_t requests, fences_asked, fences_made; /* harts.c */
     uint16_t is_stale;           /* its world, its entries or pages are others than when it last ran one */
     uint16_t floats_kind;        /* what it has of floating point (floats.c) */
@@ -49,8 +49,8 @@ struct world {
     const struct bank *bank; /* the list of its world */
 } __attribute__((aligned(16)));
 extern struct world worlds[MOST_HARTS];
-_Static_assert(sizeof(struct world) == 1 << 11 && offsetof(struct world, registers) == 1808, "trap.S counts on it");
-_Static_assert(offsetof(struct world, is_out) == 1808 + 3 * 8, "trap.S counts on it");
+_Static_assert(sizeof(struct world) == 1 << 11 && offsetof(struct world, registers) == 1792, "trap.S counts on it");
+_Static_assert(offsetof(struct world, ticket) == 1792 + 24 && offsetof(struct world, is_out) == 1792 + 32, "trap.S counts on it");
 
 /* trap.S: the hart that calls lets go of the monitor and runs its world until a trap needs the monitor, or is parked until another
    hart wants it. The monitor goes on as the next hart that comes, whose struct world is told. `instructions` counts since the hart
@@ -58,9 +58,8 @@ _Static_assert(offsetof(struct world, is_out) == 1808 + 3 * 8, "trap.S counts on
 struct world *run_world(struct world *world);
 struct world *park(struct world *world);
 uint64_t instructions(void);
-/* Waits for the monitor's lock, whose next number and the one that is called are the first of its words. */
-void take_lock(struct world *self);
-extern volatile uint32_t tickets[2];
+/* The monitor's lock: the next ticket, and the one that is called. */
+extern uint64_t tickets[2];
 
 /* pmp.S: the addresses of as many entries as are used and the words of configuration are loaded, then sfence.vma. */
 void load_bank(const struct bank *bank);
@@ -78,12 +77,14 @@ int64_t put_trap(const struct world *world, uint64_t tag, struct trap_frame *fra
 /* Makes pages of memory that are not the monitor's zero. */
 void make_zero(uint64_t first, uint64_t count);
 
-/* reset.c: pages are private, until they are made zero. */
-void private_begin(uint64_t first, uint64_t count);
+/* reset.c: the pages of an enclave are private, until they are made zero. */
+void private_begin(uint64_t enclave, uint64_t first, uint64_t count);
 void private_end(uint64_t first, uint64_t count);
-/* Makes all private pages zero. */
+/* Whether a page is one of the private pages of an enclave. */
+int is_private_page(uint64_t enclave, uint64_t page);
+/* Zeroes all private pages. After a trap in it the next call goes on with the page after the one that trapped. */
 void forget_private(void);
-/* The other harts stand still for good, and all private pages are made zero. */
+/* Stops the other harts for good, and zeroes all private pages and all registers of worlds. */
 void forget(void);
 /* The board ends, or begins anew, and no private page is left as it was. */
 _Noreturn void end_board(uint64_t status);
@@ -99,17 +100,11 @@ int serve_alone(struct world *world);
 void answered(const struct answer_frame *answer);
 _Noreturn void ended(const struct end_frame *end);
 
-/* registers.c: the registers of the hosts of the harts, and behind them those of enclaves by their numbers. Tests leave out a kind of
-   change, all zeros, or whose set is which, and see that it is missed. */
+/* registers.c: the registers of the hosts of the harts, and behind them those of enclaves by their numbers. */
 extern struct registers register_sets[MOST_HARTS + MOST_ENCLAVES];
-enum { NO_ZEROS = ALL_ZERO + 1, ONE_ENCLAVES, ONE_HOSTS };
-#ifndef LEAVE_REGISTERS
-#define LEAVE_REGISTERS 0
-#endif
 static inline struct registers *registers_of(uint64_t hart, uint64_t world)
 {
-    uint64_t host = LEAVE_REGISTERS == ONE_HOSTS ? 0 : hart, enclave = LEAVE_REGISTERS == ONE_ENCLAVES ? 1 : world;
-    return &register_sets[world ? MOST_HARTS - 1 + enclave : host];
+    return &register_sets[world ? MOST_HARTS - 1 + world : hart];
 }
 /* A set as a world begins: all zero but the pc and a0. */
 void registers_begin(struct registers *set, uint64_t pc, uint64_t a0);
@@ -117,18 +112,19 @@ void registers_begin(struct registers *set, uint64_t pc, uint64_t a0);
 int64_t registers_change(uint64_t written, const struct answer_frame *answer);
 
 /* control.c: the registers of machine and supervisor mode that decide what a world can do, read for a frame and written from
-   one on the hart that calls. */
+   one on the hart that calls. `control_find` comes once for each hart, and finds which of them it has. */
+void control_find(void);
 void control_at_start(void);
 int64_t control_told(struct trap_frame *frame);
 void control_enter(struct world *self, const struct control_words *words, uint64_t status);
 void control_leave(const struct world *self);
 void control_to_handler(struct world *world);
 
-/* floats.c, on the hart that calls: another world goes on; and the hart begins. An enclave that is new begins with zeros. */
+/* floats.c, on the hart that calls: what it has is found; another world goes on; and its host begins, with zeros. */
 #define FLOATS_DIRTY (3ul << 13) /* FS of mstatus */
+void floats_find(struct world *self);
 void floats_change(const struct world *self, const struct registers *next, uint64_t status);
 void floats_at_start(struct world *self);
-void floats_begin(struct registers *set);
 
 /* harts.c, with the states of the harts, hart h in bit h: one that is in neither word is stopped. They change with the lock. */
 struct harts {
@@ -139,6 +135,20 @@ static inline int is_started(uint64_t hart)
 {
     return harts.started >> hart & 1;
 }
+/* The states, which a hart without the lock may read while they change, and others in their place, with the lock. A hart in `started` is
+   started, whatever `pending` says. So a reader of `started` first, and a writer of `pending` first, agree on a state that there was. */
+static inline struct harts seen_harts(void)
+{
+    struct harts seen = {.count = harts.count};
+    seen.started = __atomic_load_n(&harts.started, __ATOMIC_ACQUIRE);
+    seen.pending = harts.pending;
+    return seen;
+}
+static inline void put_harts(const struct harts *states)
+{
+    harts.pending = states->pending;
+    __atomic_store_n(&harts.started, states->started, __ATOMIC_RELEASE);
+}
 static inline uint64_t this_hart(void)
 {
     uint64_t hart;
@@ -146,8 +156,11 @@ static inline uint64_t this_hart(void)
     return hart;
 }
 /* The harts of a set, hart h in bit h, run no world from here on, and read nothing that others write of them; those of an earlier set
-   that are not in this one go on. The hart that calls has the monitor's lock, and is in no set. Whether they stopped in ten seconds. */
-int stop_harts(uint64_t set);
+   that are not in this one go on. The hart that calls has the monitor's lock, and is in no set. It waits for each of them, however long
+   that takes. */
+void stop_harts(uint64_t set);
+/* A hart takes a software interrupt, or looks again at what it waits for. */
+void interrupt(uint64_t hart);
 /* A started hart of the host will find its software interrupt. */
 void interrupt_supervisor(uint64_t hart);
 /* The harts of a set, hart h in bit h, execute sfence.vma or fence.i, or both, before they run their worlds on: whether each has
@@ -174,7 +187,8 @@ void unpark(uint64_t hart);
 void timer_off(void);
 void timer_at(uint64_t time);
 uint64_t timer_now(void);
-void host_timer_begin(int has_stimecmp);
+void host_timer_find(int has_stimecmp);
+void host_timer_begin(void);
 void host_timer_at(uint64_t time);
 void host_timer_came(void);
 
@@ -224,12 +238,13 @@ void find_board(uint64_t tree);
 #define SET(csr, bits) __asm__ volatile("csrs " #csr ", %0" ::"r"((uint64_t)(bits)) : "memory")
 #define CLEAR(csr, bits) __asm__ volatile("csrc " #csr ", %0" ::"r"((uint64_t)(bits)) : "memory")
 
-/* Whether the hart does an instruction, which may change t1: one that it has not is illegal, and the monitor goes on after it. */
+/* Whether the hart does an instruction, which may change t1. One that it has not is illegal, and the monitor returns from that trap by
+   mret: a hart with Smdbltrp takes a second trap before it as fatal. */
 #define DOES(instruction)                                                                                              \
     ({                                                                                                                 \
         uint8_t does_it_;                                                                                              \
-        __asm__ volatile("la t0, 1f\n csrrw t0, mtvec, t0\n li %0, 0\n " instruction                                   \
-                         "\n li %0, 1\n .balign 4\n1: csrw mtvec, t0"                                                  \
+        __asm__ volatile("la t0, 1f\n csrrw t0, mtvec, t0\n li %0, 1\n " instruction                                   \
+                         "\n j 2f\n .balign 4\n1: li %0, 0\n la t1, 2f\n csrw mepc, t1\n mret\n2: csrw mtvec, t0"      \
                          : "=&r"(does_it_)::"t0", "t1", "memory");                                                     \
         does_it_;                                                                                                      \
     })

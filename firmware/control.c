@@ -7,16 +7,7 @@
 #include "board.h"
 
 #define ALL (~0ul)
-/* Builds of tests/on_hart leave these bits of three registers as the host has them, and see that each is missed. */
-#ifndef UXL
 #define UXL (3ul << 32)
-#endif
-#ifndef INTERRUPTS
-#define INTERRUPTS ALL
-#endif
-#ifndef TABLE_OF_PAGES
-#define TABLE_OF_PAGES ALL
-#endif
 /* Of mstatus: SIE, SPIE, UBE, SPP, VS, FS, XS, SUM, MXR, UXL. */
 #define STATUS (1ul << 1 | 1ul << 5 | 1ul << 6 | 1ul << 8 | 3ul << 9 | 3ul << 13 | 3ul << 15 | 1ul << 18 | 1ul << 19 | UXL)
 
@@ -28,8 +19,8 @@
 /* The word of a frame, its register (a number, where the assembler may not know the name), and which bits of it change with the world.
    Two words beside these are of mstatus: status has the bits of STATUS, and mode has MPP and MPV. */
 #define CONTROL_REGISTERS(X)                                                                                           \
-    X(satp, satp, TABLE_OF_PAGES)                                                                                      \
-    X(mie, mie, INTERRUPTS)                                                                                            \
+    X(satp, satp, ALL)                                                                                                 \
+    X(mie, mie, ALL)                                                                                                   \
     X(scounteren, scounteren, ALL)                                                                                     \
     X(senvcfg, 0x10a, ALL)                                                                                             \
     X(hstatus, 0x600, ALL)                                                                                             \
@@ -40,10 +31,8 @@
 /* Machine mode's interrupts: software and timer. */
 #define MONITORS_INTERRUPTS (1ul << 3 | 1ul << 7)
 #define HOSTS_INTERRUPTS (SOFTWARE_OF_SUPERVISOR | TIMER_OF_SUPERVISOR | EXTERNAL_OF_SUPERVISOR)
-/* The host's own handler gets every exception of the host but its calls. A test has them handed on by machine mode. */
-#ifndef HOSTS_EXCEPTIONS
+/* The host's own handler gets every exception of the host but its calls. */
 #define HOSTS_EXCEPTIONS 0xf0b5fful
-#endif
 
 /* The time alone, which Linux's programs read. Cycles and instructions go on in an enclave, and would tell its host each branch. */
 #define COUNTERS (1ul << 1)
@@ -118,18 +107,18 @@ void control_leave(const struct world *self)
 /* Of the words of the world that trapped those on which an enclave's depend. */
 int64_t control_told(struct trap_frame *frame)
 {
-    frame->mie = READ(mie) & INTERRUPTS;
+    frame->mie = READ(mie);
     frame->scounteren = READ(scounteren);
     return sizeof *frame;
 }
 
 /*
- * Of menvcfg: what a hart has of Sstc, Svpbmt, Zicboz and Zicbom its device tree says, so it is the host's. User mode has no
- * stimecmp, and of the other three what senvcfg lets in. cbo.inval writes blocks back (CBIE 1): dropped, a page that was made
- * zero could be what it was before.
+ * Of menvcfg: what a hart has of Sstc, Zicboz and Zicbom its device tree says, so it is the host's. User mode has no stimecmp, and of the
+ * other two what senvcfg lets in. cbo.inval writes blocks back (CBIE 1): dropped, a page that was made zero could be what it was before.
+ * Memory types (PBMTE) stay closed: through a page that is not cached a host could read what memory holds under the zeros in a cache, or
+ * have an enclave measured with other bytes than it executes.
  */
 #define STCE (1ul << 63)
-#define PBMTE (1ul << 62)
 #define CBZE (1ul << 7)
 #define CBCFE (1ul << 6)
 #define CBIE_FLUSH (1ul << 4)
@@ -161,23 +150,33 @@ void control_to_handler(struct world *world)
         world->registers->pc += 4 * (world->cause & ~INTERRUPT);
 }
 
-/* The hart has run no world, or the host stopped it: the host will be the next, in supervisor mode. mstatus comes last: a look at a
-   register that there is not is a trap, which changes it. */
-void control_at_start(void)
+void control_find(void)
 {
     struct world *self = &worlds[this_hart()];
     find_registers(self);
-    floats_at_start(self);
+    floats_find(self);
     WRITE(mcounteren, COUNTERS);
     if (IS_THERE(0x30a)) /* menvcfg */
-        WRITE(0x30a, STCE | PBMTE | CBZE | CBCFE | CBIE_FLUSH);
-    if (IS_THERE(0x30c)) { /* mstateen0, sstateen0 */
+        WRITE(0x30a, STCE | CBZE | CBCFE | CBIE_FLUSH);
+    if (IS_THERE(0x30c)) { /* mstateen0 to mstateen3, sstateen0 */
         WRITE(0x30c, ENVCFG | FCSR);
+        WRITE(0x30d, 0);
+        WRITE(0x30e, 0);
+        WRITE(0x30f, 0);
         WRITE(0x10c, FCSR);
     }
+    host_timer_find(IS_THERE(0x14d)); /* stimecmp */
+}
+
+/* The hart has run no world, or the host stopped it: the host will be the next, in supervisor mode. Of mstatus all else is zero but SXL,
+   which is 64 bits too. */
+void control_at_start(void)
+{
+    struct world *self = &worlds[this_hart()];
+    floats_at_start(self);
     CLEAR(mip, SOFTWARE_OF_SUPERVISOR | TIMER_OF_SUPERVISOR);
-    host_timer_begin(IS_THERE(0x14d)); /* stimecmp */
-    WRITE(mstatus, at_start.status);
+    host_timer_begin();
+    WRITE(mstatus, at_start.status | WIDTH_64 << 2);
     self->host = at_start;
     control_leave(self);
 }

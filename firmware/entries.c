@@ -39,8 +39,20 @@ static int are_there(void)
     return !clear_beyond();
 }
 
+/* Of mseccfg (Smepmp): rules for machine mode itself, and leave to change locked entries. The rest opens a source of random numbers. */
+#define MML_MMWP_RLB 7ul
+static void check_rules(void)
+{
+    if (!IS_THERE(0x747))
+        return;
+    if (READ(0x747) & MML_MMWP_RLB)
+        end_because("an earlier stage has set MML, MMWP or RLB in mseccfg: hart ", this_hart());
+    WRITE(0x747, 0);
+}
+
 void check_entries(void)
 {
+    check_rules();
     if (!are_there())
         end_because("the entries of a hart are not those of the platform: hart ", this_hart());
 }

@@ -8,12 +8,6 @@
 /* What a hart has of them. Where floats are in its integer registers (Zfinx) it has fcsr alone, which no FS closes. */
 enum { NONE, FCSR_ALONE, SINGLES, DOUBLES };
 
-/* Tests leave one of these out, and see that it is missed. */
-enum { HOSTS_SET = 1, ENCLAVES_SET, ZEROS };
-#ifndef LEAVE_FLOATS
-#define LEAVE_FLOATS 0
-#endif
-
 void keep_doubles(uint64_t *f);
 void load_doubles(const uint64_t *f);
 void keep_singles(uint64_t *f);
@@ -43,23 +37,15 @@ void floats_change(const struct world *self, const struct registers *next, uint6
     if (!self->floats_kind)
         return;
     SET(mstatus, FLOATS_DIRTY);
-    if (LEAVE_FLOATS != (self->number ? ENCLAVES_SET : HOSTS_SET)) {
-        self->registers->fcsr = READ(fcsr);
-        if (!self->number || (status & FLOATS_DIRTY) == FLOATS_DIRTY)
-            keep(self);
-    }
+    self->registers->fcsr = READ(fcsr);
+    if (!self->number || (status & FLOATS_DIRTY) == FLOATS_DIRTY)
+        keep(self);
     load(self, next);
 }
 
-void floats_begin(struct registers *set)
-{
-    if (LEAVE_FLOATS != ZEROS)
-        memset(set->f, 0, sizeof set->f + sizeof set->fcsr);
-}
-
-/* What a hart has is found by trying. Its host begins with zeros. */
+/* What a hart has is found by trying. */
 #define QUADS (1ul << 16) /* of misa: the upper half of each register would stay for the next world */
-void floats_at_start(struct world *self)
+void floats_find(struct world *self)
 {
     if (READ(misa) & QUADS)
         end_because("a hart has floats of 128 bits: hart ", this_hart());
@@ -70,7 +56,13 @@ void floats_at_start(struct world *self)
         self->floats_kind = FCSR_ALONE;
     else
         self->floats_kind = DOES(".option push\n .option arch, +d\n fmv.x.d t1, f0\n .option pop\n") ? DOUBLES : SINGLES;
-    floats_begin(self->registers);
-    if (self->floats_kind)
-        load(self, self->registers);
+}
+
+void floats_at_start(struct world *self)
+{
+    memset(self->registers->f, 0, sizeof self->registers->f + sizeof self->registers->fcsr);
+    if (!self->floats_kind)
+        return;
+    SET(mstatus, FLOATS_DIRTY);
+    load(self, self->registers);
 }

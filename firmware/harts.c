@@ -9,12 +9,7 @@ extern volatile uint32_t harts_run;
 extern volatile uint8_t arrived[MOST_HARTS];
 static volatile uint32_t *const software_interrupt = (volatile uint32_t *)0x2000000;
 
-#ifndef TEN_SECONDS
 #define TEN_SECONDS 100000000ul
-#endif
-#ifndef LEAVE_RUNNING
-#define LEAVE_RUNNING 0 /* 1: a test sees a hart that does not come */
-#endif
 
 struct harts harts = {.started = 1};
 
@@ -25,11 +20,10 @@ struct harts harts = {.started = 1};
 /* Which harts are to stand still, hart h in bit h. The hart with the lock writes it. */
 static uint64_t stopping;
 
-static void interrupt(uint64_t hart)
+void interrupt(uint64_t hart)
 {
     __asm__ volatile("fence" ::: "memory");
-    if (!LEAVE_RUNNING)
-        software_interrupt[hart] = 1;
+    software_interrupt[hart] = 1;
 }
 
 /* They are counted before they are made, so that no request is counted that comes later. */
@@ -119,23 +113,31 @@ int fence_harts(uint64_t set, uint32_t kinds)
     return is_made;
 }
 
-int stop_harts(uint64_t set)
+/* That time passes does not mean that a hart will never stop: its core may have been given to others. It is waited for, and that is said
+   once: what it could still access is neither opened to others nor made zero before. */
+static void wait_for_halt(uint64_t hart)
 {
     uint64_t last = timer_now() + TEN_SECONDS;
-#ifdef NO_STOP
-    return 1; /* so that a test sees what comes of it */
-#endif
+    while (worlds[hart].is_out)
+        if (timer_now() > last) {
+            put("monitor: waits for a hart to stop: hart ");
+            put_number((int64_t)hart);
+            put("\n");
+            last = ~0ul;
+        }
+}
+
+void stop_harts(uint64_t set)
+{
     __atomic_store_n(&stopping, set, __ATOMIC_RELEASE);
     __asm__ volatile("fence rw, rw" ::: "memory");
     for (uint64_t hart = 0; hart < hart_count(); hart++)
         if (is_other(set, hart) && worlds[hart].is_out)
             interrupt(hart);
     for (uint64_t hart = 0; hart < hart_count(); hart++)
-        while (is_other(set, hart) && worlds[hart].is_out)
-            if (timer_now() > last)
-                return 0;
+        if (is_other(set, hart))
+            wait_for_halt(hart);
     __asm__ volatile("fence rw, rw" ::: "memory");
-    return 1;
 }
 
 void interrupt_supervisor(uint64_t hart)

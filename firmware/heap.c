@@ -11,7 +11,9 @@
 struct tried { uint64_t ok; void *at; };
 struct block { uint64_t class; struct block *next; };
 
-static uint8_t arena[HEAP_SIZE] __attribute__((aligned(16)));
+static uint8_t own_arena[HEAP_SIZE] __attribute__((aligned(16)));
+static uint8_t *arena = own_arena;
+static size_t arena_size = sizeof own_arena;
 static struct block *kept[48];
 static uint64_t nothing[2];
 size_t heap_most, heap_blocks, heap_calls, heap_refused_call;
@@ -32,7 +34,7 @@ static __attribute__((noinline)) struct tried take(size_t bytes)
         kept[class] = b->next;
     } else {
         size_t whole = sizeof(struct block) + (16ul << class);
-        if (class >= 40 || whole > sizeof arena - heap_most)
+        if (class >= 40 || whole > arena_size - heap_most)
             return (struct tried){0, nothing};
         b = (struct block *)(arena + heap_most);
         heap_most += whole;
@@ -68,11 +70,10 @@ struct tried rattle_realloc(void *at, uint64_t had, uint64_t bytes, uint64_t ali
     return got;
 }
 
-/* What is kept goes back into the arena, where no block is taken. */
-void forget_heap(void)
+void begin_heap(void *at, size_t size)
 {
-    if (heap_blocks)
-        return;
+    arena = at ? at : own_arena;
+    arena_size = at ? size : sizeof own_arena;
     heap_most = 0;
     for (unsigned i = 0; i < sizeof kept / sizeof kept[0]; i++)
         kept[i] = 0;

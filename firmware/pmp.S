@@ -66,6 +66,10 @@ clear_beyond:
     or      a0, a0, t0
     .set    n, n + 1
     .endr
+    j       2f
     .balign 4
-1:  csrw    mtvec, t1
+1:  la      t0, 2f              # the trap is returned from, as a hart with Smdbltrp wants it
+    csrw    mepc, t0
+    mret
+2:  csrw    mtvec, t1
     ret

@@ -9,7 +9,7 @@ struct registers register_sets[MOST_HARTS + MOST_ENCLAVES];
 inline void registers_begin(struct registers *set, uint64_t pc, uint64_t a0)
 {
 #pragma GCC unroll 32
-    for (unsigned n = 0; n < 32 && LEAVE_REGISTERS != NO_ZEROS; n++)
+    for (unsigned n = 0; n < 32; n++)
         set->x[n] = 0;
     set->pc = pc;
     set->x[10] = a0;
@@ -22,9 +22,10 @@ static inline void change(struct registers *set, const struct set_change *change
     } else if (change->kind == TWO_WORDS) {
         set->x[10] = change->first;
         set->x[11] = change->second;
+    } else if (change->kind == FIRST_ENTRY) {
+        registers_begin(set, change->first, change->whose);
     } else {
-        int is_entry = change->kind == FIRST_ENTRY;
-        registers_begin(set, is_entry ? change->first : 0, is_entry ? change->whose : 0);
+        memset(set, 0, sizeof *set); /* floats too: so each enclave begins with zeros there */
     }
 }
 
@@ -33,7 +34,7 @@ int64_t registers_change(uint64_t written, const struct answer_frame *answer)
     struct registers *host = registers_of(answer->hart, 0);
 #pragma GCC unroll 3
     for (const struct set_change *it = answer->changes; it < answer->changes + 3; it++)
-        if (it->kind && it->kind != LEAVE_REGISTERS)
+        if (it->kind)
             change(it->whose ? registers_of(0, it->whose) : host, it);
     return (int64_t)written;
 }

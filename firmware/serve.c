@@ -9,7 +9,7 @@ struct bank host_bank;
 static uint64_t enclave_banks[MOST_ENCLAVES + 1][9 + ENTRIES];
 
 /* A hart begins with the host's entries and with fences, and hart 0 alone with the lock. */
-#define AT_START(hart) {.registers = &register_sets[hart], .is_stale = 1, .bank = &host_bank, .last_number = (hart) ? ~0u : 0}
+#define AT_START(hart) {.registers = &register_sets[hart], .is_stale = 1, .bank = &host_bank, .ticket = (hart) ? ~0ul : 0}
 struct world worlds[MOST_HARTS] = {AT_START(0), AT_START(1), AT_START(2), AT_START(3)};
 
 /* Of the pages that are asked for the next that is read. */
@@ -88,8 +88,7 @@ void make_zero(uint64_t first, uint64_t count)
    longer. An enclave whose list is new runs nowhere. */
 static __attribute__((noinline)) void change_lists(const struct answer_frame *answer)
 {
-    if (!stop_harts(answer->wake))
-        end_because("a hart does not stop, asked by hart ", this_hart());
+    stop_harts(answer->wake);
     host_bank = answer->lists[0];
     if (answer->list_count > 1)
         copy_words(enclave_banks[answer->value], &answer->lists[1].used, 9 + ENTRIES);
@@ -139,8 +138,7 @@ static __attribute__((noinline)) int64_t written_change(struct world *self, cons
 static __attribute__((noinline)) int64_t written_measure(const struct measure_frame *asked)
 {
     next_page = asked->first;
-    floats_begin(registers_of(0, worlds[this_hart()].registers->x[11]));
-    private_begin(asked->first, asked->count);
+    private_begin(worlds[this_hart()].registers->x[11], asked->first, asked->count);
     return sizeof *asked;
 }
 

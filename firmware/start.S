@@ -2,10 +2,60 @@
  * Where each hart begins. Hart 0 marks the stack, so that its use can be seen, and boots the monitor; the others wait
  * until there is a host for them.
  */
+    .equ    OF_EARLIER, 1 << 42 | 1 << 17 | 1 << 3 # of mstatus: MDT, MPRV, MIE
+    .equ    NEEDED, 1 << 12 | 1 << 2 | 1 << 0 # of misa: M, C, A
+    .equ    TSELECT, 0x7a0
+    .equ    TDATA1, 0x7a1
+    .equ    SERIAL, 0x10000000
+    .equ    FINISHER, 0x100000
     .section .text.start, "ax"
     .globl  _start
 _start:
     .option norelax
+    .option push
+    .option norvc
+    li      s0, OF_EARLIER
+    csrc    mstatus, s0
+/* Triggers of an earlier stage keep their type and do nothing. A hart without triggers traps. */
+    la      t0, 2f
+    csrw    mtvec, t0
+    li      t0, 0
+1:  csrw    TSELECT, t0
+    csrr    t1, TSELECT
+    bne     t0, t1, 2f
+    csrr    t1, TDATA1
+    srli    t1, t1, 60
+    beqz    t1, 2f              # there are no more
+    slli    t1, t1, 60
+    csrw    TDATA1, t1
+    addi    t0, t0, 1
+    j       1b
+    .balign 4
+2:  csrc    mstatus, s0
+/* A hart without what the compiler takes for granted, if misa tells it: hart 0 says so and ends the board. */
+    csrr    t0, misa
+    li      t1, NEEDED
+    and     t2, t0, t1
+    beqz    t0, 6f
+    beq     t1, t2, 6f
+    csrr    t0, mhartid
+    bnez    t0, .
+    la      t0, lacking
+    li      t1, SERIAL
+3:  lbu     t2, (t0)
+    beqz    t2, 5f
+4:  lbu     t3, 5(t1)
+    andi    t3, t3, 0x20
+    beqz    t3, 4b
+    sb      t2, (t1)
+    addi    t0, t0, 1
+    j       3b
+5:  li      t0, FINISHER
+    li      t1, 0x13333
+    sw      t1, (t0)
+    j       .
+    .option pop
+6:
     csrw    mscratch, zero
     la      t0, trap
     csrw    mtvec, t0
@@ -38,6 +88,10 @@ other:
     bgeu    t0, t2, 1b
     fence   rw, rw
     j       enter_as_trapped
+
+    .section .rodata
+lacking:
+    .string "monitor: a hart lacks one of the extensions M, A and C: hart 0\n"
 
     .section .sdata, "aw"
     .balign 8

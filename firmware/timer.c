@@ -23,9 +23,13 @@ void timer_off(void)
 
 static uint8_t has_stimecmp[MOST_HARTS];
 
-void host_timer_begin(int has)
+void host_timer_find(int has)
 {
     has_stimecmp[this_hart()] = (uint8_t)has;
+}
+
+void host_timer_begin(void)
+{
     timer_off();
     host_timer_at(~0ul);
 }

@@ -9,21 +9,21 @@
  * monitor itself is told from a world's.
  */
     .equ    PC, 32 * 8          # of a register set
-    .equ    REGISTERS, 1808     # of a struct world: the end of the hart's own stack, and where the set of its world is
+    .equ    REGISTERS, 1792     # of a struct world: the end of the hart's own stack, and where the set of its world is
     .equ    CAUSE, REGISTERS + 8
     .equ    VALUE, REGISTERS + 16
-    .equ    IS_OUT, REGISTERS + 24
-    .equ    IS_WANTED, REGISTERS + 28
-    .equ    NUMBER, REGISTERS + 32
-    .equ    CALLED, 4           # of the lock
-    .equ    SLEEPERS, 8
-    .equ    MONITOR_SP, 16
+    .equ    TICKET, REGISTERS + 24
+    .equ    IS_OUT, REGISTERS + 32
+    .equ    IS_WANTED, REGISTERS + 36
+    .equ    CALLED, 8           # of the lock
+    .equ    SLEEPERS, 16
+    .equ    MONITOR_SP, 24
     .equ    SAVED, 14 * 8
     .equ    CLINT, 0x2000000    # its first words: a software interrupt for each hart
 
-/* Registers x1 to x30, in the set that x31 points to. */
+/* Registers x1 to x29, in the set that x31 points to. */
     .macro  all what
-    .irp    n, 1, 2, 3, 4, 5, 6, 7, 8, 9, 10, 11, 12, 13, 14, 15, 16, 17, 18, 19, 20, 21, 22, 23, 24, 25, 26, 27, 28, 29, 30
+    .irp    n, 1, 2, 3, 4, 5, 6, 7, 8, 9, 10, 11, 12, 13, 14, 15, 16, 17, 18, 19, 20, 21, 22, 23, 24, 25, 26, 27, 28, 29
     \what   x\n, 8 * \n(x31)
     .endr
     .endm
@@ -33,26 +33,16 @@
     \what   s\n, 8 + 8 * \n(sp)
     .endr
     .endm
+    .macro  forget_saved        # what C saves of these on the monitor's stacks would stay there
+    .irp    n, 1, 2, 3, 4, 5, 6, 7, 8, 9, 10, 11
+    li      s\n, 0
+    .endr
+    .endm
     .macro  own_world to
     csrr    \to, mhartid
     slli    \to, \to, 11
     la      t1, worlds
     add     \to, \to, t1
-    .endm
-
-/*
- * The lock is two numbers: who comes takes the next, and goes in when it is called. So each comes in before who came later. a0 is
- * the hart's struct world.
- */
-    .macro  lock
-    la      t0, tickets
-    li      t1, 1
-    amoadd.w.aq t1, t1, (t0)
-    lw      t3, CALLED(t0)
-    beq     t1, t3, 9f
-    jal     t6, wait_for_call
-9:  fence   r, rw
-    sw      t1, NUMBER(a0)      # a hart has the lock while its last number is the one that is called
     .endm
 
 /*
@@ -65,9 +55,9 @@
     la      t0, tickets
     sd      sp, MONITOR_SP(t0)
     fence
-    lw      t1, CALLED(t0)
-    addiw   t1, t1, 1
-    sw      t1, CALLED(t0)
+    ld      t1, CALLED(t0)
+    addi    t1, t1, 1
+    sd      t1, CALLED(t0)
     fence
     lw      t2, SLEEPERS(t0)
     beqz    t2, 9f
@@ -93,6 +83,7 @@ enter_world:
     csrw    mepc, t0
     sc.d    zero, zero, (s0)    # into the lowest word of the hart's stack, so that no reservation of another world is left
     all     ld
+    ld      x30, 8 * 30(x31)
     csrw    mscratch, x31
     ld      x31, 8 * 31(x31)
     mret
@@ -123,14 +114,16 @@ enter_as_trapped:
     own_world a0
     j       take_monitor
 
+/* From the fifth instruction on a trap finds that the monitor itself trapped. */
     .balign 4
     .globl  trap
 trap:
     csrrw   x31, mscratch, x31
     beqz    x31, died           # the monitor itself trapped
+    sd      x30, 8 * 30(x31)
+    csrrw   x30, mscratch, zero
+    sd      x30, 8 * 31(x31)
     all     sd
-    csrrw   t0, mscratch, zero
-    sd      t0, 8 * 31(x31)
     csrr    t0, mepc
     sd      t0, PC(x31)
     ld      s0, (x31)
@@ -141,36 +134,51 @@ trap:
     csrr    t0, mstatus
     slli    t0, t0, 63 - 12     # of machine mode (MPP 3) no world is: the monitor trapped as it entered one
     bltz    t0, died
-    addi    sp, s0, REGISTERS
+    slli    t0, t0, 1
+    bltz    t0, 1f              # supervisor mode
+    forget_saved                # an enclave's
+1:  addi    sp, s0, REGISTERS
     mv      a0, s0
     call    serve_alone
     bnez    a0, enter_world
     mv      a0, s0
+/*
+ * A ticket lock: a hart draws the next ticket, and goes in when it is called, so harts go in in the order in which they came. A hart has
+ * the lock while its last ticket is the one that is called. a0 is the hart's struct world.
+ */
 take_monitor:
     fence   rw, rw
     sw      zero, IS_OUT(a0)
-    lock
+    la      t0, tickets
+    li      t1, 1
+    amoadd.d.aq t1, t1, (t0)
+drawn:
+    sd      t1, TICKET(a0)
+    ld      t3, CALLED(t0)
+    beq     t1, t3, 1f
+    jal     t6, wait_for_call
+1:  fence   r, rw
     ld      sp, MONITOR_SP(t0)
     callee_saved ld
     addi    sp, sp, SAVED
     ret
 
-/* The monitor itself trapped, and may again. */
+/* The monitor itself trapped, and may again. If it was about to keep the ticket that it had drawn, it does so here: others wait for it. */
     .balign 4
 died:
     la      t0, died
     csrw    mtvec, t0
-    own_world sp
+    csrr    a1, mepc
+    la      t0, drawn
+    bne     a1, t0, 1f
+    sd      t1, TICKET(a0)
+1:  own_world sp
     addi    sp, sp, REGISTERS
+    forget_saved
     csrr    a0, mcause
     csrr    a1, mepc
     csrr    a2, mtval
     call    trapped             # it does not return
-
-    .globl  take_lock
-take_lock:
-    lock
-    ret
 
 /*
  * Who has waited for some microseconds sleeps until it is called, and says so: another hart may need its core. It makes its word of
@@ -178,7 +186,7 @@ take_lock:
  */
 wait_for_call:
     li      t5, 1000
-1:  lw      t3, CALLED(t0)
+1:  ld      t3, CALLED(t0)
     beq     t1, t3, 4f
     addi    t5, t5, -1
     bgtz    t5, 1b
@@ -195,7 +203,7 @@ wait_for_call:
     add     t4, t4, t3
 2:  sw      zero, (t4)
     fence
-    lw      t3, CALLED(t0)
+    ld      t3, CALLED(t0)
     beq     t1, t3, 3f
     wfi
     j       2b
@@ -219,7 +227,7 @@ wake_called:
     .section .sdata, "aw"
     .balign 8
     .globl  tickets
-/* Hart 0 has the monitor first, with number 0: the next number, the one that is called, four bytes for the harts that sleep, each
-   plus 1 and at the last two bits of its number, and where the monitor's stack is. */
+/* Hart 0 has the monitor first, with ticket 0: the next ticket, the one that is called, four bytes for the harts that sleep, each
+   plus 1 and at the last two bits of its ticket, and where the monitor's stack is. */
 tickets:
-    .word   1, 0, 0, 0, 0, 0
+    .dword  1, 0, 0, 0

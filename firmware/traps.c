@@ -22,6 +22,7 @@ static void begin(struct world *world)
     has_begun[hart] = 1;
     world->caller = (struct caller){hart, READ(mvendorid), READ(marchid), READ(mimpid), 0, 0};
     check_entries();
+    control_find();
     control_at_start();
 }
 
@@ -112,10 +113,10 @@ static void decide(struct world *world, struct harts *states)
     pmpmon_decide(world->number, world->cause, world->registers->x + 10, &world->caller, host_bank.cfg, states, &world->action);
 }
 
-/* Another hart may start or stop one meanwhile, so the states are a copy, and what changes them is decided anew with the lock. */
+/* Another hart may start or stop one meanwhile, so the states are a copy, and what changes them is decided again with the lock. */
 int serve_alone(struct world *world)
 {
-    struct harts seen = harts;
+    struct harts seen = seen_harts();
     decide(world, &seen);
     if (world->action.kind < START_HART) {
         act(world);
@@ -149,9 +150,21 @@ static __attribute__((noinline)) struct world *serve_with_lock(struct world *wor
         take_requests(world);
         world->cause = INTERRUPT | 3;
     }
-    decide(world, &harts);
+    struct harts states = seen_harts();
+    decide(world, &states);
+    put_harts(&states);
     act_with_lock(world);
     return is_started(this_hart()) ? run(world) : park(world);
+}
+
+/* What a host learns beside the cause: the address of an access outside the private pages of the enclave. A fault within them would tell an
+   address of its own, and an illegal instruction its own code. */
+enum { FETCH_FAULT = 1, LOAD_FAULT = 5, STORE_FAULT = 7 };
+static uint64_t stop_value(const struct world *world)
+{
+    uint64_t cause = world->cause;
+    int is_access = cause == FETCH_FAULT || cause == LOAD_FAULT || cause == STORE_FAULT;
+    return is_access && !is_private_page(world->number, world->value / PAGE) ? world->value : 0;
 }
 
 /* What a trap was decided to be holds with the lock too where it is the monitor's: that asks for no states of harts. */
@@ -165,7 +178,7 @@ int64_t next_trap(struct trap_frame *frame)
     if (world->action.kind == MONITOR)
         return put_trap(world, TAG_CALL, frame);
     world->caller.stop_cause = world->cause;
-    world->caller.stop_value = world->value;
+    world->caller.stop_value = stop_value(world);
     return put_trap(world, world->action.kind == ENCLAVE_CALL ? TAG_CALL : TAG_STOP, frame);
 }
 

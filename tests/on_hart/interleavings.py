@@ -1,4 +1,5 @@
-"""Every order in which two harts can go through the monitor's lock, the stop of a hart, its fences, and its wait to be started.
+"""The orders in which two harts can go through the monitor's lock, the stop of a hart, its fences, and its wait to be started: all orders
+with the lock, the stop and two of fences, sleep and start at a time. All of them together are too many states.
 
 What firmware/trap.S, harts.c and serve.c do with the lock, `is_out` (a hart is halted where it is zero), `stopping`, `is_stale`, `is_wanted`, what harts ask of one another
 and the CLINT's software interrupts is written here once more, a step for each access. A store waits in a buffer of its hart: one for
@@ -23,16 +24,15 @@ TURN = 3  # tickets and fences are counted up to here, and then from 0
 # The lines that the steps are of: the model has them, so the sources have to.
 LINES = {
     "firmware/trap.S": (
-        r" +fence\n +lw +t1, CALLED\(t0\)\n +addiw +t1, t1, 1\n +sw +t1, CALLED\(t0\)\n +fence\n +lw +t2, SLEEPERS\(t0\)\n +beqz +t2, 9f\n +jal +t6, wake_called\n9:\n",
+        r" +fence\n +ld +t1, CALLED\(t0\)\n +addi +t1, t1, 1\n +sd +t1, CALLED\(t0\)\n +fence\n +lw +t2, SLEEPERS\(t0\)\n +beqz +t2, 9f\n +jal +t6, wake_called\n9:\n",
         r"wake_called:\n(?: +(?:andi|add) .*\n)+ +lbu +t2, SLEEPERS\(t1\)\n +beqz +t2, 1f\n(?: .*\n)+ +sw +t2, \(t1\)\n1: +jr +t6\n",
-        r"lock\n +la +t0, tickets\n +li +t1, 1\n +amoadd\.w\.aq t1, t1, \(t0\)\n +lw +t3, CALLED\(t0\)\n +beq +t1, t3, 9f\n +jal +t6, wait_for_call\n9: +fence +r, rw\n",
-        r"wait_for_call:\n +li .*\n1: +lw +t3, CALLED\(t0\)\n +beq +t1, t3, 4f\n",
-        r" +sb +t3, SLEEPERS\(t2\)\n(?: +(?:li|add) .*\n)+2: +sw +zero, \(t4\)\n +fence\n +lw +t3, CALLED\(t0\)\n +beq +t1, t3, 3f\n +wfi\n +j +2b\n3: +sb +zero, SLEEPERS\(t2\)\n.*\n4: +jr +t6\n",
+        r"fence   rw, rw\n +sw +zero, IS_OUT\(a0\)\n +la +t0, tickets\n +li +t1, 1\n +amoadd\.d\.aq t1, t1, \(t0\)\ndrawn:\n +sd +t1, TICKET\(a0\)\n +ld +t3, CALLED\(t0\)\n +beq +t1, t3, 1f\n +jal +t6, wait_for_call\n1: +fence +r, rw\n",
+        r"wait_for_call:\n +li .*\n1: +ld +t3, CALLED\(t0\)\n +beq +t1, t3, 4f\n",
+        r" +sb +t3, SLEEPERS\(t2\)\n(?: +(?:li|add) .*\n)+2: +sw +zero, \(t4\)\n +fence\n +ld +t3, CALLED\(t0\)\n +beq +t1, t3, 3f\n +wfi\n +j +2b\n3: +sb +zero, SLEEPERS\(t2\)\n.*\n4: +jr +t6\n",
         r" +leave_monitor\n(?: +(?:csrr|slli|li|add) .*\n)+1: +sw +zero, \(t4\)\n +fence\n +lw +t1, IS_WANTED\(a0\)\n +bnez +t1, 2f\n +wfi\n +j +1b\n2: +sw +zero, IS_WANTED\(a0\)\n",
-        r"fence   rw, rw\n +sw      zero, IS_OUT\(a0\)\n +lock\n",
     ),
     "firmware/harts.c": (
-        r"\"fence\" .*\n +if \(!LEAVE_RUNNING\)\n +software_interrupt\[hart\] = 1;\n",
+        r"interrupt\(uint64_t hart\)\n{\n.*\"fence\" .*\n +software_interrupt\[hart\] = 1;\n",
         r"load_n\(&self->fences_asked, __ATOMIC_ACQUIRE\);\n +fence_here\(__atomic_fetch_and\(&self->requests, ~FENCES, __ATOMIC_SEQ_CST\)\);\n"
         r" +__atomic_store_n\(&self->fences_made, asked, __ATOMIC_RELEASE\);\n",
         r"software_interrupt\[this_hart\(\)\] = 0;\n.*\"fence\" .*\n +make_fences\(self\);\n +if \(__atomic_fetch_and\(&self->requests, FENCES, __ATOMIC_SEQ_CST\) ",
@@ -44,11 +44,12 @@ LINES = {
         r"while \(other->is_out && .*&other->fences_made, __ATOMIC_ACQUIRE\) - number\) < 0\) {\n +make_fences\(&worlds\[this_hart\(\)\]\);\n",
         r"fetch_or\(&worlds\[hart\].requests, kinds, __ATOMIC_SEQ_CST\);\n.*add_fetch\(&worlds\[hart\].fences_asked, 1, __ATOMIC_SEQ_CST\);\n +interrupt\(hart\);\n",
         r"store_n\(&stopping, set, __ATOMIC_RELEASE\);\n.*\"fence rw, rw\" .*\n.*\n +if \(is_other\(set, hart\) && worlds\[hart\]\.is_out\)\n +interrupt\(hart\);\n"
-        r".*\n +while \(is_other\(set, hart\) && worlds\[hart\]\.is_out\)\n(?: +.*\n){2} +__asm__ volatile\(\"fence rw, rw\" ",
+        r".*\n +if \(is_other\(set, hart\)\)\n +wait_for_halt\(hart\);\n +__asm__ volatile\(\"fence rw, rw\" ",
+        r"wait_for_halt\(uint64_t hart\)\n{\n.*\n +while \(worlds\[hart\]\.is_out\)\n",
         r"worlds\[hart\]\.is_wanted = 1;\n.*\"fence\" .*\n +software_interrupt\[hart\] = 1;\n",
     ),
     "firmware/serve.c": (
-        r"if \(!stop_harts\(answer->wake\)\)\n.*\n +host_bank = answer->lists\[0\];\n(?: +.*\n){4} +worlds\[hart\]\.is_stale = 1;\n +stop_harts\(0\);",
+        r"stop_harts\(answer->wake\);\n +host_bank = answer->lists\[0\];\n(?: +.*\n){4} +worlds\[hart\]\.is_stale = 1;\n +stop_harts\(0\);",
     ),
     "firmware/traps.c": (r"case GO_ON:\n +take_requests\(world\);\n +load_changes\(world\);\n",),
 }

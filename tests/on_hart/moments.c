@@ -6,6 +6,7 @@
 
 #define ROUNDS 40
 static volatile uint64_t is_going, is_there;
+volatile uint64_t tries, writes; /* a debugger looks at them */
 #define WORD (*(volatile uint64_t *)(BASE + PAGE))
 
 static void write(uint64_t hart)
@@ -13,8 +14,10 @@ static void write(uint64_t hart)
     (void)hart;
     for (uint64_t i = 0;; i++) {
         is_there = 1;
-        if (is_going)
-            store_at((uint64_t *)(BASE + PAGE), i & 1);
+        if (is_going) {
+            writes += store_at((uint64_t *)(BASE + PAGE), i & 1) == 0;
+            tries++;
+        }
     }
 }
 

@@ -10,10 +10,13 @@ import tempfile
 from concurrent.futures import ProcessPoolExecutor, ThreadPoolExecutor
 from pathlib import Path
 
+from builds import builds
 from costs import costs
+from debugged import late_hart, measured_page, memory_types, state_of_stopping_hart
+from edits import edited
 from interleavings import all_interleavings
 from lives import Life
-from resets import resets, symbol
+from resets import each_instruction, resets, symbol
 from trees import trees
 from wires import Wired
 
@@ -213,8 +216,8 @@ def booted(image, payload, harts, *more, seconds=240):
         return "the board did not end"
 
 
-def built(platform, out, flags="", pool=""):
-    subprocess.run([FIRMWARE / "build", platform, out], check=True, env={**os.environ, "CFLAGS": flags, "POOL": pool, "IMAGE": "pmpmon-virt.elf"})
+def built(platform, out, pool=""):
+    subprocess.run([FIRMWARE / "build", platform, out], check=True, env={**os.environ, "POOL": pool, "IMAGE": "pmpmon-virt.elf"})
 
 
 def worlds(folder, told):
@@ -223,9 +226,10 @@ def worlds(folder, told):
     told("a host in C makes, runs, interrupts and destroys an enclave", said == HOST, said if said != HOST else "")
     said = booted(FIRMWARE / "out/pmpmon-virt.elf", FIRMWARE / "out/host.elf", 1, "-cpu", "rv64,sstc=off")
     told("the same on a hart without Sstc", said == HOST_WITHOUT_SSTC, said if said != HOST_WITHOUT_SSTC else "")
-    built(FIRMWARE / "platform.toml", folder / "undelegated", "-DHOSTS_EXCEPTIONS=0ul")
-    said = booted(folder / "undelegated/pmpmon-virt.elf", FIRMWARE / "out/host.elf", 1)
+    image = edited(FIRMWARE / "platform.toml", folder / "undelegated", ("control.c", "HOSTS_EXCEPTIONS 0xf0b5fful", "HOSTS_EXCEPTIONS 0ul"))
+    said = booted(image, FIRMWARE / "out/host.elf", 1)
     told("the same where its exceptions come to machine mode first", said == HOST, said if said != HOST else "")
+    builds(folder, told, lambda image: booted(image, FIRMWARE / "out/host.elf", 1) == HOST)
     wrong = folder / "three.dtb"
     if wrong.exists():
         said = booted(FIRMWARE / "out/pmpmon-virt.elf", FIRMWARE / "out/host.elf", 1, "-dtb", str(wrong))
@@ -234,8 +238,9 @@ def worlds(folder, told):
     two = folder / "two.toml"
     two.write_text("harts = 2\n" + (FIRMWARE / "platform.toml").read_text().replace("harts = 1\n", ""))
     race = host(folder / "race.elf", "race.S")
-    for name, flags, want in (("with", "", "faults\n"), ("without", "-DNO_STOP", "reads on\n")):
-        built(two, folder / name, flags)
+    built(two, folder / "with")
+    edited(two, folder / "without", ("serve.c", "    stop_harts(answer->wake);\n", ""))
+    for name, want in (("with", "faults\n"), ("without", "reads on\n")):
         said = booted(folder / name / "pmpmon-virt.elf", race, 2)
         told(f"{name} the stop of other harts, a page that became an enclave's {want.strip()}", said == want, said if said != want else "")
     said = booted(folder / "with/pmpmon-virt.elf", host(folder / "two_hosts.elf", "sbi_host.S", "two_hosts.S", "two_hosts.c"), 2)
@@ -247,9 +252,15 @@ def worlds(folder, told):
     devices(folder, told)
     storm(folder, told)
     ends(folder, told)
+    stages(folder, told)
+    large_trees(folder, told)
     races(folder, told)
+    quartet(folder, told)
     aside(folder, told)
-    resets((FIRMWARE / "out/pmpmon-virt.elf", folder / "with/pmpmon-virt.elf"), payloads, told)
+    secrets = host(folder / "secrets.elf", "harts.S", "secrets_enclave.S", "secrets.c")
+    slots = host(folder / "slots.elf", "harts.S", "reset_enclave.S", "slots.c")
+    resets((FIRMWARE / "out/pmpmon-virt.elf", folder / "with/pmpmon-virt.elf"), payloads, folder / "any/pmpmon-virt.elf", secrets, slots, told)
+    each_instruction(folder / "four/pmpmon-virt.elf", host(folder / "busy.elf", "harts.S", "reset_enclave.S", "busy.c"), told)
     hostile(folder, told)
 
 
@@ -261,7 +272,10 @@ CLOCK += "cycles, let in: cause 2\ninstructions, let in: cause 2\n"
 # What a host finds that computes in floating point beside two enclaves.
 FLOATS = "enclaves were on both harts 1\nstopped more than 200 times 1\nenclaves came to others 0\nhosts came to others 0\nwrong 0\n"
 # A build for a try leaves out a set of the host, one of an enclave, or the zeros of an enclave that is made: 24 lives and two hosts.
-LEFT_OUT = {1: ("the host's set", "enclaves came to others 0\nhosts came to others 2\n"), 2: ("an enclave's set", "enclaves came to others 24\n"), 3: ("the zeros of a new enclave", "enclaves came to others 22\n")}
+KEPT = "    self->registers->fcsr = READ(fcsr);\n    if (!self->number || (status & FLOATS_DIRTY) == FLOATS_DIRTY)\n        keep(self);\n"
+LEFT_OUT = {1: ("the host's set", ("floats.c", KEPT, f"    if (self->number) {{\n{KEPT}    }}\n"), "enclaves came to others 0\nhosts came to others 2\n")}
+LEFT_OUT |= {2: ("an enclave's set", ("floats.c", KEPT, f"    if (!self->number) {{\n{KEPT}    }}\n"), "enclaves came to others 24\n")}
+LEFT_OUT |= {3: ("the zeros of a new enclave", ("registers.c", "memset(set, 0, sizeof *set)", "memset(set, 0, 33 * 8)"), "enclaves came to others 22\n")}
 
 
 def floats(folder, told):
@@ -273,9 +287,8 @@ def floats(folder, told):
     for name, more in (("no floating point", "f=off,d=off"), ("floats in its integer registers", "f=off,d=off,zfinx=on")):
         said = booted(FIRMWARE / "out/pmpmon-virt.elf", FIRMWARE / "out/host.elf", 1, "-cpu", f"rv64,{more}")
         told(f"a host in C on a hart with {name}", said == HOST, said if said != HOST else "")
-    for left, (name, want) in LEFT_OUT.items():
-        built(folder / "two.toml", folder / f"floats-{left}", f"-DLEAVE_FLOATS={left}")
-        said = booted(folder / f"floats-{left}/pmpmon-virt.elf", payloads["d"], 2)
+    for left, (name, edit, want) in LEFT_OUT.items():
+        said = booted(edited(folder / "two.toml", folder / f"floats-{left}", edit), payloads["d"], 2)
         told(f"without {name} others come out", want in said, said if want not in said else "")
 
 
@@ -283,18 +296,25 @@ def floats(folder, told):
 SETS = "made 1\nmade 2\nrun 1: 1 0\nrun 2: 1 0\nresume 1: 0 256\nrun what has exited 1: -111 0\nresume 2: 0 512\ndestroy 1: 0 0\nmade 1\n"
 SETS += "run 1: 1 0\ndestroy what has stopped 1: 0 0\nmade 1\nrun 1: 1 0\nresume 1: 0 256\nwrong 0\n"
 # A build for a try leaves out a kind of change of a register set, all zeros, or whose set is which (firmware/registers.c).
-NO_PAST_CALL, NO_TWO_WORDS, NO_FIRST_ENTRY, NO_ZERO_AT_END, NO_ZERO, ONE_ENCLAVES, ONE_HOSTS = range(1, 8)
-REGISTERS_LEFT_OUT = {NO_PAST_CALL: ("the way past a call", "the board did not end"), NO_TWO_WORDS: ("a0 and a1 of an answer", "run 1: 1 1\n")}
-REGISTERS_LEFT_OUT |= {NO_FIRST_ENTRY: ("a first entry", "resume 1: 1 0\n"), NO_ZERO: ("the zeros of a set", "run 1: 0 7\n")}
-REGISTERS_LEFT_OUT |= {ONE_ENCLAVES: ("a set of each enclave", "resume 1: 1 0\n")}
+SET_OF = "world ? MOST_HARTS - 1 + world : hart"
+
+
+def but(kind):
+    """The edit that leaves out a kind of change."""
+    return "registers.c", "if (it->kind)", f"if (it->kind && it->kind != {kind})"
+
+
+REGISTERS_LEFT_OUT = {"the way past a call": ([but("PAST_CALL")], "the board did not end"), "a0 and a1 of an answer": ([but("TWO_WORDS")], "run 1: 1 1\n")}
+REGISTERS_LEFT_OUT |= {"a first entry": ([but("FIRST_ENTRY")], "resume 1: 1 0\n"), "a set of each enclave": ([("board.h", SET_OF, "world ? MOST_HARTS + 0 * world : hart")], "resume 1: 1 0\n")}
+REGISTERS_LEFT_OUT |= {"the zeros of a set": ([("registers.c", "set->x[n] = 0;", ";"), ("registers.c", "memset(set, 0, sizeof *set);", ";")], "run 1: 0 7\n")}
 
 
 def sets_of(image, payload):
     """What a board says on which two enclaves have exited, and whether nothing of their registers is left in the monitor's memory."""
     with Wired(image, payload, 1) as board:
         board.has_ended(20)
-        # (after the sets of four hosts, of x1 to x31, the program counter and floats)
-        left = [board.word(symbol(image, "register_sets") + 528 * (4 + enclave) + 8 * word) for enclave in (0, 1) for word in range(1, 33)]
+        # (after the sets of four hosts, of x1 to x31, the program counter, f0 to f31 and fcsr)
+        left = [board.word(symbol(image, "register_sets") + 528 * (4 + enclave) + 8 * word) for enclave in (0, 1) for word in range(66)]
     return board.said, not any(left)
 
 
@@ -303,16 +323,14 @@ def sets(folder, told):
     payload = host(folder / "sets.elf", "harts.S", "sets.S", "sets.c")
     said, is_zero = sets_of(FIRMWARE / "out/pmpmon-virt.elf", payload)
     told("a host and two enclaves have registers of their own, which an enclave begins with zeros", said == SETS, said if said != SETS else "")
-    told("nothing of the registers of an enclave that exited is left in the monitor's memory", is_zero)
-    for left, (name, want) in REGISTERS_LEFT_OUT.items():
-        built(FIRMWARE / "platform.toml", folder / f"sets-{left}", f"-DLEAVE_REGISTERS={left}")
-        said = booted(folder / f"sets-{left}/pmpmon-virt.elf", payload, 1, seconds=10)
+    told("the register sets of two enclaves that exited are zero", is_zero)
+    for number, (name, (edits, want)) in enumerate(REGISTERS_LEFT_OUT.items()):
+        said = booted(edited(FIRMWARE / "platform.toml", folder / f"sets-{number}", *edits), payload, 1, seconds=10)
         told(f"without {name} others come out", want in said, said if want not in said else "")
-    built(FIRMWARE / "platform.toml", folder / "sets-end", f"-DLEAVE_REGISTERS={NO_ZERO_AT_END}")
-    said, is_zero = sets_of(folder / "sets-end/pmpmon-virt.elf", payload)
-    told("without the zeros at an enclave's end its registers are left there, and no other enclave finds them", said == SETS and not is_zero)
-    built(folder / "two.toml", folder / "sets-hosts", f"-DLEAVE_REGISTERS={ONE_HOSTS}")
-    said = booted(folder / "sets-hosts/pmpmon-virt.elf", folder / "two_hosts.elf", 2, seconds=10)
+    said, is_zero = sets_of(edited(FIRMWARE / "platform.toml", folder / "sets-end", but("ALL_ZERO")), payload)
+    told("without the zeros at an enclave's end its set is not zero, though the next enclave begins with zeros in integer registers", said == SETS and not is_zero)
+    image = edited(folder / "two.toml", folder / "sets-hosts", ("board.h", SET_OF, "world ? MOST_HARTS - 1 + world : 0 * hart"))
+    said = booted(image, folder / "two_hosts.elf", 2, seconds=10)
     told("without a set of the host of each hart two hosts go wrong", said != TWO_HOSTS, said if said == TWO_HOSTS else "")
 
 
@@ -396,14 +414,55 @@ def storm(folder, told):
     told(f"a storm of {seconds} seconds on four harts: {' '.join(map(str, turns))} turns", right, "" if right else said)
 
 
-def earlier(folder, left):
-    """QEMU's flash with a stage before the monitor, which leaves an entry behind."""
-    elf, flash = folder / "earlier.elf", folder / f"earlier-{left:x}.bin"
-    subprocess.run([GCC, *FLAGS, f"-DLEFT={left:#x}", "-Wl,-Ttext=0x20000000", "-Wl,--build-id=none", "-o", elf, HERE / "earlier.S"], check=True)
+ENTRY, MPRV, TRIGGERS, RULES, INTERRUPTS = range(1, 6)
+
+
+def earlier(folder, kind, left=0, boot=0):
+    """QEMU's flash with a stage before the monitor, which leaves something behind (earlier.S)."""
+    elf, flash = folder / f"earlier-{kind}-{left:x}.elf", folder / f"earlier-{kind}-{left:x}.bin"
+    words = [f"-Wa,--defsym,{name}={number:#x}" for name, number in (("KIND", kind), ("LEFT", left), ("BOOT", boot))]
+    subprocess.run([GCC, *FLAGS, *words, "-Wl,-Ttext=0x20000000", "-Wl,--build-id=none", "-o", elf, HERE / "earlier.S"], check=True)
     subprocess.run([GCC.replace("gcc", "objcopy"), "-O", "binary", elf, flash], check=True)
     with flash.open("r+b") as file:
         file.truncate(32 << 20)
     return "-drive", f"if=pflash,unit=0,format=raw,file={flash}"
+
+
+def stages(folder, told):
+    """What an earlier stage leaves behind; harts that lack what the monitor is made of."""
+    payload, image = FIRMWARE / "out/host.elf", FIRMWARE / "out/pmpmon-virt.elf"
+    rows = [("loads and stores of user mode", MPRV, 0, (), HOST), ("a trigger in the monitor", TRIGGERS, 0, (), HOST), ("an interrupt that comes", INTERRUPTS, 0, ("-icount", "shift=0"), HOST)]
+    rules = "monitor: an earlier stage has set MML, MMWP or RLB in mseccfg: hart 0\n"
+    rows += [(f"{name} in mseccfg", RULES, bits, ("-cpu", "rv64,x-epmp=true"), want) for name, bits, want in (("nothing", 0, HOST), ("MMWP", 2, rules), ("RLB", 4, rules))]
+    for name, kind, left, more, want in rows:
+        said = booted(image, payload, 1, *earlier(folder, kind, left, symbol(image, "boot")), *more, seconds=60)
+        told(f"an earlier stage that leaves {name}: {'the host runs' if want == HOST else 'the board ends and says so'}", said == want, "" if said == want else said)
+    for lacking in ("c", "a", "m"):
+        said = booted(image, payload, 1, "-cpu", f"rv64,{lacking}=off", seconds=60)
+        told(f"a hart without {lacking.upper()} ends the board and says so", said == "monitor: a hart lacks one of the extensions M, A and C: hart 0\n", said)
+
+
+# What makes a tree as large as 256 KiB, and how often.
+LARGE = {"one property": ("large {{ blob = [" + "ab " * 254000 + "]; }};", 1), "small nodes": ("n{i} {{ a = <{i}>; }};", 8000)}
+LARGE |= {"devices": ('device@{i:x}000 {{ reg = <0 0x{i:x}000 0 0x1000>; compatible = "vendor,device-{i}"; status = "okay"; interrupts = <1 {i} 4>; }};', 2050)}
+
+
+def large_trees(folder, told):
+    """Trees of 256 KiB boot."""
+    if not shutil.which("dtc"):
+        return
+    tree = folder / "large.dtb"
+    subprocess.run([on_hart_module().QEMU, "-machine", f"virt,dumpdtb={tree}", "-m", "128", "-display", "none"], check=True, capture_output=True)
+    text = subprocess.run(["dtc", "-q", "-I", "dtb", "-O", "dts", tree], capture_output=True, text=True, check=True).stdout
+    for name, (node, count) in LARGE.items():
+        source = text[: text.rindex("};")] + "".join(node.format(i=i) for i in range(count)) + "};"
+        subprocess.run(["dtc", "-q", "-I", "dts", "-O", "dtb", "-o", tree], input=source.encode(), check=True)
+        said = booted(FIRMWARE / "out/pmpmon-virt.elf", FIRMWARE / "out/host.elf", 1, "-dtb", str(tree))
+        told(f"a device tree of {tree.stat().st_size} bytes with {name} boots", said == HOST and tree.stat().st_size > 255000, said[:300])
+
+
+# What a host says whose other hart takes no interrupt.
+LATE = "its own fence 0\nthat of the other hart -1\nmonitor: waits for a hart to stop: hart 1\n"
 
 
 def ends(folder, told):
@@ -413,16 +472,16 @@ def ends(folder, told):
     wide = folder / "64.toml"
     wide.write_text("entries = 64\n" + (FIRMWARE / "platform.toml").read_text())
     built(wide, folder / "64")
-    rows = [("an entry that was left open", image, earlier(folder, 0x1F), HOST), ("an entry that was locked", image, earlier(folder, 0x9F), other)]
+    rows = [("an entry that was left open", image, earlier(folder, ENTRY, 0x1F), HOST), ("an entry that was locked", image, earlier(folder, ENTRY, 0x9F), other)]
     rows += [("a hart without entries", image, ("-cpu", "rv64,pmp=false"), other), ("sixteen entries where the platform has 64", folder / "64/pmpmon-virt.elf", (), other)]
     for name, firmware, more, want in rows:
         said = booted(firmware, payload, 1, *more)
         told(f"{name}: {'the host runs' if want == HOST else 'the board ends and says so'}", said == want, "" if said == want else said)
-    built(folder / "two.toml", folder / "late", "-DLEAVE_RUNNING -DTEN_SECONDS=10000000ul")
-    said = booted(folder / "late/pmpmon-virt.elf", folder / "race.elf", 2)
-    told("a hart that does not stop in time ends the board", said == "monitor: a hart does not stop, asked by hart 0\n", said)
-    said = booted(folder / "late/pmpmon-virt.elf", host(folder / "late.elf", "harts.S", "two_hosts.S", "late.c"), 2)
-    told("a fence that does not come in time is an error of the call", said == "its own fence 0\nthat of the other hart -1\n", said)
+    late = edited(folder / "two.toml", folder / "late", ("harts.c", " ::: \"memory\");\n    software_interrupt[hart] = 1;\n}\n\n/* They", "::: \"memory\");\n    (void)hart;\n}\n\n/* They"), ("harts.c", "TEN_SECONDS 100000000ul", "TEN_SECONDS 10000000ul"))
+    with Wired(late, host(folder / "late.elf", "harts.S", "two_hosts.S", "late.c"), 2) as board:
+        # (the host then ends the board, which waits for the hart that does not stop)
+        right = board.until("monitor: waits for a hart to stop: hart 1\n") and board.said == LATE
+        told("a fence that does not come in time is an error of the call, and a board does not end before its harts stop", right, "" if right else board.said)
     with Wired(image, folder / "reset-1.elf", 1, kind=5) as board:
         board.until("it waits\n")
         board.written(symbol(image, "stack_guard"), bytes(8))
@@ -431,6 +490,33 @@ def ends(folder, told):
     said = subprocess.run(["riscv64-unknown-elf-readelf", "-lW", image], capture_output=True, text=True).stdout
     flags = re.findall(r"  LOAD .*0x[0-9a-f]+ ([RWE ]{3}) 0x", said)
     told("no segment of the image is both written and executed", flags == ["R E", "R  ", "RW "], str(flags))
+
+
+# What four harts find of fences, of the table of pages at a start, and of interrupts: 4 is one that came after the start.
+QUARTET = "to harts that are not started 0\n" + 2 * "".join(f"hart {it}: its table, and what waited 4\n" for it in (1, 2, 3)) + "fences that did not come 0\n"
+# Why enclaves stop, and the address that their host learns: a closed counter, a store to its code, a jump to its data, and so on (causes_enclave.S).
+CAUSES = "".join(f"{cause} {value:#018x}\n" for cause, value in ((2, 0), (7, 0), (1, 0), (5, 0x85002008), (1, 0x10000000), (3, 0)))
+VECTORS = "run 1\nwhat it exits with 0\nthe cause 2\nthe host's 6210279\nVS 3\n"
+
+
+def quartet(folder, told):
+    """What four harts ask of one another, harts that are late, and what a host learns of an enclave."""
+    image, four = folder / "with/pmpmon-virt.elf", folder / "four/pmpmon-virt.elf"
+    payload = host(folder / "quartet.elf", "harts.S", "two_hosts.S", "quartet.c")
+    said = booted(four, payload, 4, seconds=120)
+    told("each of four harts gets its fences and interrupts, and starts without a table of pages", said == QUARTET, said)
+    said = booted(image, host(folder / "zeros.elf", "harts.S", "two_hosts.S", "zeros.c"), 2, seconds=120)
+    told("what another hart reads first of a destroyed enclave is zero", said == 4 * "others than zero 0\n", said)
+    said = booted(image, host(folder / "causes.elf", "harts.S", "causes_enclave.S", "causes.c"), 1, seconds=60)
+    told("a host learns no address or instruction of an enclave's own", said == CAUSES, said)
+    said = booted(image, host(folder / "vectors.elf", "harts.S", "vectors.S", "vectors.c"), 1, "-cpu", "rv64,v=true", seconds=60)
+    told("an enclave reads no vector register, and the host keeps its own", said == VECTORS, said)
+    rows = [("a hart that does not run for eleven seconds is waited for", late_hart, image, folder / "race.elf")]
+    rows += [("a hart that stops is at no moment one that is about to start", state_of_stopping_hart, four, payload)]
+    rows += [("memory types are closed to the host", memory_types, FIRMWARE / "out/pmpmon-virt.elf", folder / "reset-1.elf")] if shutil.which("dtc") else []
+    for name, look, *words in rows:
+        right, why = look(*words)
+        told(name, right, "" if right else why)
 
 
 def kind(number):
@@ -448,7 +534,9 @@ def races(folder, told):
         told(f"a page that is read {name} while it is made an enclave's faults, and is zero after it", right, "" if right else said)
     said = booted(image, host(folder / "moments.elf", "harts.S", "moments_enclave.S", "moments.c"), 2, seconds=60)
     match = re.fullmatch(r"differ 1\nzeros (\d+)\nones (\d+)\nwrong 0\n", said)
-    told("a page that is written while it is measured: the digest is that of the enclave's bytes", match and all(int(it) for it in match.groups()) and int(match.group(1)) + int(match.group(2)) == 40, said.replace("\n", " "))
+    told("a page that is written while it is measured: the digest is that of the enclave's bytes", match and int(match.group(1)) + int(match.group(2)) == 40, said.replace("\n", " "))
+    right, why = measured_page(image, folder / "moments.elf")
+    told("while a page is measured no other hart writes it", right, "" if right else why)
     said = booted(image, host(folder / "share.elf", "harts.S", "share_enclave.S", "share.c"), 2, seconds=60)
     counts = {int(it): int(n) for it, n in re.findall(r"call (\d+): counted (\d+)\n", said)}
     right = len(counts) == 4 and "odd" not in said and min(counts.values()) > counts[255] // 4
@@ -464,7 +552,7 @@ def races(folder, told):
 
 
 # The most instructions that a trap takes with its world entered after it (firmware/README.md, "What it takes").
-MOST = {"run": 1000, "stop": 850, "resume": 900, "measure": 600, "base": 200, "set timer": 210, "timer": 750, "exit": 900}
+MOST = {"run": 1000, "stop": 850, "resume": 900, "measure": 610, "base": 200, "set timer": 210, "timer": 750, "exit": 950}
 # The calls of a host by what they are answered, of which those that are done stop another hart; and the turn of a hart in instructions,
 # 100 ms of QEMU's time, where it counts them for all harts.
 ASIDE = {"no call": 0, "create": 0, "create once more": -106, "create without text": -102, "create off a page": -103, "create of a device": -105}
@@ -487,6 +575,12 @@ def aside(folder, told):
     told("a hart in an enclave is not stopped", said.endswith("in an enclave: stopped 0\n"), "" if rows else said)
 
 
+# Builds that leave bits of three registers as the host has them, each with what a hostile host left then.
+CURES = [("UXL", "UXL 1", ("control.c", "#define UXL (3ul << 32)", "#define UXL 0ul"))]
+CURES += [("INTERRUPTS", "a guest's interrupt", ("control.c", "X(mie, mie, ALL)   ", "X(mie, mie, ~0x1444ul)"), ("control.c", "frame->mie = READ(mie);", "frame->mie = READ(mie) & ~0x1444ul;"))]
+CURES += [("TABLE_OF_PAGES", "a table of pages", ("control.c", "X(satp, satp, ALL)", "X(satp, satp, 0ul)"))]
+
+
 def hostile(folder, told):
     """A host that leaves words in the registers of supervisor mode before each entry; three builds without a cure each fail it."""
     runs = os.environ.get("HOSTILE_RUNS", "50")
@@ -502,9 +596,8 @@ def hostile(folder, told):
     lacking = [it for it in found if it not in told_of]
     told(f"each of {len(found)} registers that supervisor mode writes is in the table of control registers", found and not lacking, " ".join(lacking))
     payload = host(folder / "hostile.elf", "hostile.S", "hostile.c", flags=("-DSEED=2", "-DRUNS=10"))
-    for cure, bits, left in (("UXL", "0ul", "UXL 1"), ("INTERRUPTS", "~0x1444ul", "a guest's interrupt"), ("TABLE_OF_PAGES", "0ul", "a table of pages")):
-        built(FIRMWARE / "platform.toml", folder / cure, f"-D{cure}={bits}")
-        said = booted(folder / cure / "pmpmon-virt.elf", payload, 1)
+    for cure, left, *edits in CURES:
+        said = booted(edited(FIRMWARE / "platform.toml", folder / cure, *edits), payload, 1)
         right = said.startswith("registers ") and f"\nwith {left}: 42" not in said and "\nwrong 0\n" not in said
         told(f"without the cure for {cure} a hostile host is found", right, "" if right else said)
 

@@ -20,7 +20,8 @@ other harts and memory; each function and error of the Supervisor Binary Interfa
 point, and builds that leave out a part of it; the time in an enclave; a hostile host, one thing that is left behind, and then everything in fifty runs or HOSTILE_RUNS, and builds that
 leave out a cure; what is left of an enclave after each end of the board; devices, counters and the tree that a host gets; boards that
 do not fit; pages that other harts read or write while they become an enclave's, as a guest and through Sv39 too; what another hart notices of each call; four harts in a storm
-(STORM_SECONDS, or 2); every order of two harts at the monitor's lock; and each allocation refused in turn. Device trees get the monitor's range on Linux, under a sanitizer (trees.py;
+(STORM_SECONDS, or 2); what a debugger sees of harts that it lets go on one by one; a fault at instructions of trap.S (each with EVERY=1); the
+orders of two harts at the monitor's lock; and each allocation refused in turn. mutants.py, run by hand, makes mutants of the sources. Device trees get the monitor's range on Linux, under a sanitizer (trees.py;
 it wants dtc).
 
 It wants rt, gcc, qemu-system-riscv64, riscv64-unknown-elf-gcc and a clang of the kit that knows RISC-V; on Debian:

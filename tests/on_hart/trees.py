@@ -130,7 +130,7 @@ flash@20000000 {{ reg = <0 0x20000000 0 0x2000000>; {off} }}; poweroff {{ regmap
 
 
 # Extensions that are closed, one after another and at an end, and one whose name begins as such.
-SOME = {"closed": "_svadu_zkr_zkrx_zihpm_ssaia_ssctr", "closed_list": ', "svadu", "zkr"'}
+SOME = {"closed": "_svadu_zkr_zkrx_svpbmt_zihpm_ssaia_ssctr", "closed_list": ', "svadu", "svpbmt", "zkr"'}
 
 
 def closed(folder, told, program):

@@ -1,6 +1,7 @@
 """A board of QEMU that is looked at and reset from outside: its monitor's button, its memory, and a debugger that writes into it."""
 import json
 import os
+import re
 import select
 import socket
 import subprocess
@@ -26,10 +27,11 @@ class Wired:
 
     def __enter__(self):
         end = time.monotonic() + 30
+        self.qmp = socket.socket(socket.AF_UNIX)
+        while self.qmp.connect_ex(str(self.place / "qmp")) and time.monotonic() < end:
+            time.sleep(0.02)
         while not (self.place / "gdb").exists() and time.monotonic() < end:
             time.sleep(0.02)
-        self.qmp = socket.socket(socket.AF_UNIX)
-        self.qmp.connect(str(self.place / "qmp"))
         self.lines = self.qmp.makefile("r")
         self.lines.readline()
         self.asked("qmp_capabilities")
@@ -50,6 +52,10 @@ class Wired:
             if "event" not in answer:
                 return answer.get("return")
 
+    def memory(self):
+        """All of memory, which is there after the board's end too."""
+        return (self.place / "memory").read_bytes()
+
     def word(self, address):
         """A word of memory, which is there after the board's end too."""
         with (self.place / "memory").open("rb") as memory:
@@ -58,16 +64,8 @@ class Wired:
 
     def written(self, address, data):
         """A debugger writes bytes into memory, and the board goes on."""
-        with socket.socket(socket.AF_UNIX) as wire:
-            wire.connect(str(self.place / "gdb"))
-            wire.settimeout(10)
-            for packet in ("?", "Qqemu.PhyMemMode:1", f"M{address:x},{len(data):x}:{data.hex()}", "D"):
-                wire.sendall(b"$%s#%02x" % (packet.encode(), sum(packet.encode()) % 256))
-                answer = b""
-                while b"#" not in answer and (some := wire.recv(4096)):
-                    answer += some
-                if packet != "D":  # after it the board may have ended
-                    wire.sendall(b"+")
+        with Debugger(self.place / "gdb") as debugger:
+            debugger.write(address, data)
 
     def until(self, text, seconds=60):
         """Whether a text is said in time."""
@@ -87,3 +85,82 @@ class Wired:
             return self.process.wait(5) is not None
         except subprocess.TimeoutExpired:
             return False
+
+
+class Debugger:
+    """What gdb says to QEMU: memory is looked at and written at physical addresses, and harts go on or stand still. The board stands still
+    from the first word on, and goes on at the end."""
+
+    def __init__(self, path):
+        self.wire = socket.socket(socket.AF_UNIX)
+        self.wire.connect(str(path))
+        self.wire.settimeout(60)
+
+    def __enter__(self):
+        self.packet("?")
+        self.send("Qqemu.PhyMemMode:1")
+        while self.reply() != "OK":  # (a board that ran says that it stops, too)
+            pass
+        return self
+
+    def __exit__(self, *_):
+        self.send("D")
+        self.wire.close()
+
+    def send(self, text):
+        self.wire.sendall(b"$%s#%02x" % (text.encode(), sum(text.encode()) % 256))
+
+    def reply(self):
+        """The next packet, which is acknowledged."""
+        answer = b""
+        while not (answer[-3:-2] == b"#" and b"$" in answer):
+            some = self.wire.recv(1)
+            if not some:
+                return ""
+            answer += some
+        self.wire.sendall(b"+")
+        return answer[answer.index(b"$") + 1 : -3].decode("latin-1")
+
+    def packet(self, text):
+        self.send(text)
+        return self.reply()
+
+    def write(self, address, data):
+        self.packet(f"M{address:x},{len(data):x}:{data.hex()}")
+
+    def word(self, address):
+        return int.from_bytes(bytes.fromhex(self.packet(f"m{address:x},8")), "little")
+
+    def control_register(self, name):
+        """A control register of the first hart."""
+        self.packet("qXfer:features:read:target.xml:0,400")
+        text, part = "", "m"
+        while part.startswith("m"):
+            part = self.packet(f"qXfer:features:read:riscv-csr.xml:{len(text):x},400")
+            text += part[1:]
+        number = re.search(rf'name="{name}"[^>]*regnum="(\d+)"', text)[1]
+        return int.from_bytes(bytes.fromhex(self.packet(f"p{int(number):x}")), "little")
+
+    def comes_to(self, address, times=1):
+        """The board goes on until a hart has come to an address so often."""
+        self.packet(f"Z1,{address:x},4")
+        for left in range(times - 1, -1, -1):
+            thread = re.search("thread:([0-9a-f]+)", self.packet("vCont;c"))[1]
+            self.packet(f"z1,{address:x},4")
+            if left:
+                self.packet(f"vCont;s:{thread}")
+                self.packet(f"Z1,{address:x},4")
+
+    def is_written(self, address):
+        """The board goes on until a hart has written a word."""
+        self.packet(f"Z2,{address:x},8")
+        thread = re.search("thread:([0-9a-f]+)", self.packet("vCont;c"))[1]
+        self.packet(f"z2,{address:x},8")
+        self.packet(f"vCont;s:{thread}")
+
+    def goes_on(self, seconds, *harts):
+        """Some harts go on for a time, while the others stand still."""
+        self.send("vCont;" + ";".join(f"c:{hart + 1:x}" for hart in harts))
+        time.sleep(seconds)
+        self.wire.sendall(b"\x03")
+        return self.reply()

@@ -6,7 +6,8 @@ use Rattle.std.specs.Prelude.{List, [], ◌∷◌, ◌++◌, codes, drop}
 -- the monitor closes the extension: what `menvcfg`, `mseccfg` or `mstateen0` would open, counters
 -- beyond the time, and those that want calls which are not there
 abbrev pub is_closed_name : List ℕ → Bool
-is_closed_name name = bytes_eq name (codes "svadu") || (bytes_eq name (codes "zkr")
+is_closed_name name = bytes_eq name (codes "svadu") || (bytes_eq name (codes "svpbmt")
+    || (bytes_eq name (codes "zkr")
     || (bytes_eq name (codes "zicfilp") || (bytes_eq name (codes "zicfiss")
     || (bytes_eq name (codes "ssnpm") || (bytes_eq name (codes "sscofpmf")
     || (bytes_eq name (codes "smcdeleg") || (bytes_eq name (codes "ssccfg")
@@ -15,7 +16,7 @@ is_closed_name name = bytes_eq name (codes "svadu") || (bytes_eq name (codes "zk
     || (bytes_eq name (codes "smaia") || (bytes_eq name (codes "ssaia")
     || (bytes_eq name (codes "smcsrind") || (bytes_eq name (codes "sscsrind")
     || (bytes_eq name (codes "zcmt") || (bytes_eq name (codes "zicntr")
-    || bytes_eq name (codes "zihpm"))))))))))))))))))
+    || bytes_eq name (codes "zihpm")))))))))))))))))))
 
 -- what is left of a separator and the name after it
 abbrev pub kept_unit : List ℕ → List ℕ

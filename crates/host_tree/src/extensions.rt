@@ -13,6 +13,7 @@ fn is_closed_name(name: &[u8]) -> bool
     ensures { result ≡ is_closed_name name.now }
 {
     name == b"svadu".as_slice()
+        || name == b"svpbmt".as_slice()
         || name == b"zkr".as_slice()
         || name == b"zicfilp".as_slice()
         || name == b"zicfiss".as_slice()
