@@ -1,5 +1,5 @@
 #!/usr/bin/env python3
-"""Counts the lines of C, assembly and the linker script in firmware/, without blanks and comments: what no proof is of.
+"""Counts the lines of C, assembly and the linker script in firmware/, without blanks and comments: what no crate proves.
 
   tests/documents/firmware_lines.py      a row for each file, and the sum
 

@@ -114,7 +114,9 @@ to the loop and receives from it are such a list of traps.
 The theorems do not cover:
 
 - the C and assembly around the loop (`firmware/`), which save and restore registers, load entries and zero pages as the answers say. The
-  board theorem takes this as its premise; `firmware/README.md` states the rules, which are tested on QEMU;
+  board theorem takes this as its premise. `tests/machine_code` proves most of it on the machine code that boots, and its table says
+  which part by which fact; the rest is tested on QEMU. For these facts a reader trusts z3, the executor (compared with QEMU) and
+  the loader of the ELF, and no compiler;
 - the build for RV64, a retargeted build of a proved module, which is tested on QEMU;
 - devices whose bytes are unknown, as explained above;
 - anything else that a real hart does: caches, side channels, devices that access memory by themselves, time. `SECURITY.md` lists what

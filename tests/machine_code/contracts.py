@@ -1,0 +1,82 @@
+"""What a fact may assume of a callee instead of running it. The callee's own fact proves the same contract (`Proof.keeps_contract`), and
+run.py fails if a fact assumes a contract that no fact of this run has proved and that has no stated reason."""
+from rv64 import MSTATUS
+
+PMP = (0x3a0, 0x3a2, *range(0x3b0, 0x3c0))
+MIP, FCSR, STIMECMP = 0x344, 3, 0x14d
+# satp, mie, scounteren, senvcfg, hstatus, medeleg, mideleg: words 1 to 7 of control words.
+CONTROL = {"satp": 0x180, "mie": 0x304, "scounteren": 0x106, "senvcfg": 0x10a, "hstatus": 0x600, "medeleg": 0x302, "mideleg": 0x303}
+WAITS = "it waits for other harts, which tests/on_hart/interleavings.py models"
+TO_HANDLER = (0x141, 0x142, 0x143, 0x600)
+
+
+class Contract:
+    """What a function may change: `writes` has (space, first byte, size) of every object of a space, `csrs` the control registers. `returns`
+    is its result as a term of its arguments. `reason` says why no fact proves the contract."""
+
+    def __init__(self, arguments, writes=(), csrs=(), returns=None, reason=None):
+        self.arguments, self.writes, self.csrs, self.returns, self.reason = arguments, list(writes), tuple(csrs), returns, reason
+
+    def may_write(self, space, byte):
+        return any(name == space.name and first <= byte < first + (space.size if size is None else size) for name, first, size in self.writes)
+
+    def with_block(self, space):
+        """The contract with the space in which the block lies that an argument names."""
+        writes = [(space if name == "block" else name, first, size) for name, first, size in self.writes]
+        return Contract(self.arguments, writes, self.csrs, self.returns, self.reason)
+
+    def is_within(self, other):
+        """Whether another contract allows all that this one does."""
+        end = lambda size: 1 << 64 if size is None else size
+        covered = all(any(name == it[0] and it[1] <= first and first + end(size) <= it[1] + end(it[2]) for it in other.writes)
+                      for name, first, size in self.writes)
+        return covered and set(self.csrs) <= set(other.csrs)
+
+
+def contracts_of(layout):
+    """The contracts, with the offsets of a layout. The space `pages` stands for memory outside the monitor, and `block` for the bytes that
+    the first argument names."""
+    world, registers = layout.world, layout.registers
+    floats = ("register_sets", registers.f, registers.size_of - registers.f)
+    hosts = ("worlds", world.host, layout.control_words.size_of)
+    stale, out = ("worlds", world.is_stale, 2), ("worlds", world.is_out, 4)
+    asked = [("worlds", world.requests, 4), ("worlds", world.fences_made, 4)]
+    ranges, pages, block = ("private_ranges", 0, None), ("pages", 0, None), ("block", 0, None)
+    control = (MSTATUS, *CONTROL.values())
+    changes = [out, stale, *asked, ("host_bank", 0, None)]  # the last where the hart stands still: by the hart that stopped it
+    served = [("worlds", world.action, layout.action.size_of), *changes, ("worlds", world.fences_asked, 4),
+              ("register_sets", registers.x + 80, 16), ("register_sets", registers.pc, 8)]
+    return {
+        "memset": Contract(3, [block], returns=lambda to, value, n: to),
+        "memcpy": Contract(3, [block], returns=lambda to, source, n: to),
+        "is_worlds": Contract(1),
+        "make_zero": Contract(2, [pages]),
+        "private_begin": Contract(3, [ranges]),
+        "private_end": Contract(2, [ranges, pages]),
+        "is_private_page": Contract(2),
+        "forget_private": Contract(0, [ranges, pages, ("tried", 0, 8)]),
+        "forget": Contract(0, [ranges, pages, ("tried", 0, 8), ("register_sets", 0, None), out, ("worlds", world.ticket, 8),
+                                ("stopping", 0, 8), ("around is_ending", 0, 8), ("around has_no_registers", 0, 8)]),
+        "floats_change": Contract(3, [floats], (MSTATUS, FCSR)),
+        "control_enter": Contract(3, [hosts], control),
+        "control_leave": Contract(1, [], control),
+        "control_to_handler": Contract(1, [("register_sets", registers.pc, 8)], (MSTATUS, *TO_HANDLER)),
+        "registers_change": Contract(2, [("register_sets", 0, None)], returns=lambda written, answer: written),
+        "change_lists": Contract(1, [("host_bank", 0, None), ("enclave_banks", 0, None), stale, ("stopping", 0, 8)], (MIP,)),
+        "stop_harts": Contract(1, [("stopping", 0, 8)], reason=WAITS),
+        "load_bank": Contract(1, [], PMP),
+        "take_requests": Contract(1, asked, (MIP,)),
+        "stand_still": Contract(1, changes, (MIP,), reason=WAITS),
+        "load_changes": Contract(1, changes, (*PMP, MIP)),
+        "host_timer_at": Contract(1, [], (MIP, STIMECMP)),
+        "host_timer_came": Contract(0, [], (MIP,)),
+        "fence_harts": Contract(2, [("worlds", world.requests, 4), ("worlds", world.fences_asked, 4), ("worlds", world.fences_made, 4)],
+                                reason=WAITS),
+        "interrupt_harts": Contract(1, [("worlds", world.requests, 4)], (MIP,)),
+        "put_char": Contract(1, reason="it waits for the serial port, and writes to it alone"),
+        "serve_alone": Contract(1, served, (MSTATUS, *TO_HANDLER, MIP, STIMECMP, *PMP)),
+        "next_trap": Contract(1, reason="the hart runs a world here: any trap may come"),
+        "read_page": Contract(1, [("next_page", 0, 8), block]),
+        "pmpmon_decide": Contract(7, [("worlds", world.action, layout.action.size_of)],
+                                  reason="it belongs to the proved core, which writes the action and the copy of the states alone"),
+    }

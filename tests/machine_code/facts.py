@@ -1,0 +1,16 @@
+"""All facts, in the order in which they run."""
+import facts_alone
+import facts_entries
+import facts_frames
+import facts_harts
+import facts_heap
+import facts_memory
+import facts_reset
+import facts_stack
+import facts_traps
+import facts_worlds
+
+SUBJECTS = (facts_traps, facts_entries, facts_worlds, facts_frames, facts_alone, facts_memory, facts_reset, facts_harts, facts_heap,
+            facts_stack)
+PROOFS = [proof for subject in SUBJECTS for proof in subject.PROOFS]
+SLOW = facts_memory.SLOW  # with --exhaustive alone
