@@ -1,5 +1,5 @@
 mod FirstZero
-mod Parts
+mod TreeParts
 pub mod OneTree
 mod Reserved
 pub mod Placed
@@ -13,4 +13,4 @@ mod Uneven
 mod NoRanges
 mod Places
 mod OneList
-mod Pieces
+mod ExtentParts

@@ -13,7 +13,7 @@ use Rattle.device_tree.specs.declared.kinds.Place.TheVariants.{BelowRoot}
 use Rattle.device_tree.specs.Cells.{AreRows, number_of, row_len}
 use Rattle.device_tree.specs.Windows.{AreWindows, Path, bus_size, root_address, same, window_len}
 use Rattle.device_tree.specs.Properties.{value_in}
-use Rattle.device_tree.proofs.Pieces.{same_parts}
+use Rattle.device_tree.proofs.ExtentParts.{same_parts}
 use Rattle.device_tree.specs.Meaning.{AreCells, AreOwn, AreRanges, AreRowRanges, IsInnerWay, IsPassedOn, Range, Say, TreeSays, a_node, inner_place, is_plain, live_kind, nothing, part_ranges, path_or}
 
 -- buses whose addresses and sizes have as many cells

@@ -7,7 +7,7 @@ use Rattle.device_tree.specs.Words.{BeginsWith, Leaves, padded, word_at}
 use Rattle.device_tree.specs.Pieces.{Part, SpellsPart, SpellsParts, begins, has, ends, part_of, parts_of, the_end, skipped, part}
 use Rattle.device_tree.specs.Places.{Block, BeginsAt, ArePlaced, block_at, from_offset}
 use Rattle.device_tree.specs.Refusals.{offset_of}
-use Rattle.device_tree.proofs.Parts.{two_words}
+use Rattle.device_tree.proofs.TreeParts.{two_words}
 
 -- behind these pieces come some parts, and each of the pieces begins at its offset
 abbrev pub PlacedBefore : Block → List PlacedPiece → List Part → Type 0

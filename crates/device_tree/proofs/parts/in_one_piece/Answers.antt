@@ -1,6 +1,6 @@
 use Rattle.std.proofs.Common.{◌≡◌, ◌+◌, ◌≤◌, ◌^◌, ◌∙◌, ap, sym, subst, ℕ, false, Option, arith}
 use Rattle.device_tree.specs.Windows.{IsPiece, is_same_address, moved, path_of, root_address}
-use Rattle.device_tree.proofs.Pieces.{a_piece, longer, no_piece, same_yes}
+use Rattle.device_tree.proofs.ExtentParts.{a_piece, longer, no_piece, same_yes}
 use Rattle.device_tree.proofs.parts.in_one_piece.Goals as goal
 
 pub returns-then-not-continues : goal.returns-then-not-continues

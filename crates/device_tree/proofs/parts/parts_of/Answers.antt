@@ -1,7 +1,7 @@
 use Rattle.std.proofs.Common.{◌≡◌, ◌+◌, ◌-◌, ◌∙◌, ap, sym, subst, ℕ, List, ◌++◌, arith}
 use Rattle.device_tree.specs.declared.ways.RowPart.{RowPart}
 use Rattle.device_tree.specs.Windows.{AreParts, bus_size, moved, path_of, root_address}
-use Rattle.device_tree.proofs.Pieces.{longer, same_yes}
+use Rattle.device_tree.proofs.ExtentParts.{longer, same_yes}
 use Rattle.device_tree.proofs.parts.parts_of.Goals as goal
 
 pub overflow_add-part-then-continues : goal.overflow_add-part-then-continues

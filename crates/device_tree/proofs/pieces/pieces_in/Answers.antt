@@ -4,7 +4,7 @@ use Rattle.device_tree.specs.declared.pieces.PlacedPiece.{PlacedPiece}
 use Rattle.device_tree.specs.Pieces.{Part, SpellsParts, parts_of, part_of, part, the_end, skipped}
 use Rattle.device_tree.specs.Places.{ComesTo, at_front, behind_skip, behind_part, block_at}
 use Rattle.device_tree.specs.Refusals.{IsTokenFault}
-use Rattle.device_tree.proofs.Parts.{behind_nop, left_behind, shorter, taken}
+use Rattle.device_tree.proofs.TreeParts.{behind_nop, left_behind, shorter, taken}
 use Rattle.device_tree.proofs.Placed.{PlacedBefore, all_placed, and_placed, begins_here, cut_behind, cut_behind_part, from_here}
 use Rattle.device_tree.proofs.pieces.pieces_in.Goals as goal
 

@@ -1,7 +1,7 @@
 use Rattle.device_tree.specs.Trees.{reservations_of, strings_of, structure_of}
 use Rattle.device_tree.specs.Nodes.{parts_of_tree}
 use Rattle.device_tree.proofs.OneTree.{same_tree}
-use Rattle.device_tree.proofs.Parts.{same_parts}
+use Rattle.device_tree.proofs.TreeParts.{same_parts}
 use Rattle.device_tree.proofs.Reserved.{same_reservations}
 use Rattle.device_tree.proofs.tree.one_tree_law.Goals as goal
 

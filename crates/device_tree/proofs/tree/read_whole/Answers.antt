@@ -6,7 +6,7 @@ use Rattle.device_tree.specs.Words.{word_at}
 use Rattle.device_tree.specs.Places.{Block, block_at}
 use Rattle.device_tree.specs.Refusals.{IsPartsFault, IsTokenFaultIn, IsUnended, of_header, of_parts, of_reservations, of_token}
 use Rattle.device_tree.proofs.InBytes.{parts_fault, same_block}
-use Rattle.device_tree.proofs.Parts.{same_parts}
+use Rattle.device_tree.proofs.TreeParts.{same_parts}
 use Rattle.device_tree.proofs.tree.read_whole.Goals as goal
 
 pub returns-clause-refused : goal.returns-clause-refused

@@ -1,5 +1,5 @@
 use Rattle.std.proofs.Common.{refl, arith}
-use Rattle.device_tree.proofs.Pieces.{here_step}
+use Rattle.device_tree.proofs.ExtentParts.{here_step}
 use Rattle.device_tree.proofs.ways.step_to_parent.Goals as goal
 
 pub returns-in-Some : goal.returns-in-Some
