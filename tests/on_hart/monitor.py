@@ -493,7 +493,7 @@ def ends(folder, told):
 
 
 # What four harts find of fences, of the table of pages at a start, and of interrupts: 4 is one that came after the start.
-QUARTET = "to harts that are not started 0\n" + 2 * "".join(f"hart {it}: its table, and what waited 4\n" for it in (1, 2, 3)) + "fences that did not come 0\n"
+QUARTET = "to harts that are not started 0\n" + 2 * "".join(f"hart {it}: its table, and what waited 4\n" for it in (1, 2, 3)) + "a page that was closed meanwhile: fault 5\nfences that did not come 0\n"
 # Why enclaves stop, and the address that their host learns: a closed counter, a store to its code, a jump to its data, and so on (causes_enclave.S).
 CAUSES = "".join(f"{cause} {value:#018x}\n" for cause, value in ((2, 0), (7, 0), (1, 0), (5, 0x85002008), (1, 0x10000000), (3, 0)))
 VECTORS = "run 1\nwhat it exits with 0\nthe cause 2\nthe host's 6210279\nVS 3\n"

@@ -99,6 +99,29 @@ static void interrupts(void)
         }
 }
 
+/* A page that became an enclave's while a hart was stopped. */
+#define CLOSED (BASE + 0x400000)
+static volatile uint64_t closed_cause;
+
+static void look(uint64_t hart)
+{
+    uint64_t value;
+    (void)hart;
+    closed_cause = 100 + (uint64_t)load_at((uint64_t *)CLOSED, &value);
+    pmpmon_call(HSM, 1, 0, 0, 0, 0, 0, 0);
+}
+
+static void closed(void)
+{
+    make(CLOSED);
+    start(1, look);
+    while (!closed_cause)
+        ;
+    say("a page that was closed meanwhile: fault", closed_cause - 100);
+    while (pmpmon_call(HSM, 2, 1, 0, 0, 0, 0, 0).value != 1)
+        ;
+}
+
 void host_main(void)
 {
     table[0] = LEAF;
@@ -108,6 +131,7 @@ void host_main(void)
     *(volatile uint64_t *)OTHER = 2;
     show(BASE);
     interrupts();
+    closed();
     fences();
     off();
 }
