@@ -4,7 +4,7 @@ use Rattle.std.proofs.lemmas.Grind.{common_steps}
 use Rattle.std.proofs.Common.{arith}
 use Rattle.clap.specs.Words.{App, Rule, with_rule, with_subcommand}
 use Rattle.command_line.specs.CommandLine.{app_by, rule_by, with_arguments, with_subcommands}
-use Rattle.command_line.specs.declared.arguments.Argument.{Argument}
+use Rattle.command_line.specs.declared.table.Argument.{Argument}
 use Rattle.command_line.specs.declared.task.Subcommand.{Subcommand}
 
 next_one : {A : Type 0} (all : List A) (i : ℕ) (d : A) → i < length all → drop i all ≡ slice_index_or all i d ∷ drop (i + 1) all

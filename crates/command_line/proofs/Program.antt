@@ -5,15 +5,17 @@ use Rattle.clap.specs.Words.{App, HasMatchesOf, Text, fault_of, is_simple, is_si
 use Rattle.clap.specs.declared.error.kind.ErrorKind.{ErrorKind}
 use Rattle.clap.specs.declared.error.kind.ErrorKind.TheVariants.{OutOfMemory}
 use Rattle.clap.specs.declared.parser.matches.ArgMatches.{ArgMatches}
-use Rattle.command_line.specs.CommandLine.{program_app, AreNone, IsFaultIn, IsRequest, Refuses}
+use Rattle.command_line.specs.CommandLine.{program_app, with_subcommands, AreNone, IsFaultIn, IsRequest, Refuses}
 use Rattle.command_line.specs.Kinds.{IsMistake}
 use Rattle.command_line.specs.declared.fault.Fault.{Fault}
 use Rattle.command_line.specs.declared.request.Request.{Request}
 
 program_told : is_simple_and_free program_app ≡ true
+unfolding with_subcommands
 program_told = refl
 
 program_simple : is_simple program_app ≡ true
+unfolding with_subcommands
 program_simple = refl
 
 pub no_kind : (app : App) (words : List Text) → app ≡ program_app → (is_simple_and_free app ≡ true → fault_of app words ≡ []) → fault_of program_app words ≡ []

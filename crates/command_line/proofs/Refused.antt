@@ -124,158 +124,49 @@ in_pages (Some base) (Some size) monitor is sound lacks =
     let there = subst IsOfPages is.4 sound in
     lacks.4 (rw (one_number _ _ (sym is.2 ∙ lacks.2), one_number _ _ (sym is.3 ∙ lacks.3)) at there)
 
+also : {A B : Type 0} → A → B → A × B
+also a b = (a, b)
+
 -- a sound task's values meet what its subcommand asks
 met : (value flag : Text → Option Text) (task : Task) (options : Options) → HasValues value flag task options → IsSound task options
     → AreMet value flag (demands_of (subcommand_of task))
-met value flag (Run platform trace measure) options v sound = (given value _ _ v.0, (given value _ _ v.1, (one_answer_met flag options.answers v.3, tt)))
-met value flag (Plan map cert limit) options v sound = (
-  given value _ _ v.0,
-  (
-    λ taken. sound.0 (sym v.1 ∙ taken ∙ v.0),
-    (
-      given value _ _ v.2,
-      (
-        λ lacks. lacks limit v.2,
-        (
-          λ lacks. lacks options.at_most v.3,
-          (
-            given value _ _ v.4,
-            (
-              λ lacks. lacks options.format v.4,
-              (
-                given value _ _ v.7,
-                (
-                  λ lacks. lacks options.xlen v.7,
-                  (λ lacks. named_well _ options.name lacks.0 v.5 sound.1 lacks.1 lacks.2, (λ lacks. lacks options.first limit v.6 v.2 sound.2, tt)),
-                ),
-              ),
-            ),
-          ),
-        ),
-      ),
-    ),
-  ),
-)
-met value flag (Judge map trace limit) options v sound = (
-  given value _ _ v.0,
-  (
-    given value _ _ v.1,
-    (
-      given value _ _ v.2,
-      (
-        λ lacks. lacks limit v.2,
-        (
-          λ twice. sound (same _ _ (sym v.0 ∙ twice.0), same _ _ (sym v.1 ∙ twice.1)),
-          (given value _ _ v.5, (λ lacks. lacks options.xlen v.5, (one_answer_met flag options.answers v.4, tt))),
-        ),
-      ),
-    ),
-  ),
-)
-met value flag (Check map cert) options v sound = (given value _ _ v.0, (given value _ _ v.1, tt))
-met value flag (Show map limit) options v sound = (
-  given value _ _ v.0,
-  (
-    given value _ _ v.1,
-    (
-      λ lacks. lacks limit v.1,
-      (
-        λ lacks. lacks options.at_most v.2,
-        (
-          given value _ _ v.4,
-          (
-            λ lacks. lacks options.xlen v.4,
-            (
-              given value _ _ v.7,
-              (
-                λ lacks. lacks options.mode v.7,
-                (
-                  given value _ _ v.5,
-                  (
-                    λ lacks. lacks options.table v.5,
-                    (
-                      λ lacks. lacks.1 (v.5 ∙ ap (λ f. Some (table_format_word f)) (sound.0 (v.3.1 lacks.0))),
-                      (
-                        λ lacks.
-                            let plain = sound.1 (v.6.1 lacks.0) in
-                            elim lacks.1 [
-                              | inl listed ↦ not_both options.registers (v.3.1 listed) plain.0
-                              | inr other ↦ other (v.5 ∙ ap (λ f. Some (table_format_word f)) plain.1)
-                            ],
-                        (λ lacks. lacks.1 (v.3.0 (sound.2 (machine_named options.mode (same _ _ (sym v.7 ∙ lacks.0))))), tt),
-                      ),
-                    ),
-                  ),
-                ),
-              ),
-            ),
-          ),
-        ),
-      ),
-    ),
-  ),
-)
-met value flag (Audit map registers) options v sound = (
-  given value _ _ v.0,
-  (
-    given value _ _ v.1,
-    (
-      λ twice. sound (same _ _ (sym v.0 ∙ twice.0), same _ _ (sym v.1 ∙ twice.1)),
-      (
-        given value _ _ v.3,
-        (
-          λ lacks. lacks options.xlen v.3,
-          (given value _ _ v.4, (λ lacks. lacks options.mode v.4, tt)),
-        ),
-      ),
-    ),
-  ),
-)
-met value flag (Map file) options v sound =
-    (given value _ _ v.0, (given value _ _ v.1, (λ lacks. lacks options.xlen v.1, (given value _ _ v.2, (λ lacks. lacks options.mode v.2, tt)))))
-met value flag (Lint file platform) options v sound = (
-  given value _ _ v.0,
-  (one_kind_met value flag options.kind v.1, (of_trace_met value flag options.kind v.1, (given value _ _ v.2, (λ lacks. lacks options.xlen v.2, tt)))),
-)
+met value flag (Run platform trace measure) options v sound = also (given value _ _ v.0) (also (given value _ _ v.1)
+    (also (one_answer_met flag options.answers v.3) tt))
+met value flag (Plan map cert limit) options v sound = also (given value _ _ v.0) (also (λ taken. sound.0 (sym v.1 ∙ taken ∙ v.0))
+    (also (given value _ _ v.2) (also (λ lacks. lacks limit v.2) (also (λ lacks. lacks options.at_most v.3)
+    (also (given value _ _ v.4) (also (λ lacks. lacks options.format v.4) (also (given value _ _ v.7) (also (λ lacks. lacks options.xlen v.7)
+    (also (λ lacks. named_well _ options.name lacks.0 v.5 sound.1 lacks.1 lacks.2) (also (λ lacks. lacks options.first limit v.6 v.2 sound.2) tt))))))))))
+met value flag (Judge map trace limit) options v sound = also (given value _ _ v.0) (also (given value _ _ v.1) (also (given value _ _ v.2)
+    (also (λ lacks. lacks limit v.2) (also (λ twice. sound (same _ _ (sym v.0 ∙ twice.0), same _ _ (sym v.1 ∙ twice.1))) (also (given value _ _ v.5)
+    (also (λ lacks. lacks options.xlen v.5) (also (one_answer_met flag options.answers v.4) tt)))))))
+met value flag (Check map cert) options v sound = also (given value _ _ v.0) (also (given value _ _ v.1) tt)
+met value flag (Show map limit) options v sound = also (given value _ _ v.0) (also (given value _ _ v.1) (also (λ lacks. lacks limit v.1)
+    (also (λ lacks. lacks options.at_most v.2) (also (given value _ _ v.4) (also (λ lacks. lacks options.xlen v.4) (also (given value _ _ v.7)
+    (also (λ lacks. lacks options.mode v.7) (also (given value _ _ v.5) (also (λ lacks. lacks options.table v.5)
+    (also (λ lacks. lacks.1 (v.5 ∙ ap (λ f. Some (table_format_word f)) (sound.0 (v.3.1 lacks.0))))
+    (also (λ lacks.
+    let plain = sound.1 (v.6.1 lacks.0) in
+    elim lacks.1 [
+      | inl listed ↦ not_both options.registers (v.3.1 listed) plain.0
+      | inr other ↦ other (v.5 ∙ ap (λ f. Some (table_format_word f)) plain.1)
+    ])
+    (also (λ lacks. lacks.1 (v.3.0 (sound.2 (machine_named options.mode (same _ _ (sym v.7 ∙ lacks.0)))))) tt))))))))))))
+met value flag (Audit map registers) options v sound = also (given value _ _ v.0) (also (given value _ _ v.1)
+    (also (λ twice. sound (same _ _ (sym v.0 ∙ twice.0), same _ _ (sym v.1 ∙ twice.1))) (also (given value _ _ v.3) (also (λ lacks. lacks options.xlen v.3)
+    (also (given value _ _ v.4) (also (λ lacks. lacks options.mode v.4) tt))))))
+met value flag (Map file) options v sound = also (given value _ _ v.0) (also (given value _ _ v.1) (also (λ lacks. lacks options.xlen v.1)
+    (also (given value _ _ v.2) (also (λ lacks. lacks options.mode v.2) tt))))
+met value flag (Lint file platform) options v sound = also (given value _ _ v.0) (also (one_kind_met value flag options.kind v.1)
+    (also (of_trace_met value flag options.kind v.1) (also (given value _ _ v.2) (also (λ lacks. lacks options.xlen v.2) tt))))
 met value flag (Measure file layout) options v sound =
-    let is = v.1 in (
-      given value _ _ v.0,
-      (
-        numbered _ _ is.text,
-        (
-          λ lacks. lacks _ is.text,
-          (
-            numbered _ _ is.data_is,
-            (
-              λ lacks. lacks _ is.data_is,
-              (
-                numbered _ _ is.shared,
-                (
-                  λ lacks. lacks _ is.shared,
-                  (
-                    numbered _ _ is.entry,
-                    (
-                      λ lacks. lacks _ is.entry,
-                      (λ lacks. lacks layout is sound.counts, (λ lacks. lacks layout is sound.entry, tt)),
-                    ),
-                  ),
-                ),
-              ),
-            ),
-          ),
-        ),
-      ),
-    )
-met value flag (Platform board monitor) options v sound = (
-  given value _ _ v.0,
-  (
-    λ lacks. both_spelled (value base_name) (value size_name) (value base_name) monitor v.1 lacks (inl refl),
-    (
-      λ lacks. both_spelled (value base_name) (value size_name) (value size_name) monitor v.1 lacks (inr refl),
-      (λ lacks. in_pages (value base_name) (value size_name) monitor v.1 sound lacks, tt),
-    ),
-  ),
-)
+    let is = v.1 in
+    also (given value _ _ v.0) (also (numbered _ _ is.text) (also (λ lacks. lacks _ is.text) (also (numbered _ _ is.data_is)
+    (also (λ lacks. lacks _ is.data_is) (also (numbered _ _ is.shared) (also (λ lacks. lacks _ is.shared) (also (numbered _ _ is.entry)
+    (also (λ lacks. lacks _ is.entry) (also (λ lacks. lacks layout is sound.counts) (also (λ lacks. lacks layout is sound.entry) tt))))))))))
+met value flag (Platform board monitor) options v sound = also (given value _ _ v.0)
+    (also (λ lacks. both_spelled (value base_name) (value size_name) (value base_name) monitor v.1 lacks (inl refl))
+    (also (λ lacks. both_spelled (value base_name) (value size_name) (value size_name) monitor v.1 lacks (inr refl))
+    (also (λ lacks. in_pages (value base_name) (value size_name) monitor v.1 sound lacks) tt)))
 
 -- no sound task is a subcommand with values that lack one of its demands
 pub none_of : (subcommand : Subcommand) (value flag : Text → Option Text) (fault : Fault) → IsFirst value flag (demands_of subcommand) fault

@@ -10,9 +10,9 @@ use Rattle.clap.specs.declared.builder.command.Command.{Command}
 use Rattle.clap.specs.declared.builder.command.Command.TheViews.{out-Command}
 use Rattle.clap.specs.declared.error.kind.ErrorKind.{ErrorKind}
 use Rattle.clap.specs.declared.error.kind.ErrorKind.TheVariants.{OutOfMemory}
-use Rattle.command_line.specs.declared.arguments.Argument.{Argument}
-use Rattle.command_line.specs.declared.arguments.Argument.TheVariants.{File, Flag, MaybeFile}
-use Rattle.command_line.specs.declared.arguments.Argument.TheVariants.{Needed, Value, Values}
+use Rattle.command_line.specs.declared.table.Argument.{Argument}
+use Rattle.command_line.specs.declared.table.Argument.TheVariants.{File, Flag, MaybeFile}
+use Rattle.command_line.specs.declared.table.Argument.TheVariants.{Needed, Value, Values}
 use Rattle.command_line.specs.declared.fault.Fault.{Fault}
 use Rattle.command_line.specs.declared.fault.Fault.TheVariants.{Missing}
 use Rattle.command_line.specs.declared.request.Request.{Request}
@@ -22,7 +22,7 @@ use Rattle.command_line.specs.Given.{value_of}
 use Rattle.command_line.specs.Monitors.{base_name}
 use Rattle.command_line.specs.Kinds.{IsMistake}
 use Rattle.command_line.specs.Requests.{HasRequest, IsFaultOfRequest}
-use Rattle.command_line.specs.Subcommands.{word_of}
+use Rattle.command_line.specs.Subcommands.{subcommand_word, word_of}
 use Rattle.command_line.specs.Tasks.{IsSound}
 
 -- a file that is named by its place among the words
@@ -69,6 +69,11 @@ unfoldable pub with_arguments : App → List Argument → App
 with_arguments app [] = app
 with_arguments app (argument ∷ rest) = with_arguments (with_rule app (rule_by argument)) rest
 
+-- with these rules, in turn
+abbrev pub with_rules : App → List Rule → App
+with_rules app [] = app
+with_rules app (rule ∷ rules) = with_rules (with_rule app rule) rules
+
 -- `--entries`, which is 16 where it is not given
 abbrev pub entries_rule : Rule
 entries_rule = option_rule (codes "entries") (codes "16" ∷ [])
@@ -80,18 +85,6 @@ at_most_rule = option_rule (codes "at-most") []
 -- `--format`, which is text where it is not given
 abbrev pub format_rule : Rule
 format_rule = option_rule (codes "format") (codes "text" ∷ [])
-
--- `--measure`, which takes no value
-abbrev pub measure_rule : Rule
-measure_rule = flag_rule (codes "measure")
-
--- `--name`, which has no value where it is not given
-abbrev pub name_rule : Rule
-name_rule = option_rule (codes "name") []
-
--- `--first`, which has no value where it is not given
-abbrev pub first_rule : Rule
-first_rule = option_rule (codes "first") []
 
 -- `--xlen`, which is 64 where it is not given
 abbrev pub xlen_rule : Rule
@@ -105,184 +98,40 @@ mode_rule = option_rule (codes "mode") (codes "u" ∷ [])
 abbrev pub registers_rule : Rule
 registers_rule = flag_rule (codes "registers")
 
--- `--trace`, which takes no value
-abbrev pub trace_rule : Rule
-trace_rule = flag_rule (codes "trace")
-
--- `--platform`, which has no value where it is not given
-abbrev pub platform_rule : Rule
-platform_rule = option_rule (codes "platform") []
-
--- `--all`, which takes no value
-abbrev pub all_rule : Rule
-all_rule = flag_rule (codes "all")
-
--- `--expect`, which takes no value
-abbrev pub expect_rule : Rule
-expect_rule = flag_rule (codes "expect")
-
--- `--explain`, which takes no value
-abbrev pub explain_rule : Rule
-explain_rule = flag_rule (codes "explain")
-
--- `--costs`, which takes no value
-abbrev pub costs_rule : Rule
-costs_rule = flag_rule (codes "costs")
-
 -- `--hints`, which is auto where it is not given
 abbrev pub hints_rule : Rule
 hints_rule = option_rule (codes "hints") (codes "auto" ∷ [])
 
--- `--text`, which has to be given
-abbrev pub text_rule : Rule
-text_rule = needed_rule (codes "text")
-
--- `--data`, which is 0 where it is not given
-abbrev pub data_rule : Rule
-data_rule = option_rule (codes "data") (codes "0" ∷ [])
-
--- `--shared`, which is 0 where it is not given
-abbrev pub shared_rule : Rule
-shared_rule = option_rule (codes "shared") (codes "0" ∷ [])
-
--- `--entry`, which is 0 where it is not given
-abbrev pub entry_rule : Rule
-entry_rule = option_rule (codes "entry") (codes "0" ∷ [])
-
--- `--monitor`, which has a base and a size
-abbrev pub monitor_rule : Rule
-monitor_rule = values_rule base_name 2
-
--- each subcommand as `clap` sees it: its files, its options, and the values that they have
--- otherwise
-abbrev pub run_app : App
-run_app = with_rule
-    (with_rule
-    (with_rule
-    (with_rule
-    (with_rule (with_rule (new_app (codes "run")) (file_rule (codes "PLATFORM") true))
-    (file_rule (codes "TRACE") true))
-    measure_rule)
-    expect_rule)
-    explain_rule)
-    hints_rule
-
--- the arguments of `plan`, and below of each other subcommand
-abbrev pub plan_app : App
-plan_app = with_rule
-    (with_rule
-    (with_rule
-    (with_rule
-    (with_rule
-    (with_rule
-    (with_rule
-    (with_rule (with_rule (new_app (codes "plan")) (file_rule (codes "MAP") true))
-    (file_rule (codes "CERT") false))
-    entries_rule)
-    at_most_rule)
-    format_rule)
-    name_rule)
-    first_rule)
-    xlen_rule)
-    hints_rule
-
--- those of `judge`
-abbrev pub judge_app : App
-judge_app = with_rule
-    (with_rule
-    (with_rule
-    (with_rule
-    (with_rule
-    (with_rule (with_rule (with_rule (new_app (codes "judge")) (file_rule (codes "MAP") true))
-    (file_rule (codes "TRACE") true)) entries_rule)
-    registers_rule)
-    expect_rule)
-    explain_rule)
-    xlen_rule)
-    hints_rule
-
--- those of `check`
-abbrev pub check_app : App
-check_app = with_rule
-    (with_rule (with_rule (new_app (codes "check")) (file_rule (codes "MAP") true))
-    (file_rule (codes "CERT") true))
-    hints_rule
-
--- those of `show`
-abbrev pub show_app : App
-show_app = with_rule
-    (with_rule
-    (with_rule
-    (with_rule
-    (with_rule
-    (with_rule
-    (with_rule (with_rule (with_rule (new_app (codes "show")) (file_rule (codes "MAP") true))
-    entries_rule) at_most_rule)
-    registers_rule)
-    xlen_rule)
-    mode_rule)
-    format_rule)
-    costs_rule)
-    hints_rule
-
--- those of `audit`
-abbrev pub audit_app : App
-audit_app = with_rule
-    (with_rule
-    (with_rule
-    (with_rule
-    (with_rule (with_rule (new_app (codes "audit")) (file_rule (codes "MAP") true))
-    (file_rule (codes "REGISTERS") true))
-    all_rule)
-    xlen_rule)
-    mode_rule)
-    hints_rule
-
--- those of `map`
-abbrev pub map_app : App
-map_app = with_rule (with_rule (with_rule (with_rule (new_app (codes "map"))
-    (file_rule (codes "FILE") true)) xlen_rule) mode_rule) hints_rule
-
--- those of `lint`
-abbrev pub lint_app : App
-lint_app = with_rule
-    (with_rule
-    (with_rule
-    (with_rule (with_rule (with_rule (new_app (codes "lint")) (file_rule (codes "FILE") true))
-    registers_rule) trace_rule)
-    platform_rule)
-    xlen_rule)
-    hints_rule
-
--- `measure` as `clap` sees it: its file, its options, and the values that they have otherwise
-abbrev pub measure_app : App
-measure_app = with_rule
-    (with_rule
-    (with_rule
-    (with_rule
-    (with_rule (with_rule (new_app (codes "measure")) (file_rule (codes "FILE") true)) text_rule)
-    data_rule)
-    shared_rule)
-    entry_rule)
-    hints_rule
-
--- `platform` as `clap` sees it
-abbrev pub platform_app : App
-platform_app = with_rule (with_rule (with_rule (new_app (codes "platform"))
-    (file_rule (codes "BOARD") true)) monitor_rule) hints_rule
+-- the rules of the files and the options of each subcommand
+abbrev pub rules_by : Subcommand → List Rule
+rules_by subcommands.Run = file_rule (codes "PLATFORM") true ∷ file_rule (codes "TRACE") true
+    ∷ flag_rule (codes "measure") ∷ flag_rule (codes "expect") ∷ flag_rule (codes "explain")
+    ∷ hints_rule ∷ []
+rules_by subcommands.Plan = file_rule (codes "MAP") true ∷ file_rule (codes "CERT") false
+    ∷ entries_rule ∷ at_most_rule ∷ format_rule ∷ option_rule (codes "name") []
+    ∷ option_rule (codes "first") [] ∷ xlen_rule ∷ hints_rule ∷ []
+rules_by subcommands.Judge = file_rule (codes "MAP") true ∷ file_rule (codes "TRACE") true
+    ∷ entries_rule ∷ registers_rule ∷ flag_rule (codes "expect") ∷ flag_rule (codes "explain")
+    ∷ xlen_rule ∷ hints_rule ∷ []
+rules_by subcommands.Check = file_rule (codes "MAP") true ∷ file_rule (codes "CERT") true
+    ∷ hints_rule ∷ []
+rules_by subcommands.Show = file_rule (codes "MAP") true ∷ entries_rule ∷ at_most_rule
+    ∷ registers_rule ∷ xlen_rule ∷ mode_rule ∷ format_rule ∷ flag_rule (codes "costs")
+    ∷ hints_rule ∷ []
+rules_by subcommands.Audit = file_rule (codes "MAP") true ∷ file_rule (codes "REGISTERS") true
+    ∷ flag_rule (codes "all") ∷ xlen_rule ∷ mode_rule ∷ hints_rule ∷ []
+rules_by subcommands.Map = file_rule (codes "FILE") true ∷ xlen_rule ∷ mode_rule ∷ hints_rule ∷ []
+rules_by subcommands.Lint = file_rule (codes "FILE") true ∷ registers_rule
+    ∷ flag_rule (codes "trace") ∷ option_rule (codes "platform") [] ∷ xlen_rule ∷ hints_rule ∷ []
+rules_by subcommands.Measure = file_rule (codes "FILE") true ∷ needed_rule (codes "text")
+    ∷ option_rule (codes "data") (codes "0" ∷ []) ∷ option_rule (codes "shared") (codes "0" ∷ [])
+    ∷ option_rule (codes "entry") (codes "0" ∷ []) ∷ hints_rule ∷ []
+rules_by subcommands.Platform = file_rule (codes "BOARD") true ∷ values_rule base_name 2
+    ∷ hints_rule ∷ []
 
 -- what a subcommand is described as
 abbrev pub app_by : Subcommand → App
-app_by subcommands.Run = run_app
-app_by subcommands.Plan = plan_app
-app_by subcommands.Judge = judge_app
-app_by subcommands.Check = check_app
-app_by subcommands.Show = show_app
-app_by subcommands.Audit = audit_app
-app_by subcommands.Map = map_app
-app_by subcommands.Lint = lint_app
-app_by subcommands.Measure = measure_app
-app_by subcommands.Platform = platform_app
+app_by subcommand = with_rules (new_app (subcommand_word subcommand)) (rules_by subcommand)
 
 -- with these subcommands, in turn
 unfoldable pub with_subcommands : App → List Subcommand → App
@@ -302,21 +151,9 @@ bare_app = record {
 
 -- the program with all its subcommands
 abbrev pub program_app : App
-program_app = with_subcommand
-    (with_subcommand
-    (with_subcommand
-    (with_subcommand
-    (with_subcommand
-    (with_subcommand
-    (with_subcommand (with_subcommand
-    (with_subcommand (with_subcommand bare_app run_app.top) plan_app.top) judge_app.top)
-    check_app.top)
-    show_app.top)
-    audit_app.top)
-    map_app.top)
-    lint_app.top)
-    measure_app.top)
-    platform_app.top
+program_app = with_subcommands bare_app (subcommands.Run ∷ subcommands.Plan ∷ subcommands.Judge
+    ∷ subcommands.Check ∷ subcommands.Show ∷ subcommands.Audit ∷ subcommands.Map
+    ∷ subcommands.Lint ∷ subcommands.Measure ∷ subcommands.Platform ∷ [])
 
 -- a command is described so, and none of its arguments holds in the subcommands below it too
 pub record IsCommandOf (description : App) (command : Command) : Type 0 where

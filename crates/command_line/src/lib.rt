@@ -11,7 +11,6 @@
 //! ```
 #![tactic(auto)]
 
-mod arguments;
 mod fault;
 mod found;
 mod hints;

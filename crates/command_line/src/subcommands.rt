@@ -4,8 +4,7 @@ ghost use Rattle.std.specs.Prelude.{IfOk};
 ghost use Rattle.clap.specs.Words.{new_app};
 ghost use Rattle.command_line.specs.CommandLine.{app_by, bare_app, program_app, with_arguments, IsCommandOf};
 
-use crate::arguments::Argument;
-use crate::table::{Row, row_of};
+use crate::table::{Argument, Row, row_of};
 use crate::task::{SUBCOMMANDS, Subcommand};
 use crate::texts::{ABOUT, EXAMPLE, VERSION};
 use clap::Command;
