@@ -19,6 +19,7 @@ use Rattle.register_audit.specs.Audits.{IsAudit}
 use Rattle.register_audit.specs.Maps.{AreTooFine, IsMapFile}
 use Rattle.register_audit.specs.Tables.{IsRegisterTable}
 use Rattle.register_audit.specs.declared.listing.Listing.{Listing}
+use Rattle.register_audit.specs.LogLines.{is_boot_log}
 use Rattle.register_audit.specs.RegisterListings.{IsFirstUnknown, listed}
 use Rattle.board_texts.specs.declared.fault.BoardTextFault.{BoardTextFault}
 use Rattle.board_texts.specs.Boards.{IsMapOfTree, IsNoMap, is_tree}
@@ -128,9 +129,10 @@ abbrev pub IsTreeMapped : Mode → List ℕ → List ℕ → ℕ → Type 0
 IsTreeMapped mode bytes text status = (mode ≢ Machine) × IsMapOfTree bytes text × (status ≡ 0)
 
 -- `map` of a listing of registers: the text is the map that they mean for a mode, or why there is
--- none
+-- none. A boot log does not say what machine mode may do
 abbrev pub AreRegistersMapped : Options → List ℕ → List ℕ → ℕ → Type 0
-AreRegistersMapped options bytes text status = (is_map : Bool)
+AreRegistersMapped options bytes text status =
+    (options.mode ≡ Machine → is_boot_log bytes ≡ false) × (is_map : Bool)
     × IsMapFile options.mode options.xlen bytes text is_map × (status ≡ answer_status is_map)
 
 -- `map`: a file is read, which is a device tree where its bytes begin as one does, and a listing of
@@ -150,14 +152,20 @@ abbrev pub IsTreeUnmapped : Bor (List ℕ) → Mode → List ℕ → Trouble →
 IsTreeUnmapped file mode bytes trouble = ((mode ≡ Machine) × (trouble ≡ NoRegisters file))
     ⊎ IsOfBoard file (IsNoMap bytes) trouble
 
+-- machine mode is asked of a boot log
+abbrev pub IsLogUnmapped : Bor (List ℕ) → Mode → List ℕ → Trouble → Type 0
+IsLogUnmapped file mode bytes trouble = (mode ≡ Machine) × (is_boot_log bytes ≡ true)
+    × (said : List ℕ) × (trouble ≡ NoBoardText file said)
+
 -- why there is no map of a file
 abbrev pub IsUnmapped : {R : Type 0} → Bor (List ℕ) → Options → Reading R → Trouble → Type 0
 IsUnmapped file options first trouble = HasNoListing file options.xlen first trouble
     ⊎ ((bytes : List ℕ) × HasBytes (2 ^ 20) first bytes
     × (IsTreeUnmapped file options.mode bytes trouble
+    ⊎ (IsLogUnmapped file options.mode bytes trouble
     ⊎ ((leaves : Listing) × (listed options.xlen bytes ≡ Some leaves)
     × AreTooFine options.mode leaves
-    × (trouble ≡ TooManyRanges file))))
+    × (trouble ≡ TooManyRanges file)))))
 
 -- `platform`: the device tree of a board is read, and the text is its platform, with the monitor
 -- where it is given

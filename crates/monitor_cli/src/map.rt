@@ -1,9 +1,10 @@
 //! `map`: the map that registers mean, or that of a board.
 
-ghost use Rattle.std.specs.Prelude.{◌≡◌, ◌↔◌, ◌-◌, ◌^◌, ◌<◌, length, true};
+ghost use Rattle.std.specs.Prelude.{◌≡◌, ◌↔◌, ◌-◌, ◌^◌, ◌<◌, length, true, false};
 ghost use Rattle.pmp_match.specs.declared.access.Mode as Mode;
 ghost use Rattle.text_lines.specs.Writings.{writing};
 ghost use Rattle.program_files.specs.Reading.{reading};
+ghost use Rattle.register_audit.specs.LogLines.{is_boot_log};
 ghost use Rattle.monitor_cli.specs.Answered.{status_in};
 ghost use Rattle.monitor_cli.specs.Commands.{Ends, IsMapped, IsTreeMapped, IsTreeUnmapped, IsUnmapped};
 
@@ -14,9 +15,9 @@ use board_texts::{is_tree, map_text_of};
 use command_line::Options;
 use pmp_match::Mode;
 use program_files::{REGISTER_BYTES, Trouble, bytes_in};
-use register_audit::{MapOfFault, print_map_of};
+use register_audit::{MapOfFault, is_boot_log, print_map_of};
 use std::alloc::Global;
-use text_lines::{Sink, Source, write_whole};
+use text_lines::{Line, Sink, Source, push_text, write_whole};
 use trace_answers::CommentNote;
 
 /// Whether a mode is machine mode.
@@ -24,6 +25,21 @@ fn is_machine(mode: Mode) -> bool
     ensures { (result ≡ true) ↔ (mode ≡ Mode.Machine) }
 {
     mode == Mode::Machine
+}
+
+/// Whether machine mode is asked of a boot log, which does not say which entries are locked.
+fn is_log_of_machine(mode: Mode, bytes: &[u8]) -> bool
+    ensures yes { result ≡ true → (mode ≡ Mode.Machine) × (is_boot_log bytes.now ≡ true) }
+    ensures no { result ≡ false → mode ≡ Mode.Machine → is_boot_log bytes.now ≡ false }
+{
+    is_machine(mode) && is_boot_log(bytes)
+}
+
+/// The reason why a boot log has no map for machine mode.
+fn log_line() -> Line {
+    let mut line = Line::new();
+    push_text(&mut line, b"a boot log, and '--mode m' is for registers");
+    line
 }
 
 /// Prints the map of a board's device tree, of which machine mode is not asked.
@@ -50,7 +66,7 @@ fn print_map_of_tree<'a, W: Sink>(
 
 /// Prints the map of a board's device tree, or the one that registers mean for a mode, and answers the status 0, or 1 where
 /// registers mean none; and beside it what is passed over of their listing. A file whose bytes begin as a flattened device tree
-/// does is read as one.
+/// does is read as one. Of a boot log and of a tree machine mode is not asked.
 #[inline(never)]
 pub(crate) fn do_map<'a, R: Source, W: Sink>(
     alloc: Global,
@@ -67,6 +83,10 @@ pub(crate) fn do_map<'a, R: Source, W: Sink>(
     let bytes = bytes_in(alloc, file, first, REGISTER_BYTES)?;
     if is_tree(bytes.as_slice()) {
         return quiet(print_map_of_tree(alloc, file, mode, bytes.as_slice(), out));
+    }
+    if is_log_of_machine(mode, bytes.as_slice()) {
+        let said = log_line();
+        return Err(Trouble::NoBoardText { file, said });
     }
     match print_map_of(alloc, mode, xlen, bytes.as_slice(), out) {
         Ok(answer) => Ok(noted(
