@@ -131,7 +131,7 @@ fn part_in<'a>(strings: &'a [u8], bytes: &'a [u8], token: Token) -> Result<Step<
 }
 
 /// What comes next.
-#[tactic(auto, using(crate::proofs::Parts::no_token))]
+#[tactic(auto, using(crate::proofs::TreeParts::no_token))]
 fn step_in<'a>(strings: &'a [u8], bytes: &'a [u8]) -> Result<Step<'a>, TreeReason>
     ensures step { MatchResult result (IsStep strings.now bytes.now)
         (λ _. (parts : List Part) → SpellsParts strings.now bytes.now parts → ⊥) }
