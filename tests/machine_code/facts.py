@@ -13,4 +13,3 @@ import facts_worlds
 SUBJECTS = (facts_traps, facts_entries, facts_worlds, facts_frames, facts_alone, facts_memory, facts_reset, facts_harts, facts_heap,
             facts_stack)
 PROOFS = [proof for subject in SUBJECTS for proof in subject.PROOFS]
-SLOW = facts_memory.SLOW  # with --exhaustive alone

@@ -1,4 +1,4 @@
-"""Facts of memory.c: memset, memcpy, memmove and memcmp."""
+"""Facts of memory.c: memset and memcpy."""
 import z3
 
 from proof import A0, SAVED_REGISTERS, bits_of, var
@@ -17,7 +17,7 @@ class Blocks:
 
     def __init__(self, p, name, byte=None, is_aligned=True):
         self.q, self.to, self.source, self.n = p.again(), var("to"), var("from"), var("n")
-        self.byte, self.can_go_down = byte, name == "memmove"
+        self.byte = byte
         self.state = self.q.begin(name, self.to, self.source if byte is None else byte, self.n)
         self.state.path += [z3.ULE(it, 1 << 56) for it in (self.to, self.source, self.n)]
         places = self.to if byte is not None else self.to | self.source
@@ -44,10 +44,6 @@ class Blocks:
         q = self.q
         q.paths += 1
         q.fact(end, not [it for it in end.log if it[0] == "store" and it[1] != "stack"], "it writes outside of its loops")
-        if done.eq(bv(0)) and self.can_go_down:
-            is_below = z3.Or(z3.ULE(self.to, self.source), z3.UGE(self.to, self.source + self.n))
-            is_down = not q.m.entails(end.path, is_below)
-            q.fact(end, z3.UGE(self.to, self.source) if is_down else is_below, "the direction of the copy")
         if end.end == "return":
             q.keeps_abi(end)
             q.csrs_only(end)
@@ -190,12 +186,4 @@ def bytes_copied(p):
     block_written(p, "memcpy")
 
 
-def bytes_moved(p):
-    """memmove, for every two addresses and every number of bytes, whether or not the blocks overlap: the block becomes what the source was.
-    It copies upwards only if the block does not begin within the source, and downwards only if it does not begin below it; in a round
-    it reads each word before it writes to the same place, in that direction. So no byte of the source is overwritten before it is read."""
-    block_written(p, "memmove")
-
-
 PROOFS = [bytes_set, bytes_copied]
-SLOW = [bytes_moved]

@@ -4,14 +4,14 @@ import re
 from proof import RA, SP
 from rv64 import COMPARE, MASK, Failed, signed
 
-# How often a function that calls itself can be on a stack at once, and why. A cycle of calls counts as its deepest frames, as often.
+# The most often that a recursive function can be on a stack at once, and why. A cycle of calls counts as its deepest frames, that often.
 RECURSIONS = {
     "put_digits": (20, "a number of 64 bits has at most twenty decimal digits"),
     "host_tree::reserved::put_hex": (16, "and sixteen hexadecimal ones"),
     "device_tree::nodes::note_nodes": (65, "a tree of more than 64 levels is refused"),
     "host_tree::walk::put_nodes": (65, "the same"),
 }
-# Functions that do not return: what follows a call of one is no code of the caller.
+# Functions that do not return: the bytes after a call of one do not belong to the caller.
 NEVER_RETURN = ("end_board", "end_because", "begin_anew", "power_off", "start_again", "ended", "trapped", "served")
 CALLER_SAVED = (1, 5, 6, 7, *range(10, 18), *range(28, 32))
 

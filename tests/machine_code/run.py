@@ -5,7 +5,7 @@
 
   --fact NAME       this fact alone; may be repeated
   --controls all    the negative controls of each instruction, or `none`; otherwise a fixed random sample for each fact
-  --exhaustive      also the cases that take long: all pairs of alignments, long blocks, three changes at once
+  --exhaustive      also the cases that take long: three changes of sets at once, and harts that lack any control registers
   --jobs N          processes; 2 otherwise
   --sources FOLDER  the folder from which layouts are read, otherwise firmware/
   --no-crosscheck   without the comparison of the executor with QEMU
@@ -22,6 +22,7 @@ import argparse
 import importlib.util
 import os
 import random
+import resource
 import shutil
 import subprocess
 import sys
@@ -38,6 +39,7 @@ from counting import Count  # noqa: E402
 PACKAGES = {"z3": "python3-z3", "elftools": "python3-pyelftools", "unicorn": "python3-unicorn"}
 GCC = "riscv64-unknown-elf-gcc"
 SYSTEM_PYTHON = "/usr/bin/python3"
+CONTROL_SECONDS = 10
 ROUNDS = 200  # of random states for each kind of instruction
 
 
@@ -78,7 +80,7 @@ class Work:
         from layout import Layout
         from rv64 import Image
         self.image, self.layout, self.is_exhaustive = Image(elf), Layout(sources), is_exhaustive
-        self.proofs = {proof.__name__: proof for proof in facts.PROOFS + (facts.SLOW if is_exhaustive else [])}
+        self.proofs = {proof.__name__: proof for proof in facts.PROOFS}
 
 
 WORK = None  # set before the processes are forked
@@ -117,21 +119,27 @@ def without(address):
 
 
 def survives(job):
-    """Whether a fact still holds without an instruction."""
+    """Whether a fact still holds without an instruction. A proof that is not found in CONTROL_SECONDS of processor time counts as failed."""
     from rv64 import Failed
     name, address = job
-    try:
-        prove(name, without(address))
-    except (Failed, AttributeError, KeyError, StopIteration):
-        return False
-    return True
+    child = os.fork()
+    if child == 0:
+        resource.setrlimit(resource.RLIMIT_CPU, (CONTROL_SECONDS, CONTROL_SECONDS))
+        try:
+            prove(name, without(address))
+            os._exit(0)
+        except (Failed, AttributeError, KeyError, IndexError, StopIteration):
+            os._exit(1)
+        finally:
+            os._exit(2)
+    return os.waitstatus_to_exitcode(os.waitpid(child, 0)[1]) == 0
 
 
 def sample(name, covered, seconds, which):
     """The instructions whose absence is tried: fewer for a fact that takes long."""
     if which == "none":
         return []
-    count = len(covered) if which == "all" else 12 if seconds < 1 else 6 if seconds < 3 else 2
+    count = len(covered) if which == "all" else 4 if seconds < 1 else 2 if seconds < 3 else 1
     return random.Random(name).sample(covered, min(count, len(covered)))
 
 
@@ -191,9 +199,7 @@ def main():
         open_contracts = [it for it in sorted(assumed - kept) if not contracts[it].reason]
         counted.told("each contract that is assumed of a callee is proved of it, or has a reason", not open_contracts, ", ".join(open_contracts))
         if not options.no_table:
-            import facts
-            names = proved | {it.__name__ for it in facts.SLOW}
-            for what, faults in table.compare(WORK.image, names):
+            for what, faults in table.compare(WORK.image, proved):
                 counted.told(what, not faults, "; ".join(faults[:12]))
     print(f"{len(covered)} instructions were executed")
     return counted.end()
