@@ -8,7 +8,10 @@ from pathlib import Path
 
 HERE = Path(__file__).resolve().parent
 BOARD = HERE.parents[1] / "crates/board/specs/Board.antt"
-RECORDS = ("DoesAccess", "DoesCompute", "DoesWrite", "DoesTrap", "ChangesFloats", "ChangesControl")
+RECORDS = ("DoesAccess", "DoesCompute", "DoesWrite", "DoesAside", "DoesPark", "DoesStart", "TrapDuties", "DoesTrap", "ChangesRunning", "ChangesFloats",
+           "ChangesControl", "IsBooted")
+# A field that is a record of its own has a row for each field of that record.
+NESTED = {"DoesTrap.duties"}
 # The proved core: its own functions, and the entry points that the firmware calls.
 CORE = re.compile(r"::|^pmpmon_")
 
@@ -19,8 +22,8 @@ def conjuncts():
     for record in RECORDS:
         body = re.search(rf"(?ms)^record pub {record} |^pub record {record} (.*?)(?=^-- |\Z)", text)
         for field in re.findall(r"(?m)^  pub (\w+) :", body.group(0)):
-            yield f"{record}.{field}"
-    yield "BoardRun.booted"
+            if f"{record}.{field}" not in NESTED:
+                yield f"{record}.{field}"
 
 
 def functions(image):
