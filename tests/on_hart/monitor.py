@@ -16,7 +16,7 @@ from debugged import late_hart, measured_page, memory_types, state_of_stopping_h
 from edits import edited
 from interleavings import all_interleavings
 from lives import Life
-from resets import each_instruction, resets, symbol
+from resets import each_instruction, registers, resets, symbol
 from trees import trees
 from wires import Wired
 
@@ -260,6 +260,8 @@ def worlds(folder, told):
     secrets = host(folder / "secrets.elf", "harts.S", "secrets_enclave.S", "secrets.c")
     slots = host(folder / "slots.elf", "harts.S", "reset_enclave.S", "slots.c")
     resets((FIRMWARE / "out/pmpmon-virt.elf", folder / "with/pmpmon-virt.elf"), payloads, folder / "any/pmpmon-virt.elf", secrets, slots, told)
+    right, why = registers(edited(FIRMWARE / "platform.toml", folder / "no-zeros", but("ALL_ZERO")), secrets, 2)
+    told("without the zeros at an enclave's end its registers are left, and found", not right, why)
     each_instruction(folder / "four/pmpmon-virt.elf", host(folder / "busy.elf", "harts.S", "reset_enclave.S", "busy.c"), told)
     hostile(folder, told)
 
@@ -309,26 +311,14 @@ REGISTERS_LEFT_OUT |= {"a first entry": ([but("FIRST_ENTRY")], "resume 1: 1 0\n"
 REGISTERS_LEFT_OUT |= {"the zeros of a set": ([("registers.c", "set->x[n] = 0;", ";"), ("registers.c", "memset(set, 0, sizeof *set);", ";")], "run 1: 0 7\n")}
 
 
-def sets_of(image, payload):
-    """What a board says on which two enclaves have exited, and whether nothing of their registers is left in the monitor's memory."""
-    with Wired(image, payload, 1) as board:
-        board.has_ended(20)
-        # (after the sets of four hosts, of x1 to x31, the program counter, f0 to f31 and fcsr)
-        left = [board.word(symbol(image, "register_sets") + 528 * (4 + enclave) + 8 * word) for enclave in (0, 1) for word in range(66)]
-    return board.said, not any(left)
-
-
 def sets(folder, told):
     """Registers of a host and its enclaves; and builds in which something of them is left out."""
     payload = host(folder / "sets.elf", "harts.S", "sets.S", "sets.c")
-    said, is_zero = sets_of(FIRMWARE / "out/pmpmon-virt.elf", payload)
+    said = booted(FIRMWARE / "out/pmpmon-virt.elf", payload, 1)
     told("a host and two enclaves have registers of their own, which an enclave begins with zeros", said == SETS, said if said != SETS else "")
-    told("the register sets of two enclaves that exited are zero", is_zero)
     for number, (name, (edits, want)) in enumerate(REGISTERS_LEFT_OUT.items()):
         said = booted(edited(FIRMWARE / "platform.toml", folder / f"sets-{number}", *edits), payload, 1, seconds=10)
         told(f"without {name} others come out", want in said, said if want not in said else "")
-    said, is_zero = sets_of(edited(FIRMWARE / "platform.toml", folder / "sets-end", but("ALL_ZERO")), payload)
-    told("without the zeros at an enclave's end its set is not zero, though the next enclave begins with zeros in integer registers", said == SETS and not is_zero)
     image = edited(folder / "two.toml", folder / "sets-hosts", ("board.h", SET_OF, "world ? MOST_HARTS - 1 + world : 0 * hart"))
     said = booted(image, folder / "two_hosts.elf", 2, seconds=10)
     told("without a set of the host of each hart two hosts go wrong", said != TWO_HOSTS, said if said == TWO_HOSTS else "")
