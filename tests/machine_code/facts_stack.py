@@ -10,6 +10,7 @@ RECURSIONS = {
     "host_tree::reserved::put_hex": (16, "and sixteen hexadecimal ones"),
     "device_tree::nodes::note_nodes": (65, "a tree of more than 64 levels is refused"),
     "host_tree::walk::put_nodes": (65, "the same"),
+    "device_tree::ways::Way::step": (65, "the same: one bus for each level"),
 }
 # Functions that do not return: the bytes after a call of one do not belong to the caller.
 NEVER_RETURN = ("end_board", "end_because", "begin_anew", "power_off", "start_again", "ended", "trapped", "served")

@@ -20,14 +20,14 @@ pub returns-then-is_log_of_machine : goal.returns-then-is_log_of_machine
 returns-then-is_log_of_machine g c =
     let asked = c.is_log_of_machine.ensures.yes c.if-is_log_of_machine.true in
     let log = rw c.as_slice-2.ensures.value at asked.1 in
-    inr (inr (inr (_, c.in_ok-bytes.ensures.whole, inr (inl (asked.0, log, (_, refl))))), refl)
+    inr (inr (inr (_, c.in_ok-bytes.ensures.whole, inr (inl (asked.0, log, _, refl)))), refl)
 
 pub returns-in-Ok : goal.returns-in-Ok
 returns-in-Ok g c =
     let none = rw c.as_slice.ensures.value at (sym c.is_tree.ensures ∙ c.if-is_tree.false) in
     let w = rw c.as_slice-3.ensures.value at c.in-Ok.ensures.written in
     let no_log = rw c.as_slice-2.ensures.value at (c.is_log_of_machine.ensures.no c.if-is_log_of_machine.false) in
-    (w.0, (_, c.in_ok-bytes.ensures.whole, inr (none, (no_log, (_, w.1, c.noted.ensures ∙ c.answer_status.ensures)))), w.2)
+    (w.0, (_, c.in_ok-bytes.ensures.whole, inr (none, (no_log, _, w.1, c.noted.ensures ∙ c.answer_status.ensures))), w.2)
 
 pub returns-in-Err-TooManyRanges : goal.returns-in-Err-TooManyRanges
 returns-in-Err-TooManyRanges g c =
@@ -48,5 +48,5 @@ returns g c =
       | inr (inr device) ↦
           let w = rw c.as_slice-3.ensures.value at c.in-Err-Listing.ensures.broken (of_listing ∙ ap (λ f. Err (Listing f)) device.0) in
           let no_log = rw c.as_slice-2.ensures.value at (c.is_log_of_machine.ensures.no c.if-is_log_of_machine.false) in
-          rw (trouble ∙ device.1) (inl (refl, (w.0, _, (_, c.in_ok-bytes.ensures.whole, inr (none, (no_log, (w.1, w.2, refl)))), w.3)))
+          rw (trouble ∙ device.1) (inl (refl, (w.0, _, (_, c.in_ok-bytes.ensures.whole, inr (none, (no_log, w.1, w.2, refl))), w.3)))
     ]
