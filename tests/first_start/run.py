@@ -66,9 +66,9 @@ esac
 """
 
 # What tools/prove asks of the kit's library, over five crates, whose sources are those of the version that the environment tells;
-# map_text is not proved where it says so.
+# measurement is not proved where it says so.
 LIBRARY = """import os, sys
-BELOW = {"pmp_encoding": [], "map_text": ["pmp_encoding"], "page_views": ["pmp_encoding"], "entry_planner": ["pmp_encoding", "page_views"]}
+BELOW = {"pmp_encoding": [], "measurement": ["pmp_encoding"], "page_views": ["pmp_encoding"], "entry_planner": ["pmp_encoding", "page_views"]}
 LIBRARIES = [*BELOW]
 BELOW["pmpmon"] = BELOW["map_planner"] = LIBRARIES
 
@@ -98,7 +98,7 @@ class Crate:
             return 0
         with open(os.environ["ASKED"], "a") as asked:
             print("prove", self.name, *flags, "statements" if anew and self.cuts_libraries else "proofs", file=asked)
-        fails = self.name == "map_text" and "BROKEN" in os.environ
+        fails = self.name == "measurement" and "BROKEN" in os.environ
         print("error: no" if fails else "logic=proved functions=5", file=self.out)
         if not fails:
             os.makedirs(self.rlib, exist_ok=True)
@@ -182,7 +182,7 @@ def library(house):
     yield "by the kit's library: the proved program's answer", (ran.stdout, ran.returncode) == (b"proved:show m.map\n", 5)
     yield "by the kit's library: what is proved is said", b"entry_planner is proved, 5 functions" in ran.stderr
     calls = [it.split() for it in house.calls()]
-    yield "by the kit's library: each crate once, its statements alone, and then the program", sorted(it[1] for it in calls[:-1]) == sorted(["pmp_encoding", "map_text", "page_views", "entry_planner"]) and calls[-1][0] == "run" and all(it[-1] == "statements" for it in calls[:-1])
+    yield "by the kit's library: each crate once, its statements alone, and then the program", sorted(it[1] for it in calls[:-1]) == sorted(["pmp_encoding", "measurement", "page_views", "entry_planner"]) and calls[-1][0] == "run" and all(it[-1] == "statements" for it in calls[:-1])
     house.asked.unlink()
     later = time.time() + 10
     os.utime(house.folder / "crates" / "pmpmon" / "src" / "main.rt", (later, later))
@@ -203,15 +203,15 @@ def library(house):
     shutil.rmtree(house.folder / "crates" / "page_views" / "out")
     again = {it[1]: it[-1] for it in calls_of("1", "2")}
     yield "a crate that was removed is proved, and what stands on it, and no other", again == {"page_views": "statements", "entry_planner": "proofs"}
-    yield "one lane: the longest chain first", [it[1] for it in calls_of("1", "3")] == ["pmp_encoding", "page_views", "entry_planner", "map_text"]
+    yield "one lane: the longest chain first", [it[1] for it in calls_of("1", "3")] == ["pmp_encoding", "page_views", "entry_planner", "measurement"]
     jobs = {it[1]: it[3] for it in calls_of("4", "4")}
-    yield "four lanes: a crate that all others wait for has them all, two that can begin at once have two", (jobs["pmp_encoding"], jobs["page_views"], jobs["map_text"]) == ("4", "2", "2")
+    yield "four lanes: a crate that all others wait for has them all, two that can begin at once have two", (jobs["pmp_encoding"], jobs["page_views"], jobs["measurement"]) == ("4", "2", "2")
 
 
 def failing_library(house):
     (house.folder / "bin" / "rtlib.py").write_text(LIBRARY)
     ran = house.start("show", "m.map", BROKEN="yes")
-    yield "by the kit's library: a proof that fails is shown, with status 70", (ran.returncode, ran.stdout) == (70, b"") and b"error: no" in ran.stderr and b"map_text: failed" in ran.stderr
+    yield "by the kit's library: a proof that fails is shown, with status 70", (ran.returncode, ran.stdout) == (70, b"") and b"error: no" in ran.stderr and b"measurement: failed" in ran.stderr
 
 
 def pipe(house):

@@ -21,7 +21,7 @@ class Wired:
         board = [QEMU, "-machine", "virt,memory-backend=memory", "-smp", str(harts), "-m", "128", "-display", "none", "-serial", "stdio", "-bios", str(image)]
         board += ["-object", f"memory-backend-file,id=memory,size=128M,mem-path={place}/memory,share=on"]
         board += ["-device", f"loader,file={payload}", "-device", f"loader,addr=0x86001000,data={kind},data-len=8"]
-        board += ["-qmp", f"unix:{place}/qmp,server=on,wait=off", "-chardev", f"socket,path={place}/gdb,server=on,wait=off,id=gdb0", "-gdb", "chardev:gdb0", *more]
+        board += ["-qmp", f"unix:{place}/qmp,server=on,wait=off", "-chardev", f"socket,path={place}/gdb,server=on,wait=off,id=gdb0", "-gdb", "chardev:gdb0", "-S", *more]
         self.process = subprocess.Popen(board, stdin=subprocess.DEVNULL, stdout=subprocess.PIPE)
         self.said, self.place = "", place
 
@@ -35,6 +35,7 @@ class Wired:
         self.lines = self.qmp.makefile("r")
         self.lines.readline()
         self.asked("qmp_capabilities")
+        self.asked("cont")  # a board that ends at once would be gone before the wires are there
         return self
 
     def __exit__(self, *_):
