@@ -8,7 +8,8 @@ from rv64 import COMPARE, MASK, Failed, signed
 RECURSIONS = {
     "put_digits": (20, "a number of 64 bits has at most twenty decimal digits"),
     "host_tree::reserved::put_hex": (16, "and sixteen hexadecimal ones"),
-    "device_tree::nodes::note_nodes": (65, "a tree of more than 64 levels is refused"),
+    "device_tree::nesting::nodes_len": (65, "a tree of more than 64 levels is refused"),
+    "device_tree::nodes::note_nodes": (65, "the same"),
     "host_tree::walk::put_nodes": (65, "the same"),
     "device_tree::ways::Way::step": (65, "the same: one bus for each level"),
 }
