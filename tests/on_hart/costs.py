@@ -13,7 +13,8 @@ TRAPS = ["", "run", "stop", "resume", "stop", "measure", "base", "set timer", "r
 def addresses_of(image):
     """Where the monitor comes at a trap, and the `mret` by which it leaves."""
     text = subprocess.run([GCC.replace("gcc", "objdump"), "-d", "--no-show-raw-insn", image], capture_output=True, text=True, check=True).stdout
-    return int(re.search(r"(?m)^([0-9a-f]+) <trap>:", text)[1], 16), int(re.search(r"(?m)^ *([0-9a-f]+):\tmret", text)[1], 16)
+    left = text[text.index(" <enter_world>:"):]
+    return int(re.search(r"(?m)^([0-9a-f]+) <trap>:", text)[1], 16), int(re.search(r"(?m)^ *([0-9a-f]+):\tmret", left)[1], 16)
 
 
 def counts_of(log, trap, left):

@@ -532,7 +532,7 @@ def races(folder, told):
     right = len(counts) == 4 and "odd" not in said and min(counts.values()) > counts[255] // 4
     told("an enclave that calls for ever takes no other hart's time", right, " ".join(f"{it}: {n}" for it, n in counts.items()) if right else said)
     said = booted(FIRMWARE / "out/pmpmon-virt.elf", host(folder / "pause.elf", "harts.S", "two_hosts.S", "pause.c"), 1, *kind(16), "-icount", "shift=0")
-    most = {"create": 16 * 265000, "destroy": 63000, "base": 205, "measure": 620, "resume": 1720}
+    most = {"create": 16 * 265000, "destroy": 63000, "base": 205, "measure": 635, "resume": 1740}
     taken = {name: int(n) for name, n in re.findall(r"(\w+) (\d+)\n", said)}
     right = taken.pop("error", 1) == 0 and taken.keys() == most.keys() and all(taken[it] < most[it] for it in most)
     told("instructions of a creation of 16 pages, its destruction, calls for SBI's base and a digest, and a resume and stop", right, said.replace("\n", " "))
@@ -542,7 +542,7 @@ def races(folder, told):
 
 
 # The most instructions that a trap takes with its world entered after it (firmware/README.md, "What it takes").
-MOST = {"run": 1000, "stop": 850, "resume": 900, "measure": 610, "base": 200, "set timer": 210, "timer": 750, "exit": 950}
+MOST = {"run": 1000, "stop": 850, "resume": 900, "measure": 620, "base": 200, "set timer": 210, "timer": 750, "exit": 950}
 # The calls of a host by what they are answered, of which those that are done stop another hart; and the turn of a hart in instructions,
 # 100 ms of QEMU's time, where it counts them for all harts.
 ASIDE = {"no call": 0, "create": 0, "create once more": -106, "create without text": -102, "create off a page": -103, "create of a device": -105}
