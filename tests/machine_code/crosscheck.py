@@ -81,13 +81,13 @@ class Comparison:
         return (self.chance.choice(INTERESTING) if self.chance.random() < 0.3 else self.chance.getrandbits(64)) & (1 << 64) - 1
 
     def state_for(self, insn):
-        """Chooses registers and memory. Those by which an instruction accesses memory or jumps name places that are there."""
+        """Chooses registers and memory. Those by which an instruction accesses memory or jumps name mapped places, whatever its offset."""
         x, f = [0] + [self.value() for _ in range(31)], [self.value() for _ in range(32)]
         if insn and accesses_memory(insn.name):
             offset = self.chance.randrange(0x1000, 0x1100, width_of(insn.name))
             x[insn.rs1] = DATA + offset - (insn.imm if insn.name[-2] != "." else 0) & (1 << 64) - 1
         if insn and insn.name == "jalr" and insn.rs1:
-            x[insn.rs1] = CODE + self.chance.randrange(SIZE)
+            x[insn.rs1] = CODE + 0x1000 + self.chance.randrange(SIZE)
         return x, f, self.chance.randbytes(0x1200), self.value()
 
     def executed_by_qemu(self, word, x, f, data, scratch):
