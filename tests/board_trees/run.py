@@ -4,12 +4,12 @@ that were changed or cut.
 
   tests/board_trees/run.py PROGRAM
 
-Trees written here have each case in which a tree does not say what a map wants to know; what has to come of them is written
-beside them, by docs/DECISIONS.md, 43 to 46. In trees with
-buses inside one another, by a fixed seed, each kilobyte is translated here, bus by bus. Of QEMU's trees the registers of each node are asked of fdtget, and rounded here.
-Of one tree of each board 5,000 copies, or COPIES, with up to four bytes changed are read by both commands, each of which prints a
-text that reads back, or a reason. What is printed is taken as it is: a map by plan, a platform by lint and by run with the trace of an
-example. It wants dtc and fdtget, and for the boards QEMU; on Debian:
+Trees written here have each case in which a tree does not say what a map wants to know; what has to come of them is written beside
+them, as docs/DECISIONS.md says under "Platforms and device trees". In trees with buses inside one another, by a fixed seed, each
+kilobyte is translated here, bus by bus. Of QEMU's trees the registers of each node are asked of fdtget, and rounded here. Of one tree
+of each board 5,000 copies, or COPIES, with up to four bytes changed are read by both commands, each of which prints a text that reads
+back, or a reason. What is printed is taken as it is: a map by plan, a platform by lint and by run with the trace of an example. It
+wants dtc and fdtget, and for the boards QEMU; on Debian:
 
   apt-get install --no-install-recommends qemu-system-misc device-tree-compiler
 

@@ -16,7 +16,7 @@ from debugged import late_hart, measured_page, memory_types, state_of_stopping_h
 from edits import edited
 from interleavings import all_interleavings
 from lives import Life
-from resets import each_instruction, registers, resets, symbol
+from resets import each_instruction, left_after, resets, symbol
 from trees import trees
 from wires import Wired
 
@@ -260,8 +260,8 @@ def worlds(folder, told):
     secrets = host(folder / "secrets.elf", "harts.S", "secrets_enclave.S", "secrets.c")
     slots = host(folder / "slots.elf", "harts.S", "reset_enclave.S", "slots.c")
     resets((FIRMWARE / "out/pmpmon-virt.elf", folder / "with/pmpmon-virt.elf"), payloads, folder / "any/pmpmon-virt.elf", secrets, slots, told)
-    right, why = registers(edited(FIRMWARE / "platform.toml", folder / "no-zeros", but("ALL_ZERO")), secrets, 2)
-    told("without the zeros at an enclave's end its registers are left, and found", not right, why)
+    destroyed, left, said = left_after(edited(FIRMWARE / "platform.toml", folder / "no-zeros", but("ALL_ZERO")), secrets, 2)
+    told("without the zeros at an enclave's end its registers are left, and found", destroyed and left, "" if destroyed and left else said)
     each_instruction(folder / "four/pmpmon-virt.elf", host(folder / "busy.elf", "harts.S", "reset_enclave.S", "busy.c"), told)
     hostile(folder, told)
 

@@ -61,13 +61,18 @@ def fatal(image, payload, harts, function, offset):
         return right, repr(board.said)
 
 
-def registers(image, payload, kind):
-    """An enclave has exited (1) or is destroyed (2), or the host ends the board (4), and none of its registers is left in memory."""
+def left_after(image, payload, kind):
+    """An enclave exits (1) or is destroyed (2), or the host ends the board (4): whether that happened, and the enclave's registers in memory."""
+    said = {1: "run 0\nit waits\n", 2: "run 1\ndestroy 0\nit waits\n", 4: "run 1\n"}[kind]
     with Wired(image, payload, 1, kind=kind) as board:
         ended = board.has_ended() if kind == 4 else board.until("it waits\n")
-        said = "run 0\nit waits\n" if kind == 1 else "run 1\ndestroy 0\nit waits\n" if kind == 2 else "run 1\n"
-        left = numbers_in(board.memory())
-        return ended and board.said == said and not left, f"{board.said!r} {left}"
+        return ended and board.said == said, numbers_in(board.memory()), repr(board.said)
+
+
+def registers(image, payload, kind):
+    """None of an enclave's registers is left in memory after its end."""
+    happened, left, said = left_after(image, payload, kind)
+    return happened and not left, f"{said} {left}"
 
 
 def all_slots(image, payload):
